@@ -1,0 +1,143 @@
+-- 01, "the arm's state": the page, what an operator needs and does, and the plain arm, which performs a row of operators to its end, notes what it sees,
+-- and lets an operator that breaks a rule have its usual effect.
+-- Assumes nothing.
+use Prim.Native.Nat.{ℕ, zero, suc, _+_, max}
+use mathlib.Core.Bool.{Bool, true, false, not, _&&_, _||_}
+use mathlib.Core.List.{List, [], _∷_, _++_}
+use lib.ListN.{length}
+use lib.Dec.{eqb}
+use Rattle.scope.specs.Choice.{pick, among}
+use Rattle.scope.specs.Item.{Attribute}
+use Rattle.scope.specs.Attributes.{has, valueIn}
+use Rattle.scope.specs.Reading.{Operator}
+
+pub record Saved : Type 0 where
+  pub cursor : Bool
+  pub gray : Bool
+
+-- the state in a page: cursor set or not, colour space gray or RGB, saved states, the last one first
+pub record Page : Type 0 where
+  pub cursor : Bool
+  pub gray : Bool
+  pub saved : List Saved
+
+-- BeginPage starts with cursor not set, the colour space that a page starts in (gray or RGB), nothing saved
+abbrev pub blank : (gray : Bool) → Page
+blank g = record { cursor = false; gray = g; saved = [] }
+
+pub data Space : Type 0 where
+  any : Space
+  gray : Space
+  rgb : Space
+
+-- what becomes of the cursor, or of the colour space
+pub data Mark : Type 0 where
+  kept : Mark
+  to : Bool → Mark
+
+pub data Effect : Type 0 where
+  push : Effect
+  pop : Effect
+  put : (cursor gray : Mark) → Effect
+
+-- what an operator needs (an open source, a set cursor, a colour space) and does
+pub record Act : Type 0 where
+  pub source : Bool
+  pub cursor : Bool
+  pub space : Space
+  pub effect : Effect
+
+-- a call itself, and every operator outside a page
+abbrev pub idle : Act
+idle = record { source = false; cursor = false; space = any; effect = put kept kept }
+
+-- SetCursorRel, LinePath, LineRelPath and BeginImage need the cursor set
+unfoldable pub needsCursor : ℕ → Bool
+needsCursor tag = among (0x6c ∷ 0x9b ∷ 0x9d ∷ 0xb0 ∷ []) tag
+
+-- RGBColor needs RGB; GrayLevel and BeginImage need gray
+unfoldable pub needsSpace : ℕ → List Attribute → Space
+needsSpace tag l =
+    pick (eqb tag 0xb0) gray
+    (pick (eqb tag 0x63 || eqb tag 0x79) (pick (has 11 l) rgb (pick (has 9 l) gray any)) any)
+
+-- PushGS, PopGS; SetCursor sets the cursor, NewPath unsets it; SetColorSpace sets the colour space
+unfoldable pub effectOf : Bool → List ℕ → ℕ → List Attribute → Effect
+effectOf high s tag l =
+    pick (eqb tag 0x61) push
+    (pick (eqb tag 0x60) pop
+    (pick (eqb tag 0x6b) (put (to true) kept)
+    (pick (eqb tag 0x85) (put (to false) kept)
+    (pick (eqb tag 0x6a) (put kept (to (eqb (valueIn high s l 3) 1))) (put kept kept)))))
+
+unfoldable pub actOf : Bool → List ℕ → Operator → Act
+actOf high s o =
+    record {
+      source = o .reads;
+      cursor = needsCursor (o .tag);
+      space = needsSpace (o .tag) (o .attrs);
+      effect = effectOf high s (o .tag) (o .attrs);
+    }
+
+-- the arm on its way: the page; how many operators it has performed; the most states that were saved right after a PushGS;
+-- an open source was needed; a cursor was needed and not set; a colour space was needed and another was set
+pub record Seen : Type 0 where
+  pub page : Page
+  pub count : ℕ
+  pub most : ℕ
+  pub source : Bool
+  pub lost : Bool
+  pub wrong : Bool
+
+abbrev pub marked : Mark → Bool → Bool
+marked kept b = b
+marked (to c) b = c
+
+abbrev pub restored : List Saved → Page → Page
+restored [] p = p
+restored (x ∷ xs) p = record { cursor = x .cursor; gray = x .gray; saved = xs }
+
+-- the page after an effect
+unfoldable pub done : Effect → Page → Page
+done push p = record { cursor = p .cursor; gray = p .gray; saved = record { cursor = p .cursor; gray = p .gray } ∷ p .saved }
+done pop p = restored (p .saved) p
+done (put c g) p = record { cursor = marked c (p .cursor); gray = marked g (p .gray); saved = p .saved }
+
+abbrev pub clash : Space → Bool → Bool
+clash any g = false
+clash gray g = not g
+clash rgb g = g
+
+-- the most states saved, after an effect on a page
+unfoldable pub risen : Effect → Page → ℕ → ℕ
+risen push p m = max m (suc (length (p .saved)))
+risen pop p m = m
+risen (put c g) p m = m
+
+-- one operator performed
+unfoldable pub step : Act → Seen → Seen
+step a w =
+    record {
+      page = done (a .effect) (w .page);
+      count = suc (w .count);
+      most = risen (a .effect) (w .page) (w .most);
+      source = w .source || a .source;
+      lost = w .lost || (a .cursor && not (w .page .cursor));
+      wrong = w .wrong || clash (a .space) (w .page .gray);
+    }
+
+-- an operator as it is performed: the motif in which it stands (0 is the job, 1 the first motif of the session, and so on), the place of its tag
+-- there, and what it needs and does
+pub record Stroke : Type 0 where
+  pub motif : ℕ
+  pub at : ℕ
+  pub act : Act
+
+-- a row of operators performed to its end
+unfoldable pub walk : List Stroke → Seen → Seen
+walk [] w = w
+walk (x ∷ l) w = walk l (step (x .act) w)
+
+-- the arm before an operator of the job: nothing seen yet
+unfoldable pub from : Page → ℕ → Seen
+from p n = record { page = p; count = n; most = 0; source = false; lost = false; wrong = false }

@@ -1,0 +1,100 @@
+-- 01, "Operators" and "Order": an operator's attributes, one by one 11, 12, 15, 16; then as a whole 13, 14.
+-- Assumes nothing.
+use Prim.Native.Nat.{ℕ, _+_}
+use mathlib.Core.List.{List, [], _∷_, _++_}
+use mathlib.Core.Bool.{Bool, true, false, not, _&&_, _||_}
+use lib.ListN.{take, drop}
+use lib.Dec.{ltb, leb, eqb}
+use Rattle.scope.specs.Choice.{pick, between, among}
+use Rattle.scope.specs.Number.{number}
+use Rattle.scope.specs.Item.{Attribute}
+use Rattle.scope.specs.Table.{Takes, E, N, P, B, A, D, M, Rule, Form, each, one, line, Row, Ruled, is, none, ruleIn}
+
+-- an attribute of this number is among them
+unfoldable pub has : ℕ → List Attribute → Bool
+has n [] = false
+has n (a ∷ l) = pick (eqb (a .number) n) true (has n l)
+
+-- the first number of a value of ubytes or of uint16, and the second of two uint16
+unfoldable pub firstOf : Bool → List ℕ → Attribute → ℕ
+firstOf high s a = number high (pick (eqb (a .tag) 0xc0) 1 2) s (a .first)
+
+unfoldable pub secondOf : Bool → List ℕ → Attribute → ℕ
+secondOf high s a = number high 2 s (a .first + 2)
+
+-- the types taken
+unfoldable pub typeTaken : Takes → ℕ → Bool
+typeTaken (E low high) t = eqb t 0xc0
+typeTaken (N low) t = eqb t 0xc0 || eqb t 0xc1
+typeTaken P t = eqb t 0xd0 || (eqb t 0xd1 || eqb t 0xd3)
+typeTaken B t = eqb t 0xe0 || (eqb t 0xe1 || eqb t 0xe3)
+typeTaken (A low high) t = eqb t 0xc8
+typeTaken (D low) t = eqb t 0xd1
+typeTaken M t = eqb t 0xc0
+
+-- the values taken, of a type that is taken
+unfoldable pub inRange : Bool → List ℕ → Takes → Attribute → Bool
+inRange order s (E low high) a = between low high (firstOf order s a)
+inRange order s (N low) a = leb low (firstOf order s a)
+inRange order s P a = true
+inRange order s B a = true
+inRange order s (A low high) a = between low high (a .count)
+inRange order s (D low) a = leb low (firstOf order s a) && leb low (secondOf order s a)
+inRange order s M a = between 0 12 (firstOf order s a) || between 14 16 (firstOf order s a)
+
+-- a fault: its code and place
+pub data Fault : Type 0 where
+  fine : Fault
+  bad : (code : ℕ) → (place : ℕ) → Fault
+
+-- the code of one attribute, given those before it and its rule; 0 is none
+unfoldable pub attributeCode : Bool → List ℕ → List Attribute → Attribute → Ruled → ℕ
+attributeCode high s before a none = 11
+attributeCode high s before a (is r) =
+    pick (has (a .number) before) 12
+    (pick (typeTaken (r .takes) (a .tag)) (pick (inRange high s (r .takes) a) 0 16) 15)
+
+-- attribute by attribute
+unfoldable pub oneByOne : Bool → List ℕ → List Rule → List Attribute → List Attribute → Fault
+oneByOne high s rules before [] = fine
+oneByOne high s rules before (a ∷ l) =
+    let c = attributeCode high s before a (ruleIn rules (a .number)) in
+    pick (eqb c 0) (oneByOne high s rules (before ++ (a ∷ [])) l) (bad c (a .at))
+
+-- each attribute that must be there is there
+unfoldable pub allThere : List Attribute → List Rule → Bool
+allThere l [] = true
+allThere l (r ∷ rs) = pick (r .must && not (has (r .number) l)) false (allThere l rs)
+
+-- how many of a line's attributes are there
+unfoldable pub howMany : List Attribute → List Rule → ℕ
+howMany l [] = 0
+howMany l (r ∷ rs) = pick (has (r .number) l) 1 0 + howMany l rs
+
+-- exactly one of a choice: none is 13, two are 14
+unfoldable pub choiceCode : ℕ → ℕ
+choiceCode k = pick (eqb k 0) 13 (pick (eqb k 1) 0 14)
+
+-- EndPoint alone, or NumberOfPoints with PointType: none is 13, two of the choice or half of the pair is 14
+abbrev pub pairCode : Bool → Bool → Bool → ℕ
+pairCode true true c = 14
+pairCode true false true = 14
+pairCode true false false = 0
+pairCode false true true = 0
+pairCode false true false = 14
+pairCode false false true = 14
+pairCode false false false = 13
+
+unfoldable pub formCode : List Attribute → List Rule → Form → ℕ
+formCode l rs each = pick (allThere l rs) 0 13
+formCode l rs one = choiceCode (howMany l rs)
+formCode l rs line = pairCode (has 69 l) (has 77 l) (has 80 l)
+
+-- an attribute's value by its number: 0, or no bytes, where it is not there
+unfoldable pub valueIn : Bool → List ℕ → List Attribute → ℕ → ℕ
+valueIn high s [] n = 0
+valueIn high s (a ∷ l) n = pick (eqb (a .number) n) (firstOf high s a) (valueIn high s l n)
+
+unfoldable pub bytesIn : List ℕ → List Attribute → ℕ → List ℕ
+bytesIn s [] n = []
+bytesIn s (a ∷ l) n = pick (eqb (a .number) n) (take (a .count) (drop (a .first) s)) (bytesIn s l n)

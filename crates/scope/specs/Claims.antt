@@ -1,0 +1,44 @@
+-- The theorems to prove, as types.
+use Prim.Native.Nat.{ℕ, _+_, _*_, _≤_}
+use mathlib.Core.Path.{_≡_}
+use mathlib.Core.Logic.{_↔_}
+use mathlib.Core.Bool.{Bool, true, false}
+use mathlib.Core.List.{List, []}
+use lib.ListN.{length, drop}
+use Rattle.scope.specs.Session.{Setting, outside}
+use Rattle.scope.specs.Judge.{State, Outcome, judgedFrom}
+use Rattle.scope.specs.Verdict.{startsGray, every, layout, verdictOf, outcomeOf, workAfter}
+use Rattle.scope.specs.Plain.{unfoldingOf, comes, atStart}
+
+-- a job keeps the layout rules: it would pass were 17, 23 to 26 and 28 never given (with a work buffer that is long enough)
+pub record Keeps (job : List ℕ) : Type 0 where
+  pub passes : outcomeOf layout job 16384 0 .code ≡ 0
+
+-- room for its list
+pub record HasRoom (job : List ℕ) (room : ℕ) : Type 0 where
+  pub fits : outcomeOf layout job 16384 0 .state .records * 16 ≤ room
+
+-- demand 3
+abbrev pub Demand3 : Type 0
+Demand3 =
+    (job : List ℕ) (work room : ℕ) → 16384 ≤ work → Keeps job → HasRoom job room
+    → ((verdictOf job work room .code ≡ 0) ↔ (comes (unfoldingOf startsGray job) atStart ≡ true))
+    × (verdictOf job work room .code ≡ 0 → verdictOf job work room .performed ≡ length (unfoldingOf startsGray job))
+
+-- the state between sessions, after one
+abbrev pub afterOne : ℕ → ℕ → ℕ → State
+afterOne at performed records = record { at = at; place = outside true; performed = performed; records = records; past = [] }
+
+-- sessions are isolated: from between two sessions on, only the bytes from there, the number performed and the records so far matter
+abbrev pub Isolated : Type 0
+Isolated =
+    (set : Setting) (s t : List ℕ) (room p q performed records : ℕ) → p ≤ length s → q ≤ length t → drop p s ≡ drop q t
+    → let a = judgedFrom every set s room (afterOne p performed records) in
+    let b = judgedFrom every set t room (afterOne q performed records) in
+    (a .code ≡ b .code) × (a .position + q ≡ b .position + p) × (a .inner ≡ b .inner) × (a .state .records ≡ b .state .records)
+    × (a .state .performed ≡ b .state .performed)
+
+-- no motif is left in the work buffer: what it holds afterwards is the same for any two jobs of at most 61,440 bytes
+abbrev pub NoMotifLeft : Type 0
+NoMotifLeft =
+    (job other work : List ℕ) → length job ≤ 61440 → length other ≤ 61440 → workAfter job work ≡ workAfter other work

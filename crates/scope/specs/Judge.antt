@@ -1,0 +1,172 @@
+-- Judging: operators to a verdict. 01, "Verdicts": the rules after reading, in their order, and the state after an operator.
+-- Assumes nothing.
+use Prim.Native.Nat.{ℕ, zero, suc, _+_, _-_, _*_}
+use mathlib.Core.Bool.{Bool, true, false, not, _&&_, _||_}
+use mathlib.Core.List.{List, [], _∷_, _++_}
+use lib.ListN.{length, take, drop}
+use lib.Dec.{leb, ltb, eqb}
+use Rattle.scope.specs.Choice.{pick, among}
+use Rattle.scope.specs.Iterate.{Next, go, stop, iterate}
+use Rattle.scope.specs.Attributes.{bytesIn}
+use Rattle.scope.specs.Reading.{Context, Operator, Read, operatorAt}
+use Rattle.scope.specs.Arm.{Seen, walk, from}
+use Rattle.scope.specs.Motif.{Motif, Held, heldAs, isHeld, bytesHeld, Judged, valid, faulty, motifOf}
+use Rattle.scope.specs.Session.{Setting, Session, Place, outside, inside, sessionOf, phaseOf, pageOf, joinedOf, rowFor, placeAfter}
+
+-- inner, unless said otherwise
+abbrev pub outer : ℕ
+outer = 4294967295
+
+-- where the judging of a job stands: the place of the next item, the operators performed, the records, and the job's own operators, the last one first
+pub record State : Type 0 where
+  pub at : ℕ
+  pub place : Place
+  pub performed : ℕ
+  pub records : ℕ
+  pub past : List Operator
+
+unfoldable pub judgedAt : List Motif → List ℕ → ℕ → Judged
+judgedAt held joined tag = pick (eqb tag 0x5d) (motifOf held joined) (valid [] 1)
+
+-- what the rules look at: the session, the records with this operator's, the operator, its name, the arm after it, its motif's judgement
+pub record Case : Type 0 where
+  pub session : Session
+  pub records : ℕ
+  pub op : Operator
+  pub name : List ℕ
+  pub seen : Seen
+  pub made : Judged
+
+unfoldable pub caseOf : Bool → List ℕ → State → Session → Operator → Case
+caseOf high s st x o =
+    record {
+      session = x;
+      records = st .records + suc (length (o .attrs));
+      op = o;
+      name = bytesIn s (o .attrs) 139;
+      seen = walk (rowFor high s (x .held) o) (from (pageOf (x .busy)) (st .performed));
+      made = judgedAt (x .held) (joinedOf (x .busy)) (o .tag);
+    }
+
+-- 19: BeginStream with 64 held, or ReadStream past 16,384 bytes
+unfoldable pub tooMuch : Case → Bool
+tooMuch c =
+    (eqb (c .op .tag) 0x5b && leb 64 (length (c .session .held)))
+    || (eqb (c .op .tag) 0x5c && ltb 16384 (bytesHeld (c .session .held) + (length (joinedOf (c .session .busy)) + c .op .length)))
+
+-- 20: BeginStream with a held name
+unfoldable pub nameHeld : Case → Bool
+nameHeld c = eqb (c .op .tag) 0x5b && isHeld (heldAs (c .name) (c .session .held))
+
+-- 21: name not held
+unfoldable pub nameMissing : Case → Bool
+nameMissing c = eqb (c .op .tag) 0x5e && not (isHeld (heldAs (c .name) (c .session .held)))
+
+-- 17: source not open, of a call; of another operator reading has judged it
+unfoldable pub sourceClosed : Case → Bool
+sourceClosed c = c .seen .source && not (c .session .opened)
+
+-- 23 to 26, and 28
+unfoldable pub savedOver : Case → Bool
+savedOver c = ltb 24 (c .seen .most)
+
+unfoldable pub cursorUnset : Case → Bool
+cursorUnset c = c .seen .lost
+
+unfoldable pub spaceWrong : Case → Bool
+spaceWrong c = c .seen .wrong
+
+unfoldable pub countOver : Case → Bool
+countOver c = ltb 1_000_000 (c .seen .count)
+
+unfoldable pub roomOver : ℕ → Case → Bool
+roomOver room c = ltb room (c .records * 16)
+
+-- a rule: a code and when it is broken; or the rules of a motif, each with its own code
+pub data Rule : Type 0 where
+  rule : (code : ℕ) → (broken : Case → Bool) → Rule
+  motifs-own : Rule
+
+-- the rules after reading, in the order in which they are judged, with so many bytes of room for the list
+unfoldable pub rules : ℕ → List Rule
+rules room =
+    rule 19 tooMuch
+    ∷ rule 20 nameHeld
+    ∷ rule 21 nameMissing
+    ∷ motifs-own
+    ∷ rule 17 sourceClosed
+    ∷ rule 23 savedOver
+    ∷ rule 24 cursorUnset
+    ∷ rule 25 spaceWrong
+    ∷ rule 26 countOver
+    ∷ rule 28 (roomOver room)
+    ∷ []
+
+-- a refusal: its code and inner place
+pub data Refusal : Type 0 where
+  none : Refusal
+  refused : (code : ℕ) → (inner : ℕ) → Refusal
+
+abbrev pub ownOr : Judged → Refusal → Refusal
+ownOr (valid ops d) r = r
+ownOr (faulty code inner) r = refused code inner
+
+-- the first rule broken, of those whose codes are given
+unfoldable pub firstBroken : (ℕ → Bool) → Case → List Rule → Refusal
+firstBroken given c [] = none
+firstBroken given c (rule k broken ∷ rs) = pick (given k && broken c) (refused k outer) (firstBroken given c rs)
+firstBroken given c (motifs-own ∷ rs) = ownOr (c .made) (firstBroken given c rs)
+
+-- the state after an operator is performed
+unfoldable pub after : Setting → List ℕ → State → Case → State
+after set s st c =
+    record {
+      at = c .op .next;
+      place = placeAfter set s (c .op) (c .seen .page) (st .place);
+      performed = c .seen .count;
+      records = c .records;
+      past = c .op ∷ st .past;
+    }
+
+-- how judging ends: code, position, inner; and the state there
+pub record Outcome : Type 0 where
+  pub code : ℕ
+  pub position : ℕ
+  pub inner : ℕ
+  pub state : State
+
+abbrev pub refusedAt : ℕ → ℕ → ℕ → State → Outcome
+refusedAt code position inner st = record { code = code; position = position; inner = inner; state = st }
+
+-- the end of the job: pass between sessions, after one at least; else 27
+unfoldable pub endAt : List ℕ → State → Place → Outcome
+endAt s st (outside true) = refusedAt 0 (length s) outer st
+endAt s st (outside false) = refusedAt 27 (length s) outer st
+endAt s st (inside x) = refusedAt 27 (length s) outer st
+
+unfoldable pub onRefusal : Setting → List ℕ → State → Case → Refusal → Next State Outcome
+onRefusal set s st c none = go (after set s st c)
+onRefusal set s st c (refused code inner) = stop (refusedAt code (c .op .at) inner st)
+
+unfoldable pub onCase : (ℕ → Bool) → Setting → List ℕ → ℕ → State → Case → Next State Outcome
+onCase given set s room st c = onRefusal set s st c (firstBroken given c (rules room))
+
+unfoldable pub onRead : (ℕ → Bool) → Setting → List ℕ → ℕ → State → Read → Next State Outcome
+onRead given set s room st (Read.no code place) = stop (refusedAt code place outer st)
+onRead given set s room st Read.ended = stop (endAt s st (st .place))
+onRead given set s room st (Read.operator o) = onCase given set s room st (caseOf (set .high) s st (sessionOf (st .place)) o)
+
+unfoldable pub contextOf : (ℕ → Bool) → Bool → Place → Context
+contextOf given high p = record { high = high; phase = phaseOf p; opened = sessionOf p .opened; asked = given 17 }
+
+-- one operator
+unfoldable pub jobStep : (ℕ → Bool) → Setting → List ℕ → ℕ → State → Next State Outcome
+jobStep given set s room st = onRead given set s room st (operatorAt (contextOf given (set .high) (st .place)) s (st .at))
+
+-- before the first item: nothing performed, no session yet
+abbrev pub starting : ℕ → State
+starting at = record { at = at; place = outside false; performed = 0; records = 0; past = [] }
+
+-- from a state on, operator by operator (the outcome that `iterate` is given is never reached)
+unfoldable pub judgedFrom : (ℕ → Bool) → Setting → List ℕ → ℕ → State → Outcome
+judgedFrom given set s room = iterate (jobStep given set s room) (refusedAt 5 0 outer (starting 0)) (λ st. length s - st .at)

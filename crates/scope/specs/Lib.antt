@@ -1,0 +1,17 @@
+pub mod Choice
+pub mod Iterate
+pub mod Number
+pub mod Header
+pub mod Item
+pub mod Table
+pub mod Attributes
+pub mod Data
+pub mod Order
+pub mod Reading
+pub mod Arm
+pub mod Motif
+pub mod Session
+pub mod Judge
+pub mod Verdict
+pub mod Plain
+pub mod Claims

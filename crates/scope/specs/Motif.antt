@@ -1,0 +1,151 @@
+-- 01, "Motifs": what is held, what a call unfolds to, and how a motif is judged at EndStream.
+-- Assumes nothing.
+use Prim.Native.Nat.{ℕ, zero, suc, _+_, _-_, max}
+use mathlib.Core.Bool.{Bool, true, false, not, _&&_, _||_}
+use mathlib.Core.List.{List, [], _∷_, _++_}
+use lib.ListN.{length}
+use lib.Dec.{leb, eqb}
+use Rattle.scope.specs.Choice.{pick, same}
+use Rattle.scope.specs.Iterate.{Next, go, stop, iterate}
+use Rattle.scope.specs.Header.{Header, headerOf}
+use Rattle.scope.specs.Item.{Attribute}
+use Rattle.scope.specs.Attributes.{valueIn, bytesIn}
+use Rattle.scope.specs.Data.{Image}
+use Rattle.scope.specs.Order.{Phase, in-motif, in-image}
+use Rattle.scope.specs.Reading.{Context, Operator, Read, operatorAt}
+use Rattle.scope.specs.Arm.{Act, idle, actOf, Stroke}
+
+-- an operator of a motif, with the place of its tag: it does something, or calls by a name
+pub data Own : Type 0 where
+  does : (at : ℕ) → Act → Own
+  calls : (at : ℕ) → (name : List ℕ) → Own
+
+-- a held motif: its name, its bytes, its number (1 for the first of the session), the operators in it, and how deep it nests (1 without calls)
+pub record Motif : Type 0 where
+  pub name : List ℕ
+  pub bytes : List ℕ
+  pub number : ℕ
+  pub ops : List Own
+  pub depth : ℕ
+
+-- the motif of a name, or none
+pub data Held : Type 0 where
+  is : Motif → Held
+  none : Held
+
+-- held motifs stand last one first
+unfoldable pub heldAs : List ℕ → List Motif → Held
+heldAs n [] = none
+heldAs n (m ∷ ms) = elim (same (m .name) n) [ true ↦ is m | false ↦ heldAs n ms ]
+
+unfoldable pub isHeld : Held → Bool
+isHeld (is m) = true
+isHeld none = false
+
+-- the row of operators performed for the own operators of motif k, where a call of n performs f n besides
+unfoldable pub flat : (List ℕ → List Stroke) → ℕ → List Own → List Stroke
+flat f k [] = []
+flat f k (does at a ∷ os) = record { motif = k; at = at; act = a } ∷ flat f k os
+flat f k (calls at n ∷ os) = record { motif = k; at = at; act = idle } ∷ (f n ++ flat f k os)
+
+-- the row that a name unfolds to: its motif's operators, the calls among them unfolded through the motifs that were held before it
+unfoldable pub unfolded : List Motif → List ℕ → List Stroke
+unfolded [] n = []
+unfolded (m ∷ ms) n = elim (same (m .name) n) [ true ↦ flat (unfolded ms) (m .number) (m .ops) | false ↦ unfolded ms n ]
+
+-- the bytes that the held motifs take
+unfoldable pub bytesHeld : List Motif → ℕ
+bytesHeld [] = 0
+bytesHeld (m ∷ ms) = length (m .bytes) + bytesHeld ms
+
+-- an image that is open, or none
+pub data Picture : Type 0 where
+  none : Picture
+  being : Image → Picture
+
+-- BeginImage opens one, ReadImage reads rows of it, EndImage ends it
+unfoldable pub begun : Bool → List ℕ → List Attribute → Picture
+begun high s l =
+    being (record { width = valueIn high s l 108; depth = valueIn high s l 98; height = valueIn high s l 107; rows = 0 })
+
+unfoldable pub readOn : ℕ → Picture → Picture
+readOn n none = none
+readOn n (being i) = being (record { width = i .width; depth = i .depth; height = i .height; rows = i .rows + n })
+
+unfoldable pub pictureAfter : Bool → List ℕ → Operator → Picture → Picture
+pictureAfter high s o p =
+    pick (eqb (o .tag) 0xb0) (begun high s (o .attrs))
+    (pick (eqb (o .tag) 0xb1) (readOn (valueIn high s (o .attrs) 99) p)
+    (pick (eqb (o .tag) 0xb2) none p))
+
+-- how many states are saved after an operator
+unfoldable pub savedAfter : ℕ → ℕ → ℕ
+savedAfter tag n = pick (eqb tag 0x61) (suc n) (pick (eqb tag 0x60) (n - 1) n)
+
+-- a motif's judgement: valid, with its operators and how deep it nests; or a code and a place inside it
+pub data Judged : Type 0 where
+  valid : List Own → (depth : ℕ) → Judged
+  faulty : (code : ℕ) → (inner : ℕ) → Judged
+
+-- where the judging of a motif stands
+pub record Inside : Type 0 where
+  pub at : ℕ
+  pub saved : ℕ
+  pub picture : Picture
+  pub ops : List Own
+  pub depth : ℕ
+
+unfoldable pub phaseIn : ℕ → Picture → Phase
+phaseIn saved none = in-motif saved
+phaseIn saved (being i) = in-image i
+
+-- 17 is not judged inside a motif
+unfoldable pub contextIn : Bool → Inside → Context
+contextIn high w = record { high = high; phase = phaseIn (w .saved) (w .picture); opened = true; asked = false }
+
+-- a call: only of a motif already held, and of one that is less than 32 deep
+unfoldable pub onCall : Operator → List ℕ → Inside → Held → Next Inside Judged
+onCall o n w none = stop (faulty 21 (o .at))
+onCall o n w (is m) =
+    pick (leb 32 (m .depth)) (stop (faulty 22 (o .at)))
+    (go
+    (record { at = o .next; saved = w .saved; picture = w .picture; ops = w .ops ++ (calls (o .at) n ∷ []); depth = max (w .depth) (suc (m .depth)) }))
+
+unfoldable pub onDeed : Bool → List ℕ → Operator → Inside → Next Inside Judged
+onDeed high s o w =
+    go
+    (record {
+      at = o .next;
+      saved = savedAfter (o .tag) (w .saved);
+      picture = pictureAfter high s o (w .picture);
+      ops = w .ops ++ (does (o .at) (actOf high s o) ∷ []);
+      depth = w .depth;
+    })
+
+-- the end: no image open and as many PopGS as PushGS, else 27
+unfoldable pub onEnd : List ℕ → Inside → Picture → Judged
+onEnd s w (being i) = faulty 27 (length s)
+onEnd s w none = pick (eqb (w .saved) 0) (valid (w .ops) (w .depth)) (faulty 27 (length s))
+
+unfoldable pub onRead : List Motif → Bool → List ℕ → Inside → Read → Next Inside Judged
+onRead held high s w (Read.no code place) = stop (faulty code place)
+onRead held high s w Read.ended = stop (onEnd s w (w .picture))
+onRead held high s w (Read.operator o) =
+    pick (eqb (o .tag) 0x5e)
+    (onCall o (bytesIn s (o .attrs) 139) w (heldAs (bytesIn s (o .attrs) 139) held))
+    (onDeed high s o w)
+
+unfoldable pub motifStep : List Motif → Bool → List ℕ → Inside → Next Inside Judged
+motifStep held high s w = onRead held high s w (operatorAt (contextIn high w) s (w .at))
+
+-- the judging of a motif from where it stands (the answer that `iterate` is given is never used: proofs/Falls)
+unfoldable pub judgedInside : List Motif → Bool → List ℕ → Inside → Judged
+judgedInside held high s = iterate (motifStep held high s) (faulty 5 0) (λ w. length s - w .at)
+
+unfoldable pub motifFrom : List Motif → List ℕ → Header → Judged
+motifFrom held s (Header.no code place) = faulty code place
+motifFrom held s (Header.is high next) = judgedInside held high s (record { at = next; saved = 0; picture = none; ops = []; depth = 1 })
+
+-- a motif judged at EndStream, where these are held
+unfoldable pub motifOf : List Motif → List ℕ → Judged
+motifOf held s = motifFrom held s (headerOf s)

@@ -1,0 +1,49 @@
+-- 01, "Order of operators": which operator may come where. Code 10; and the part of 14 on images.
+-- Assumes nothing.
+use Prim.Native.Nat.{ℕ, zero, suc, _+_}
+use mathlib.Core.List.{List, [], _∷_}
+use mathlib.Core.Bool.{Bool, true, false, not, _&&_, _||_}
+use lib.Dec.{leb, eqb}
+use Rattle.scope.specs.Choice.{pick, between, among}
+use Rattle.scope.specs.Item.{Attribute}
+use Rattle.scope.specs.Attributes.{valueIn}
+use Rattle.scope.specs.Data.{Image}
+
+-- where an operator stands: between sessions; in a session; after BeginStream; in a page, or in a motif, with so many states saved; after BeginImage
+pub data Phase : Type 0 where
+  between-sessions : Phase
+  in-session : Phase
+  in-stream : Phase
+  in-page : ℕ → Phase
+  in-motif : ℕ → Phase
+  in-image : Image → Phase
+
+-- in a page and in a motif: Comment, ExecStream, PushGS, PopGS with something saved, and those of the table from 63 to b0
+unfoldable pub drawn : ℕ → ℕ → Bool
+drawn saved tag = among (0x47 ∷ 0x5e ∷ 0x61 ∷ []) tag || ((eqb tag 0x60 && leb 1 saved) || between 0x63 0xb0 tag)
+
+-- an operator of the table may come, where the data source is open or not
+unfoldable pub mayCome : Phase → Bool → ℕ → Bool
+mayCome between-sessions opened tag = eqb tag 0x41
+mayCome in-session opened tag =
+    among (0x47 ∷ 0x5b ∷ 0x43 ∷ []) tag || pick opened (eqb tag 0x49) (eqb tag 0x48 || eqb tag 0x42)
+mayCome in-stream opened tag = eqb tag 0x5c || eqb tag 0x5d
+mayCome (in-page saved) opened tag = drawn saved tag || (eqb tag 0x44 && eqb saved 0)
+mayCome (in-motif saved) opened tag = drawn saved tag
+mayCome (in-image i) opened tag = eqb tag 0xb1 || (eqb tag 0xb2 && eqb (i .rows) (i .height))
+
+-- the image of a phase; one without rows where there is none
+abbrev pub imageOf : Phase → Image
+imageOf between-sessions = record { width = 0; depth = 0; height = 0; rows = 0 }
+imageOf in-session = record { width = 0; depth = 0; height = 0; rows = 0 }
+imageOf in-stream = record { width = 0; depth = 0; height = 0; rows = 0 }
+imageOf (in-page n) = record { width = 0; depth = 0; height = 0; rows = 0 }
+imageOf (in-motif n) = record { width = 0; depth = 0; height = 0; rows = 0 }
+imageOf (in-image i) = i
+
+-- each StartLine is the number of rows read so far, and rows never exceed SourceHeight
+unfoldable pub rowsFit : Bool → List ℕ → Image → ℕ → List Attribute → Bool
+rowsFit high s i tag l =
+    pick (eqb tag 0xb1)
+    (eqb (valueIn high s l 109) (i .rows) && leb (i .rows + valueIn high s l 99) (i .height))
+    true

@@ -1,0 +1,104 @@
+-- 01, "Order of operators" and "Motifs": a job's sessions, what each holds, and where the job stands after an operator. Nothing is judged here.
+-- Motifs, source and page stand inside a session: between sessions there is no place for one.
+-- Assumes nothing.
+use Prim.Native.Nat.{ℕ, suc, _+_}
+use mathlib.Core.Bool.{Bool, true, false}
+use mathlib.Core.List.{List, [], _∷_, _++_}
+use lib.ListN.{length, take, drop}
+use lib.Dec.{eqb}
+use Rattle.scope.specs.Choice.{pick}
+use Rattle.scope.specs.Attributes.{bytesIn}
+use Rattle.scope.specs.Order.{Phase, between-sessions, in-session, in-stream, in-page, in-image}
+use Rattle.scope.specs.Reading.{Operator}
+use Rattle.scope.specs.Arm.{Act, Page, blank, idle, actOf, Stroke}
+use Rattle.scope.specs.Motif.{Motif, unfolded, Picture, pictureAfter, Judged, valid, faulty, motifOf}
+
+-- what is settled before the first item: the job's byte order, and the colour space that a page starts in
+pub record Setting : Type 0 where
+  pub high : Bool
+  pub gray : Bool
+
+-- in a session: at rest, reading a motif of a name (the bytes joined so far), in a page, perhaps with an image open
+pub data Busy : Type 0 where
+  resting : Busy
+  reading : (name joined : List ℕ) → Busy
+  drawing : Page → Picture → Busy
+
+-- a session: the motifs held, the last one first; the data source open or not; what it is at
+pub record Session : Type 0 where
+  pub held : List Motif
+  pub opened : Bool
+  pub busy : Busy
+
+-- outside a session, after one or before the first; or inside one
+pub data Place : Type 0 where
+  outside : (after-one : Bool) → Place
+  inside : Session → Place
+
+-- BeginSession: no motif held, the source closed
+abbrev pub opening : Session
+opening = record { held = []; opened = false; busy = resting }
+
+abbrev pub sessionOf : Place → Session
+sessionOf (outside b) = opening
+sessionOf (inside x) = x
+
+unfoldable pub phaseDrawing : Page → Picture → Phase
+phaseDrawing p Picture.none = in-page (length (p .saved))
+phaseDrawing p (Picture.being i) = in-image i
+
+unfoldable pub phaseBusy : Busy → Phase
+phaseBusy resting = in-session
+phaseBusy (reading n j) = in-stream
+phaseBusy (drawing p i) = phaseDrawing p i
+
+unfoldable pub phaseOf : Place → Phase
+phaseOf (outside b) = between-sessions
+phaseOf (inside x) = phaseBusy (x .busy)
+
+-- the page that is being drawn; outside a page one on which nothing was done
+abbrev pub pageOf : Busy → Page
+pageOf resting = blank false
+pageOf (reading n j) = blank false
+pageOf (drawing p i) = p
+
+-- the bytes of the motif that is being read
+abbrev pub joinedOf : Busy → List ℕ
+joinedOf resting = []
+joinedOf (reading n j) = j
+joinedOf (drawing p i) = []
+
+-- the row of operators performed for an operator of the job: itself, and behind a call all that its motif unfolds to
+unfoldable pub rowFor : Bool → List ℕ → List Motif → Operator → List Stroke
+rowFor high s held o =
+    pick (eqb (o .tag) 0x5e)
+    (record { motif = 0; at = o .at; act = idle } ∷ unfolded held (bytesIn s (o .attrs) 139))
+    (record { motif = 0; at = o .at; act = actOf high s o } ∷ [])
+
+-- EndStream: a motif that is not faulty becomes held
+unfoldable pub keptAs : List ℕ → List ℕ → Judged → List Motif → List Motif
+keptAs n j (valid ops d) held = record { name = n; bytes = j; number = suc (length held); ops = ops; depth = d } ∷ held
+keptAs n j (faulty code inner) held = held
+
+-- the session after an operator, which has left the page so
+unfoldable pub sessionAfter : Setting → List ℕ → Operator → Page → Busy → Session → Session
+sessionAfter set s o p resting x =
+    record {
+      held = x .held;
+      opened = pick (eqb (o .tag) 0x48) true (pick (eqb (o .tag) 0x49) false (x .opened));
+      busy = pick (eqb (o .tag) 0x43) (drawing (blank (set .gray)) Picture.none)
+          (pick (eqb (o .tag) 0x5b) (reading (bytesIn s (o .attrs) 139) []) resting);
+    }
+sessionAfter set s o p (reading n j) x =
+    pick (eqb (o .tag) 0x5c)
+    (record { held = x .held; opened = x .opened; busy = reading n (j ++ take (o .length) (drop (o .first) s)) })
+    (record { held = keptAs n j (motifOf (x .held) j) (x .held); opened = x .opened; busy = resting })
+sessionAfter set s o p (drawing q i) x =
+    pick (eqb (o .tag) 0x44)
+    (record { held = x .held; opened = x .opened; busy = resting })
+    (record { held = x .held; opened = x .opened; busy = drawing p (pictureAfter (set .high) s o i) })
+
+-- BeginSession begins one, EndSession drops all
+unfoldable pub placeAfter : Setting → List ℕ → Operator → Page → Place → Place
+placeAfter set s o p (outside b) = inside opening
+placeAfter set s o p (inside x) = pick (eqb (o .tag) 0x42) (outside true) (inside (sessionAfter set s o p (x .busy) x))
