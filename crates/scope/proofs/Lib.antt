@@ -1,2 +1,11 @@
 pub mod Ends
 pub mod Falls
+pub mod Asks
+pub mod Rows
+pub mod Codes
+pub mod Buffers
+pub mod Stands
+pub mod Demand
+pub mod Like
+pub mod Sessions
+pub mod Jobs

@@ -1,0 +1,152 @@
+-- Every refusal has a code, a motif's too; and what the rules of 17, 23 to 26 and 28 add to the others.
+-- Assumes nothing.
+use Prim.Native.Nat.{ℕ, zero, suc, _+_, _-_, _*_, _≤_}
+use mathlib.Core.Path.{_≡_, refl, sym, ap, _∙_, subst⁻¹}
+use mathlib.Core.Bool.{Bool, true, false, not, _&&_}
+use mathlib.Core.List.{List, [], _∷_, _++_}
+use native.Mathlib.Omega.{arith}
+use borrow.Author.Tests.{ltb-false, le-ltb}
+use lib.ListN.{length, getD}
+use lib.Dec.{leb, ltb, eqb}
+use Rattle.scope.specs.Choice.{pick, among}
+use Rattle.scope.specs.Iterate.{Next, go, stop, iterate}
+use Rattle.scope.specs.Header.{Header, Form, ends, breaks, headerOf, classed, formFrom}
+use Rattle.scope.specs.Attributes.{bytesIn}
+use Rattle.scope.specs.Reading.{Operator, Read, operatorAt}
+use Rattle.scope.specs.Motif.{Own, Motif, Held, heldAs, Inside, Picture, Judged, valid, faulty, contextIn, onCall, onDeed, onEnd, onRead, motifStep, judgedInside, motifFrom, motifOf}
+use Rattle.scope.specs.Judge.{Case, Refusal, Rule, rule, motifs-own, rules, firstBroken, ownOr, outer, judgedAt, sourceClosed, savedOver, cursorUnset, spaceWrong, countOver, roomOver, tooMuch, nameHeld, nameMissing}
+use Rattle.scope.specs.Verdict.{every, layout}
+use Rattle.scope.proofs.Ends.{pick-all, Kept, kept-go, kept-stop, iterate-holds, Coded, GoodRead, read-good}
+use Rattle.scope.proofs.Rows.{Clean}
+
+pub data GoodJudged : Judged → Type 0 where
+  good : {ops : List Own} {d : ℕ} → GoodJudged (valid ops d)
+  ill : {code inner : ℕ} → Coded code → GoodJudged (faulty code inner)
+
+pub data GoodHeader : Header → Type 0 where
+  good : {high : Bool} {next : ℕ} → GoodHeader (Header.is high next)
+  ill : {code place : ℕ} → Coded code → GoodHeader (Header.no code place)
+
+classed-good : (s : List ℕ) (f : Form) → GoodHeader (classed s f)
+unfolding classed
+classed-good s (breaks i) = ill tt
+classed-good s (ends n) = pick-all GoodHeader (eqb (getD s 12 0) 0x31 && eqb (getD s 14 0) 0x31) (λ _. good) (λ _. ill tt)
+
+pub header-good : (s : List ℕ) → GoodHeader (headerOf s)
+unfolding headerOf
+header-good s = pick-all GoodHeader (eqb (getD s 0 0) 0x27) (λ _. ill tt) (λ _. classed-good s (formFrom 0 s))
+
+abbrev Any : Inside → Type 0
+Any w = Unit {0}
+
+module _ (held : List Motif) (high : Bool) (s : List ℕ) where
+  call-good : (o : Operator) (n : List ℕ) (w : Inside) (x : Held) → Kept Any GoodJudged (onCall o n w x)
+  unfolding onCall
+  call-good o n w Held.none = kept-stop (ill tt)
+  call-good o n w (Held.is m) = pick-all (Kept Any GoodJudged) (leb 32 (m .depth)) (λ _. kept-stop (ill tt)) (λ _. kept-go tt)
+
+  end-good : (w : Inside) (p : Picture) → GoodJudged (onEnd s w p)
+  unfolding onEnd
+  end-good w (Picture.being i) = ill tt
+  end-good w Picture.none = pick-all GoodJudged (eqb (w .saved) 0) (λ _. good) (λ _. ill tt)
+
+  on-read-good : (w : Inside) {at len : ℕ} {may : ℕ → Bool} {r : Read} → GoodRead len at may r → Kept Any GoodJudged (onRead held high s w r)
+  unfolding onRead onDeed
+  on-read-good w (GoodRead.operator {o = o} h k m) =
+      pick-all (Kept Any GoodJudged) (eqb (o .tag) 0x5e) (λ _. call-good o _ w _) (λ _. kept-go tt)
+  on-read-good w GoodRead.ended = kept-stop (end-good w (w .picture))
+  on-read-good w (GoodRead.no k) = kept-stop (ill k)
+
+  step-good : (w : Inside) → Any w → Kept Any GoodJudged (motifStep held high s w)
+  unfolding motifStep
+  step-good w u = on-read-good w (read-good (contextIn high w) s (w .at))
+
+from-good : (held : List Motif) (s : List ℕ) {r : Header} → GoodHeader r → GoodJudged (motifFrom held s r)
+unfolding motifFrom judgedInside
+from-good held s (good {high = high} {next = next}) = iterate-holds (motifStep held high s) (faulty 5 0) Any GoodJudged (ill tt) (step-good held high s) (λ w. length s - w .at) (record { at = next; saved = 0; picture = Picture.none; ops = []; depth = 1 }) tt
+from-good held s (ill k) = ill k
+
+pub motif-good : (held : List Motif) (s : List ℕ) → GoodJudged (motifOf held s)
+unfolding motifOf
+motif-good held s = from-good held s (header-good s)
+
+pub judged-good : (held : List Motif) (joined : List ℕ) (tag : ℕ) → GoodJudged (judgedAt held joined tag)
+unfolding judgedAt
+judged-good held joined tag = pick-all GoodJudged (eqb tag 0x5d) (λ _. motif-good held joined) (λ _. good)
+
+pub data Refuses : Refusal → Type 0 where
+  not-so : Refuses Refusal.none
+  so : {code inner : ℕ} → Coded code → Refuses (Refusal.refused code inner)
+
+own-refuses : {j : Judged} → GoodJudged j → {r : Refusal} → Refuses r → Refuses (ownOr j r)
+own-refuses good h = h
+own-refuses (ill k) h = so k
+
+-- every refusal by a rule has a code
+pub broken-coded : (given : ℕ → Bool) (room : ℕ) (c : Case) → GoodJudged (c .made) → Refuses (firstBroken given c (rules room))
+unfolding firstBroken rules
+broken-coded given room c g =
+    pick-all Refuses (given 19 && tooMuch c) (λ _. so tt)
+    (λ _. pick-all Refuses (given 20 && nameHeld c) (λ _. so tt)
+    (λ _. pick-all Refuses (given 21 && nameMissing c) (λ _. so tt)
+    (λ _. own-refuses g
+    (pick-all Refuses (given 17 && sourceClosed c) (λ _. so tt)
+    (λ _. pick-all Refuses (given 23 && savedOver c) (λ _. so tt)
+    (λ _. pick-all Refuses (given 24 && cursorUnset c) (λ _. so tt)
+    (λ _. pick-all Refuses (given 25 && spaceWrong c) (λ _. so tt)
+    (λ _. pick-all Refuses (given 26 && countOver c) (λ _. so tt)
+    (λ _. pick-all Refuses (given 28 && roomOver room c) (λ _. so tt) (λ _. not-so))))))))))
+
+-- the rules of the state and of the room
+unfoldable pub stateCode : ℕ → Case → Refusal
+stateCode room c =
+    pick (sourceClosed c) (Refusal.refused 17 outer)
+    (pick (savedOver c) (Refusal.refused 23 outer)
+    (pick (cursorUnset c) (Refusal.refused 24 outer)
+    (pick (spaceWrong c) (Refusal.refused 25 outer)
+    (pick (countOver c) (Refusal.refused 26 outer) (pick (roomOver room c) (Refusal.refused 28 outer) Refusal.none)))))
+
+abbrev Isnt : Refusal → Type 0
+Isnt Refusal.none = Unit {0}
+Isnt (Refusal.refused code inner) = ⊥
+
+isnt : {r : Refusal} → r ≡ Refusal.none → Isnt r
+isnt e = subst⁻¹ Isnt e tt
+
+rest-of : (a b d : Bool) (m : Judged) (x y : Refusal)
+    → pick a (Refusal.refused 19 outer) (pick b (Refusal.refused 20 outer) (pick d (Refusal.refused 21 outer) (ownOr m x))) ≡ Refusal.none
+    → pick a (Refusal.refused 19 outer) (pick b (Refusal.refused 20 outer) (pick d (Refusal.refused 21 outer) (ownOr m y))) ≡ y
+rest-of true b d m x y e = absurd (isnt e)
+rest-of false true d m x y e = absurd (isnt e)
+rest-of false false true m x y e = absurd (isnt e)
+rest-of false false false (valid ops k) x y e = refl
+rest-of false false false (faulty code inner) x y e = absurd (isnt e)
+
+-- where no layout rule is broken, the rules of the state and of the room decide
+pub layout-none : (room : ℕ) (c : Case) → firstBroken layout c (rules 0) ≡ Refusal.none → firstBroken every c (rules room) ≡ stateCode room c
+unfolding firstBroken rules layout among stateCode
+layout-none room c e = rest-of (tooMuch c) (nameHeld c) (nameMissing c) (c .made) Refusal.none (stateCode room c) e
+
+pub clean-none : (room : ℕ) (c : Case) → Clean (c .session .opened) (c .seen) → c .records * 16 ≤ room → stateCode room c ≡ Refusal.none
+unfolding stateCode sourceClosed savedOver cursorUnset spaceWrong countOver roomOver
+clean-none room c h r =
+    rw (h .source, le-ltb 24 (c .seen .most) (h .most), h .lost, h .wrong, le-ltb 1_000_000 (c .seen .count) (h .count), le-ltb room (c .records * 16) r)
+
+clean-of : (room : ℕ) (c : Case) (p q r s t : Bool) (x : Refusal)
+    → sourceClosed c ≡ p → savedOver c ≡ q → cursorUnset c ≡ r → spaceWrong c ≡ s → countOver c ≡ t
+    → pick p (Refusal.refused 17 outer) (pick q (Refusal.refused 23 outer) (pick r (Refusal.refused 24 outer) (pick s (Refusal.refused 25 outer) (pick t (Refusal.refused 26 outer) x)))) ≡ Refusal.none
+    → Clean (c .session .opened) (c .seen)
+unfolding sourceClosed savedOver cursorUnset spaceWrong countOver
+clean-of room c true q r s t x a b d f g e = absurd (isnt e)
+clean-of room c false true r s t x a b d f g e = absurd (isnt e)
+clean-of room c false false true s t x a b d f g e = absurd (isnt e)
+clean-of room c false false false true t x a b d f g e = absurd (isnt e)
+clean-of room c false false false false true x a b d f g e = absurd (isnt e)
+clean-of room c false false false false false x a b d f g e =
+    record { source = a; most = ltb-false 24 (c .seen .most) b; lost = d; wrong = f; count = ltb-false 1_000_000 (c .seen .count) g }
+
+pub none-clean : (room : ℕ) (c : Case) → stateCode room c ≡ Refusal.none → Clean (c .session .opened) (c .seen)
+unfolding stateCode
+none-clean room c e =
+    clean-of room c (sourceClosed c) (savedOver c) (cursorUnset c) (spaceWrong c) (countOver c)
+    (pick (roomOver room c) (Refusal.refused 28 outer) Refusal.none) refl refl refl refl refl e
