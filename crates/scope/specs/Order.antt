@@ -18,9 +18,9 @@ pub data Phase : Type 0 where
   in-motif : ℕ → Phase
   in-image : Image → Phase
 
--- in a page and in a motif: Comment, ExecStream, PushGS, PopGS with something saved, and those of the table from 63 to b0
+-- in a page and in a motif: PopGS with something saved; Comment, ExecStream, PushGS, and those of the table from 63 to b0
 unfoldable pub drawn : ℕ → ℕ → Bool
-drawn saved tag = among (0x47 ∷ 0x5e ∷ 0x61 ∷ []) tag || ((eqb tag 0x60 && leb 1 saved) || between 0x63 0xb0 tag)
+drawn saved tag = pick (eqb tag 0x60) (leb 1 saved) (among (0x47 ∷ 0x5e ∷ 0x61 ∷ []) tag || between 0x63 0xb0 tag)
 
 -- an operator of the table may come, where the data source is open or not
 unfoldable pub mayCome : Phase → Bool → ℕ → Bool
@@ -28,9 +28,9 @@ mayCome between-sessions opened tag = eqb tag 0x41
 mayCome in-session opened tag =
     among (0x47 ∷ 0x5b ∷ 0x43 ∷ []) tag || pick opened (eqb tag 0x49) (eqb tag 0x48 || eqb tag 0x42)
 mayCome in-stream opened tag = eqb tag 0x5c || eqb tag 0x5d
-mayCome (in-page saved) opened tag = drawn saved tag || (eqb tag 0x44 && eqb saved 0)
+mayCome (in-page saved) opened tag = pick (eqb tag 0x44) (eqb saved 0) (drawn saved tag)
 mayCome (in-motif saved) opened tag = drawn saved tag
-mayCome (in-image i) opened tag = eqb tag 0xb1 || (eqb tag 0xb2 && eqb (i .rows) (i .height))
+mayCome (in-image i) opened tag = pick (eqb tag 0xb2) (eqb (i .rows) (i .height)) (eqb tag 0xb1)
 
 -- the image of a phase; one without rows where there is none
 abbrev pub imageOf : Phase → Image

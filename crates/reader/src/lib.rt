@@ -1,0 +1,6 @@
+// Reading: bytes to operators. The next operator from a place on, whole and with its data, or the end, or a refusal.
+mod order;
+
+pub use order::may_come;
+pub use order::Image;
+pub use order::Phase;
