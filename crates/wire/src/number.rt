@@ -50,7 +50,7 @@ fn place_of(high: bool, n: usize, at: usize, k: usize) -> usize
 fn value(s: &[u8], at: usize, n: usize, high: bool) -> u64
     requires { ⌜ (n ≤ 4) × (at < length (now s)) ⌝ }
     ensures { λ r. ⌜ r ≡ number high n (now (s .entry)) at ⌝ }
-    ensures { λ r. ⌜ r < 2 ^ 32 ⌝ }
+    ensures { λ r. ⌜ (r < 256 ^ n) × (r < 2 ^ 32) ⌝ }
 {
     let mut v: u64 = 0;
     let mut k: usize = 0;
@@ -65,6 +65,7 @@ fn value(s: &[u8], at: usize, n: usize, high: bool) -> u64
 // The number of a width at a place; bytes past the end count as 0.
 pub fn number_at(s: &[u8], at: usize, width: Width, high: bool) -> u32
     ensures { λ r. ⌜ r ≡ number high (bytesOf width) (now (s .entry)) at ⌝ }
+    ensures { λ r. ⌜ r < 256 ^ bytesOf width ⌝ }
 {
     if s.len() <= at {
         return 0;

@@ -1,4 +1,8 @@
 use mathlib.Core.Path.{_≡_, sym}
+use Prim.Native.Nat.{_<_, _^_}
+use native.Mathlib.Omega.{arith}
+use Rattle.wire.specs.declared.number.Width.{Width}
+use Rattle.wire.specs.declared.number.Width.the-variants.{One, Two, Four}
 use Rattle.wire.specs.Widths.{bytesOf}
 use Rattle.wire.proofs.Digits.{past}
 use borrow.Author.Needs.{needs}
@@ -9,11 +13,16 @@ use Rattle.wire.proofs.number.number_at.Lts as lts
 use Rattle.wire.proofs.number.bytes_of.Reads as bytes-of-reads
 use Rattle.wire.proofs.number.value.Reads as value-reads
 
+some : (w : Width) → 0 < 256 ^ bytesOf w
+some One = omega arith
+some Two = omega arith
+some Four = omega arith
+
 -- src/number.rt:70:9
 returns : tie.Need-returns
 returns c =
     let a = c .before .before .args in
-    sym (past (a .high) (bytesOf (a .width)) (a .s .now) (a .at) (c .if1 .taken))
+    (sym (past (a .high) (bytesOf (a .width)) (a .s .now) (a .at) (c .if1 .taken)), some (a .width))
 
 -- src/number.rt:72:9
 bytes-of-requires : tie.Need-bytes-of-requires
@@ -29,7 +38,9 @@ cast-result c = search needs
 
 -- src/number.rt:66:1
 returns-2 : tie.Need-returns-2
-returns-2 c = cc
+returns-2 c =
+    let v = c .value .ensures in
+    (cc, rw (c .before .bytes-of .ensures .0) at (v .1 .0))
 
 pub number-at-spec : {M : Type 1} → statement M
 number-at-spec =

@@ -67,7 +67,7 @@ returns : tie.Need-returns Inv-loop μ-loop
 unfolding number
 returns c =
     let e : c .before .loop .k ≡ c .before .before .before .args .n = omega arith in
-    (cc, small (c .before) 4 (omega arith))
+    (cc, (small (c .before) (c .before .before .before .args .n) (omega arith), small (c .before) 4 (omega arith)))
 
 pub value-spec : {M : Type 1} → statement M
 value-spec =
