@@ -2,6 +2,7 @@
 -- Assumes nothing.
 use Rattle.scope.specs.Data as Def
 use Rattle.scope.specs.Order as Def-order
+use Rattle.reader.specs.declared.data.Found as Code-found
 use Rattle.reader.specs.declared.order.Image.{Image}
 use Rattle.reader.specs.declared.order.Phase.{Phase}
 use Rattle.reader.specs.declared.order.Phase.the-variants.{BetweenSessions, InSession, InStream, InPage, InMotif, InImage}
@@ -18,3 +19,8 @@ phaseAs InStream = Def-order.in-stream
 phaseAs (InPage n) = Def-order.in-page n
 phaseAs (InMotif n) = Def-order.in-motif n
 phaseAs (InImage i) = Def-order.in-image (imageAs i)
+
+-- where the data is, or a refusal
+abbrev pub foundAs : Code-found.Found → Def.Found
+foundAs (Code-found.the-variants.At first) = Def.at first
+foundAs (Code-found.the-variants.No code place) = Def.no code place

@@ -1,6 +1,9 @@
 // Reading: bytes to operators. The next operator from a place on, whole and with its data, or the end, or a refusal.
+mod data;
 mod order;
 
+pub use data::block_at;
+pub use data::Found;
 pub use order::may_come;
 pub use order::Image;
 pub use order::Phase;
