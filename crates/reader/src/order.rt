@@ -9,9 +9,9 @@ ghost use Rattle.reader.specs.Views.{phaseAs, imageAs};
 
 // An image that is being read.
 pub struct Image {
-    pub width: u32,
-    pub depth: u32,
-    pub height: u32,
+    pub width: u16,
+    pub depth: u16,
+    pub height: u16,
     pub rows: u32,
 }
 
@@ -90,7 +90,7 @@ fn in_image(image: Image, opened: bool, tag: u8) -> bool
     ensures { λ r. ⌜ r ≡ mayCome (in-image (imageAs image)) opened tag ⌝ }
 {
     let rows = image.rows;
-    let height = image.height;
+    let height = image.height as u32;
     if tag == 0xb2 {
         return rows == height;
     }

@@ -1,5 +1,6 @@
 pub mod Ends
 pub mod Falls
+pub mod Taken
 pub mod Asks
 pub mod Rows
 pub mod Codes
