@@ -1,0 +1,3 @@
+pub mod Keys
+pub mod Briefs
+pub mod Rowed

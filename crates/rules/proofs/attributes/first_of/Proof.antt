@@ -1,0 +1,25 @@
+-- `rules::attributes::first_of` meets its contract: a number of one byte or of two.
+-- Assumes nothing.
+use mathlib.Core.Path.{_≡_}
+use borrow.Author.Tests.{eq-eqb, ne-eqb}
+use borrow.Author.Needs.{needs}
+use Rattle.rules.proofs.attributes.first_of.Statement.{statement}
+use Rattle.rules.proofs.attributes.first_of.Tie as tie
+use Rattle.rules.proofs.attributes.first_of.Reads as reads
+use Rattle.rules.proofs.attributes.first_of.Lts as lts
+use Rattle.wire.proofs.number_at.Reads as number-at-reads
+
+number-at-requires : tie.Need-number-at-requires
+number-at-requires c κs = search needs
+
+returns : tie.Need-returns
+returns c = rw (eq-eqb _ _ (c .before .if1 .taken)) (c .number-at .ensures)
+
+number-at-requires-2 : tie.Need-number-at-requires-2
+number-at-requires-2 c κs = search needs
+
+returns-2 : tie.Need-returns-2
+returns-2 c = rw (ne-eqb _ _ (c .before .if1 .left)) (c .number-at2 .ensures)
+
+pub first-of-spec : {M : Type 1} → statement M
+first-of-spec = tie.close (tie.spec number-at-requires returns number-at-requires-2 returns-2)

@@ -1,0 +1,75 @@
+-- The code's lines and rules, as those of 01's table.
+-- Assumes nothing.
+use Prim.Native.Nat.{ℕ}
+use mathlib.Core.List.{List, [], _∷_, _++_}
+use mathlib.Core.Bool.{Bool, true, false}
+use lib.Dec.{eqb}
+use Rattle.scope.specs.Choice.{pick}
+use Rattle.scope.specs.Table as scope
+use Rattle.rules.specs.declared.table.Form.{Form}
+use Rattle.rules.specs.declared.table.Form.the-variants.{Each, One, Line, Unknown}
+use Rattle.rules.specs.declared.table.Row.{Row}
+use Rattle.rules.specs.declared.table.Kind.{Kind}
+use Rattle.rules.specs.declared.table.Kind.the-variants.{E, N, P, B, A, D, M}
+use Rattle.rules.specs.declared.table.Rule.{Rule}
+
+-- the table has such a line
+abbrev pub isLine : scope.Line → Bool
+isLine (scope.Line.is r) = true
+isLine scope.Line.none = false
+
+-- a line without its rules: the form, and the numbers of its attributes
+pub data Brief : Type 0 where
+  known : scope.Form → List ℕ → Brief
+  unknown : Brief
+
+unfoldable pub numbersIn : List scope.Rule → List ℕ
+numbersIn [] = []
+numbersIn (r ∷ rs) = r .number ∷ numbersIn rs
+
+abbrev pub briefOf : scope.Line → Brief
+briefOf (scope.Line.is r) = known (r .form) (numbersIn (r .rules))
+briefOf scope.Line.none = unknown
+
+-- the numbers before the first 0
+unfoldable pub upToNo : List ℕ → List ℕ
+upToNo [] = []
+upToNo (n ∷ ns) = pick (eqb n 0) [] (n ∷ upToNo ns)
+
+-- the form and the numbers that a line of the code stands for
+abbrev pub briefBy : Form → List ℕ → Brief
+briefBy Each ns = known scope.each ns
+briefBy One ns = known scope.one ns
+briefBy Line ns = known scope.line ns
+briefBy Unknown ns = unknown
+
+abbrev pub briefAs : Row → Brief
+briefAs r = briefBy (r .0) (upToNo (r .1))
+
+-- the rules of all lines
+unfoldable pub rulesIn : List scope.Row → List scope.Rule
+rulesIn [] = []
+rulesIn (r ∷ rs) = r .rules ++ rulesIn rs
+
+-- a rule that was found; where there is none, one that takes nothing
+abbrev pub orNothing : ℕ → scope.Ruled → scope.Rule
+orNothing n (scope.Ruled.is r) = r
+orNothing n scope.Ruled.none = scope.may n (scope.E 1 0)
+
+-- the first rule of an attribute's number in the table
+unfoldable pub ruleOf : ℕ → scope.Rule
+ruleOf n = orNothing n (scope.ruleIn (rulesIn scope.table) n)
+
+-- the values that a kind with its lowest and highest stands for
+abbrev pub takesAs : Kind → ℕ → ℕ → scope.Takes
+takesAs E l h = scope.E l h
+takesAs N l h = scope.N l
+takesAs P l h = scope.P
+takesAs B l h = scope.B
+takesAs A l h = scope.A l h
+takesAs D l h = scope.D l
+takesAs M l h = scope.M
+
+-- the rule that a rule of the code stands for, of an attribute of this number
+abbrev pub ruleAs : ℕ → Rule → scope.Rule
+ruleAs n r = record { number = n; takes = takesAs (r .0) (r .1) (r .2); must = r .3 }

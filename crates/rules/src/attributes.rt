@@ -1,0 +1,84 @@
+// An operator's attributes, looked up by number in the lent array.
+ghost use mathlib.Core.Path.{_≡_};
+ghost use mathlib.Core.List.{List};
+ghost use Prim.Native.Nat.{ℕ, _+_, _≤_, _<_};
+ghost use lib.ListN.{take, drop};
+ghost use lib.Dec.{eqb};
+ghost use Rattle.scope.specs.Choice.{pick};
+ghost use Rattle.scope.specs.Number.{number as numberIn};
+ghost use Rattle.scope.specs.Attributes.{has as hasIn, valueIn, bytesIn};
+ghost use Rattle.wire.specs.Rows.{rowsOf, Sized};
+ghost use Rattle.rules.specs.Places.{placeOf};
+use wire::Width;
+
+// A part of the bytes: where it starts, and how long it is.
+pub struct Part {
+    pub first: usize,
+    pub count: usize,
+}
+
+// How many attributes there can be, of n: at most 16.
+pub fn at_most(n: usize) -> usize
+    ensures { λ r. ⌜ r ≤ 16 ⌝ }
+    ensures { λ r. ⌜ (n ≤ 16 → r ≡ n) ⌝ }
+{
+    if n < 16 { n } else { 16 }
+}
+
+// Which attribute is the first of a number; 16 where none is.
+pub fn place_of(attrs: &[usize; 80], n: usize, number: usize) -> usize
+    ensures { λ r. ⌜ r ≤ 16 ⌝ }
+    ensures { λ r. ⌜ (Sized (now (attrs .entry)) n → r ≡ placeOf number (rowsOf (now (attrs .entry)) n)) ⌝ }
+{
+    let end = at_most(n);
+    let mut i: usize = 0;
+    while i < end {
+        if attrs[i * 5] == number {
+            return i;
+        }
+        i += 1;
+    }
+    16
+}
+
+// An attribute of this number is there.
+pub fn has(attrs: &[usize; 80], n: usize, number: usize) -> bool
+    ensures { λ r. ⌜ (Sized (now (attrs .entry)) n → r ≡ hasIn number (rowsOf (now (attrs .entry)) n)) ⌝ }
+{
+    place_of(attrs, n, number) < 16
+}
+
+// The first number of a value of ubytes or of uint16.
+pub fn first_of(s: &[u8], high: bool, tag: usize, first: usize) -> u32
+    ensures { λ r. ⌜ r ≡ numberIn high (pick (eqb tag 0xc0) 1 2) (now (s .entry)) first ⌝ }
+{
+    if tag == 0xc0 {
+        return wire::number_at(s, first, Width::One, high);
+    }
+    wire::number_at(s, first, Width::Two, high)
+}
+
+// The value of the attribute of this number; 0 where it is not there.
+pub fn value_in(s: &[u8], high: bool, attrs: &[usize; 80], n: usize, number: usize) -> u32
+    ensures { λ r. ⌜ (Sized (now (attrs .entry)) n → r ≡ valueIn high (now (s .entry)) (rowsOf (now (attrs .entry)) n) number) ⌝ }
+{
+    let i = place_of(attrs, n, number);
+    if i < 16 {
+        return first_of(s, high, attrs[i * 5 + 1], attrs[i * 5 + 4]);
+    }
+    0
+}
+
+// Where the array of this number is; no bytes where it is not there.
+pub fn part_in(attrs: &[usize; 80], n: usize, number: usize) -> Part
+    ensures { λ r. ⌜ (Sized (now (attrs .entry)) n → (s : List ℕ) → bytesIn s (rowsOf (now (attrs .entry)) n) number ≡ take (r .count) (drop (r .first) s)) ⌝ }
+{
+    let i = place_of(attrs, n, number);
+    if i < 16 {
+        return Part {
+            first: attrs[i * 5 + 4],
+            count: attrs[i * 5 + 3],
+        };
+    }
+    Part { first: 0, count: 0 }
+}

@@ -1,0 +1,124 @@
+// 01's table of operators: a line of code for a line of the table, and a line for each attribute.
+ghost use mathlib.Core.Path.{_≡_};
+ghost use Rattle.scope.specs.Table.{table, lineIn};
+ghost use Rattle.rules.specs.Lines.{isLine, briefAs, briefOf, ruleAs, ruleOf};
+
+// How an operator's attributes belong together: each by itself, exactly one of them, or the first alone or both others.
+pub enum Form {
+    Each,
+    One,
+    Line,
+    Unknown,
+}
+
+// An operator's form and the numbers of its attributes.
+pub struct Row(pub Form, pub [u8; 5]);
+
+// No attribute.
+const NO: u8 = 0;
+
+// The values that an attribute takes: E a ubyte, N a ubyte or uint16, P a point, B a box, A an array of ubytes,
+// D two uint16, M MediaSize.
+pub enum Kind {
+    E,
+    N,
+    P,
+    B,
+    A,
+    D,
+    M,
+}
+
+// An attribute's values, the lowest, the highest, and whether it must be there.
+pub struct Rule(pub Kind, pub u32, pub u32, pub bool);
+
+// The line of an operator.
+pub fn row_of(tag: u8) -> Row
+    ensures { λ r. ⌜ briefAs r ≡ briefOf (lineIn table tag) ⌝ }
+{
+    match tag {
+        0x41 => Row(Form::Each, [134, 137, 143, NO, NO]),
+        0x42 => Row(Form::Each, [NO, NO, NO, NO, NO]),
+        0x43 => Row(Form::Each, [40, 37, 38, NO, NO]),
+        0x44 => Row(Form::Each, [49, NO, NO, NO, NO]),
+        0x47 => Row(Form::Each, [129, NO, NO, NO, NO]),
+        0x48 => Row(Form::Each, [136, 130, NO, NO, NO]),
+        0x49 => Row(Form::Each, [NO, NO, NO, NO, NO]),
+        0x5b => Row(Form::Each, [139, NO, NO, NO, NO]),
+        0x5c => Row(Form::Each, [140, NO, NO, NO, NO]),
+        0x5d => Row(Form::Each, [NO, NO, NO, NO, NO]),
+        0x5e => Row(Form::Each, [139, NO, NO, NO, NO]),
+        0x60 => Row(Form::Each, [NO, NO, NO, NO, NO]),
+        0x61 => Row(Form::Each, [NO, NO, NO, NO, NO]),
+        0x63 => Row(Form::One, [11, 9, 4, NO, NO]),
+        0x6a => Row(Form::Each, [3, NO, NO, NO, NO]),
+        0x6b => Row(Form::Each, [76, NO, NO, NO, NO]),
+        0x6c => Row(Form::Each, [76, NO, NO, NO, NO]),
+        0x79 => Row(Form::One, [11, 9, 5, NO, NO]),
+        0x7a => Row(Form::Each, [75, NO, NO, NO, NO]),
+        0x84 => Row(Form::Each, [NO, NO, NO, NO, NO]),
+        0x85 => Row(Form::Each, [NO, NO, NO, NO, NO]),
+        0x86 => Row(Form::Each, [NO, NO, NO, NO, NO]),
+        0x9b => Row(Form::Line, [69, 77, 80, NO, NO]),
+        0x9d => Row(Form::Line, [69, 77, 80, NO, NO]),
+        0xa0 => Row(Form::Each, [66, NO, NO, NO, NO]),
+        0xb0 => Row(Form::Each, [100, 98, 108, 107, 103]),
+        0xb1 => Row(Form::Each, [109, 99, 101, NO, NO]),
+        0xb2 => Row(Form::Each, [NO, NO, NO, NO, NO]),
+        _ => Row(Form::Unknown, [NO, NO, NO, NO, NO]),
+    }
+}
+
+// The rule of an attribute by its number, which is the same in every line that has it.
+pub fn rule_of(number: usize) -> Rule
+    ensures { λ r. ⌜ ruleAs number r ≡ ruleOf number ⌝ }
+{
+    match number {
+        3 => Rule(Kind::E, 1, 2, true),
+        4 => Rule(Kind::E, 0, 0, false),
+        5 => Rule(Kind::E, 0, 0, false),
+        9 => Rule(Kind::E, 0, 255, false),
+        11 => Rule(Kind::A, 3, 3, false),
+        37 => Rule(Kind::M, 0, 0, true),
+        38 => Rule(Kind::E, 0, 6, false),
+        40 => Rule(Kind::E, 0, 3, true),
+        49 => Rule(Kind::N, 1, 0, false),
+        66 => Rule(Kind::B, 0, 0, true),
+        69 => Rule(Kind::P, 0, 0, false),
+        75 => Rule(Kind::N, 0, 0, true),
+        76 => Rule(Kind::P, 0, 0, true),
+        77 => Rule(Kind::N, 1, 0, false),
+        80 => Rule(Kind::E, 0, 3, false),
+        98 => Rule(Kind::E, 0, 2, true),
+        99 => Rule(Kind::N, 1, 0, true),
+        100 => Rule(Kind::E, 0, 0, true),
+        101 => Rule(Kind::E, 0, 0, true),
+        103 => Rule(Kind::D, 1, 0, true),
+        107 => Rule(Kind::N, 1, 0, true),
+        108 => Rule(Kind::N, 1, 0, true),
+        109 => Rule(Kind::N, 0, 0, true),
+        129 => Rule(Kind::A, 0, 1024, false),
+        130 => Rule(Kind::E, 0, 1, true),
+        134 => Rule(Kind::E, 0, 2, true),
+        136 => Rule(Kind::E, 0, 0, true),
+        137 => Rule(Kind::D, 1, 0, true),
+        139 => Rule(Kind::A, 1, 16, true),
+        140 => Rule(Kind::N, 1, 0, true),
+        143 => Rule(Kind::E, 0, 3, false),
+        _ => Rule(Kind::E, 1, 0, false),
+    }
+}
+
+// The operator table has this tag.
+pub fn is_operator(tag: u8) -> bool
+    ensures { λ r. ⌜ r ≡ isLine (lineIn table tag) ⌝ }
+{
+    let row = row_of(tag);
+    let form = row.0;
+    match form {
+        Form::Each => true,
+        Form::One => true,
+        Form::Line => true,
+        Form::Unknown => false,
+    }
+}
