@@ -28,7 +28,7 @@ opsIn (r ∷ rs) = r .op ∷ opsIn rs
 apart-out : (n : ℕ) (ks : List ℕ) → Apart n ks → among ks n ≡ false
 unfolding among
 apart-out n [] h = refl
-apart-out n (k ∷ ks) h = rw (ne-eqb k n (λ e. h .1 (sym e)), among) (apart-out n ks (h .0))
+apart-out n (k ∷ ks) h = rw (ne-eqb n k (h .1), among) (apart-out n ks (h .0))
 
 both-left : (a b : Bool) → pick a b false ≡ true → a ≡ true
 both-left true b e = refl

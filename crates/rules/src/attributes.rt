@@ -51,6 +51,7 @@ pub fn has(attrs: &[usize; 80], n: usize, number: usize) -> bool
 // The first number of a value of ubytes or of uint16.
 pub fn first_of(s: &[u8], high: bool, tag: usize, first: usize) -> u32
     ensures { λ r. ⌜ r ≡ numberIn high (pick (eqb tag 0xc0) 1 2) (now (s .entry)) first ⌝ }
+    ensures { λ r. ⌜ r < 65536 ⌝ }
 {
     if tag == 0xc0 {
         return wire::number_at(s, first, Width::One, high);
@@ -61,6 +62,7 @@ pub fn first_of(s: &[u8], high: bool, tag: usize, first: usize) -> u32
 // The value of the attribute of this number; 0 where it is not there.
 pub fn value_in(s: &[u8], high: bool, attrs: &[usize; 80], n: usize, number: usize) -> u32
     ensures { λ r. ⌜ (Sized (now (attrs .entry)) n → r ≡ valueIn high (now (s .entry)) (rowsOf (now (attrs .entry)) n) number) ⌝ }
+    ensures { λ r. ⌜ r < 65536 ⌝ }
 {
     let i = place_of(attrs, n, number);
     if i < 16 {

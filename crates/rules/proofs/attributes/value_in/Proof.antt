@@ -5,6 +5,7 @@ use borrow.Author.Tests.{lt-ltb, le-ltb}
 use Rattle.scope.specs.Attributes.{firstOf}
 use Rattle.wire.specs.Rows.{rowAt}
 use Rattle.rules.proofs.Rowed.{value-at}
+use lib.Dec.{lit<}
 use borrow.Author.Needs.{needs}
 use Rattle.rules.proofs.attributes.value_in.Statement.{statement}
 use Rattle.rules.proofs.attributes.value_in.Tie as tie
@@ -48,15 +49,15 @@ unfolding firstOf rowAt
 returns c =
     let e = c .before .before .before .before in
     let a = e .before .before .args in
-    λ z. sym (value-at (a .number) (a .attrs .now) (a .n) (e .place-of .result) (z .few) (e .place-of .ensures .1 z) (a .high) (a .s .now)
-        ∙ rw (lt-ltb _ _ (c .before .before .before .if1 .taken)) (sym (c .first-of .ensures)))
+    (λ z. sym (value-at (a .number) (a .attrs .now) (a .n) (e .place-of .result) (z .few) (e .place-of .ensures .1 z) (a .high) (a .s .now)
+        ∙ rw (lt-ltb _ _ (c .before .before .before .if1 .taken)) (sym (c .first-of .ensures .0))), c .first-of .ensures .1)
 
 returns-2 : tie.Need-returns-2
 returns-2 c =
     let e = c .before in
     let a = e .before .before .args in
-    λ z. sym (value-at (a .number) (a .attrs .now) (a .n) (e .place-of .result) (z .few) (e .place-of .ensures .1 z) (a .high) (a .s .now)
-        ∙ rw (le-ltb _ _ (c .if1 .left)))
+    (λ z. sym (value-at (a .number) (a .attrs .now) (a .n) (e .place-of .result) (z .few) (e .place-of .ensures .1 z) (a .high) (a .s .now)
+        ∙ rw (le-ltb _ _ (c .if1 .left))), lit< tt)
 
 pub value-in-spec : {M : Type 1} → statement M
 value-in-spec =
