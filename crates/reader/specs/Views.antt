@@ -1,8 +1,15 @@
 -- What the code's phases, contexts, operators and answers say in 01's words.
 -- Assumes nothing.
+use Prim.Native.Nat.{ℕ}
+use mathlib.Core.Bool.{Bool}
+use mathlib.Core.List.{List}
+use Rattle.scope.specs.Choice.{pick}
+use Rattle.scope.specs.Item.{Attribute}
+use Rattle.scope.specs.Attributes.{has, valueIn}
 use Rattle.scope.specs.Data as Def
 use Rattle.scope.specs.Order as Def-order
 use Rattle.reader.specs.declared.data.Found as Code-found
+use Rattle.reader.specs.declared.due.Due as Code-due
 use Rattle.reader.specs.declared.order.Image.{Image}
 use Rattle.reader.specs.declared.order.Phase.{Phase}
 use Rattle.reader.specs.declared.order.Phase.the-variants.{BetweenSessions, InSession, InStream, InPage, InMotif, InImage}
@@ -24,3 +31,12 @@ phaseAs (InImage i) = Def-order.in-image (imageAs i)
 abbrev pub foundAs : Code-found.Found → Def.Found
 foundAs (Code-found.the-variants.At first) = Def.at first
 foundAs (Code-found.the-variants.No code place) = Def.no code place
+
+-- how much data an operator reads
+abbrev pub dueAs : Code-due.Due → Def.Due
+dueAs (Code-due.the-variants.Reads n) = Def.reads n
+dueAs Code-due.the-variants.Nothing = Def.none
+
+-- a line reads its points, if it has NumberOfPoints
+unfoldable pub pointsDue : Bool → List ℕ → List Attribute → Def.Due
+pointsDue high s l = pick (has 77 l) (Def.reads (Def.pointBytes (valueIn high s l 80) (valueIn high s l 77))) Def.none

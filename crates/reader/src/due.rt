@@ -1,7 +1,7 @@
 // How much data an operator reads.
 ghost use mathlib.Core.Path.{_≡_};
 ghost use mathlib.Core.Bool.{_||_};
-ghost use Prim.Native.Nat.{ℕ, _+_, _≤_};
+ghost use Prim.Native.Nat.{ℕ, _+_, _*_, _≤_};
 ghost use lib.Dec.{eqb};
 ghost use Rattle.wire.specs.Rows.{rowsOf, Sized};
 ghost use Rattle.scope.specs.Attributes.{has, valueIn};
@@ -16,14 +16,16 @@ pub enum Due {
     Nothing,
 }
 
-fn bits_of(depth: u16) -> usize
-    ensures { λ r. ⌜ r ≡ bitsOf depth ⌝ }
-    ensures { λ r. ⌜ r ≤ 8 ⌝ }
+// The bits of a row.
+fn row_bits(width: u16, depth: u16) -> usize
+    ensures { λ r. ⌜ r ≡ width * bitsOf depth ⌝ }
+    ensures { λ r. ⌜ r ≤ 524_280 ⌝ }
 {
+    let wide = width as usize;
     match depth {
-        0 => 1,
-        1 => 4,
-        _ => 8,
+        0 => wide,
+        1 => wide * 4,
+        _ => wide * 8,
     }
 }
 
@@ -32,9 +34,7 @@ pub fn row_of(width: u16, depth: u16) -> usize
     ensures { λ r. ⌜ r ≡ rowOf width depth ⌝ }
     ensures { λ r. ⌜ r ≤ 65536 ⌝ }
 {
-    let bits = bits_of(depth);
-    let wide = width as usize;
-    ((wide * bits + 7) / 8 + 3) / 4 * 4
+    ((row_bits(width, depth) + 7) / 8 + 3) / 4 * 4
 }
 
 // Of points: 2n bytes for PointType 0 or 1, 4n for 2 or 3.

@@ -1,11 +1,15 @@
+use Rattle.scope.specs.Order.{mayCome, drawn}
 use borrow.Author.Tests.{lt-ltb, le-ltb, le-leb, lt-leb, eq-eqb, ne-eqb}
-use Rattle.scope.specs.Choice.{among}
 use Rattle.scope.specs.Order.{mayCome, drawn}
 use borrow.Author.Needs.{needs}
 use Rattle.reader.proofs.order.in_image.Statement.{statement}
 use Rattle.reader.proofs.order.in_image.Tie as tie
 use Rattle.reader.proofs.order.in_image.Reads as reads
 use Rattle.reader.proofs.order.in_image.Lts as lts
+
+-- src/order.rt:93:18
+cast-height : tie.Need-cast-height
+cast-height c = search needs
 
 -- src/order.rt:95:9
 returns : tie.Need-returns
@@ -18,4 +22,4 @@ unfolding mayCome
 returns-2 c = simp (ne-eqb _ _ (c .if1 .left))
 
 pub in-image-spec : {M : Type 1} → statement M
-in-image-spec = tie.close (tie.spec returns returns-2)
+in-image-spec = tie.close (tie.spec cast-height returns returns-2)

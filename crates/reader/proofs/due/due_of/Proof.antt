@@ -1,0 +1,95 @@
+use Prim.Native.Nat.{ℕ, _*_, _≤_}
+use native.Mathlib.Nat.{mul-le-mul}
+use native.Mathlib.Omega.{arith}
+use borrow.Author.Tests.{eq-eqb, ne-eqb}
+use Rattle.scope.specs.Data.{dueOf}
+use Rattle.reader.specs.Views.{pointsDue}
+use borrow.Author.Needs.{needs}
+use Rattle.reader.proofs.due.due_of.Statement.{statement}
+use Rattle.reader.proofs.due.due_of.Tie as tie
+use Rattle.reader.proofs.due.due_of.Reads as reads
+use Rattle.reader.proofs.due.due_of.Lts as lts
+use Rattle.reader.proofs.due.points_due.Reads as points-due-reads
+use Rattle.reader.proofs.due.row_of.Reads as row-of-reads
+use Rattle.rules.proofs.value_in.Reads as value-in-reads
+
+-- rows of an image fit
+product : (x y : ℕ) → x ≤ 65535 → y ≤ 65536 → x * y ≤ 65535 * 65536
+product x y h k = mul-le-mul h k
+
+-- src/due.rt:65:27
+value-in-requires : tie.Need-value-in-requires
+value-in-requires c κs = search needs
+
+-- src/due.rt:65:27
+cast-t10 : tie.Need-cast-t10
+cast-t10 c = search needs
+
+-- src/due.rt:65:9
+returns : tie.Need-returns
+unfolding dueOf
+returns c = λ z. rw (eq-eqb _ _ (c .before .if1 .taken), ← c .value-in .ensures .0 z)
+
+-- src/due.rt:68:20
+value-in-requires-2 : tie.Need-value-in-requires-2
+value-in-requires-2 c κs = search needs
+
+-- src/due.rt:68:20
+cast-rows : tie.Need-cast-rows
+cast-rows c = search needs
+
+-- src/due.rt:69:34
+row-of-requires : tie.Need-row-of-requires
+row-of-requires c κs = search needs
+
+-- src/due.rt:69:27
+mul-t13 : tie.Need-mul-t13
+mul-t13 c =
+    let m = product (c .before .value-in2 .result) (c .row-of .result) (omega (arith, c .before .value-in2 .ensures .1)) (c .row-of .ensures .1) in
+    omega (arith, m)
+
+-- src/due.rt:69:9
+returns-2 : tie.Need-returns-2
+unfolding dueOf
+returns-2 c = λ z. rw (ne-eqb _ _ (c .before .before .before .if1 .left), eq-eqb _ _ (c .before .before .if2 .taken), ← c .before .value-in2 .ensures .0 z, ← c .row-of .ensures .0)
+
+-- src/due.rt:72:9
+points-due-requires : tie.Need-points-due-requires
+points-due-requires c κs = search needs
+
+-- src/due.rt:72:9
+returns-3 : tie.Need-returns-3
+unfolding dueOf pointsDue
+returns-3 c = λ z. rw (ne-eqb _ _ (c .before .before .before .if1 .left), ne-eqb _ _ (c .before .before .if2 .left), eq-eqb _ _ (c .before .if3 .taken)) (c .points-due .ensures z)
+
+-- src/due.rt:75:9
+points-due-requires-2 : tie.Need-points-due-requires-2
+points-due-requires-2 c κs = search needs
+
+-- src/due.rt:75:9
+returns-4 : tie.Need-returns-4
+unfolding dueOf pointsDue
+returns-4 c = λ z. rw (ne-eqb _ _ (c .before .before .before .before .if1 .left), ne-eqb _ _ (c .before .before .before .if2 .left), ne-eqb _ _ (c .before .before .if3 .left), eq-eqb _ _ (c .before .if4 .taken)) (c .points-due2 .ensures z)
+
+-- src/due.rt:61:1
+returns-5 : tie.Need-returns-5
+unfolding dueOf
+returns-5 c = λ z. rw (ne-eqb _ _ (c .before .before .before .if1 .left), ne-eqb _ _ (c .before .before .if2 .left), ne-eqb _ _ (c .before .if3 .left), ne-eqb _ _ (c .if4 .left))
+
+pub due-of-spec : {M : Type 1} → statement M
+due-of-spec =
+    tie.close
+    (tie.spec
+    value-in-requires
+    cast-t10
+    returns
+    value-in-requires-2
+    cast-rows
+    row-of-requires
+    mul-t13
+    returns-2
+    points-due-requires
+    returns-3
+    points-due-requires-2
+    returns-4
+    returns-5)
