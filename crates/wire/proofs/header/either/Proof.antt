@@ -1,0 +1,17 @@
+use borrow.Author.Tests.{eq-eqb, ne-eqb}
+use borrow.Author.Needs.{needs}
+use Rattle.wire.proofs.header.either.Statement.{statement}
+use Rattle.wire.proofs.header.either.Tie as tie
+use Rattle.wire.proofs.header.either.Reads as reads
+use Rattle.wire.proofs.header.either.Lts as lts
+
+-- src/header.rt:33:9
+returns : tie.Need-returns
+returns c = simp (eq-eqb _ _ (c .if1 .taken))
+
+-- src/header.rt:29:1
+returns-2 : tie.Need-returns-2
+returns-2 c = simp (ne-eqb _ _ (c .if1 .left))
+
+pub either-spec : {M : Type 1} → statement M
+either-spec = tie.close (tie.spec returns returns-2)

@@ -1,0 +1,74 @@
+use Prim.Native.Nat.{ℕ}
+use mathlib.Core.Path.{_≡_, refl, sym, ap, _∙_}
+use mathlib.Core.Bool.{true, false}
+use borrow.Author.Tests.{eq-eqb, ne-eqb}
+use lib.ListN.{getD}
+use lib.Dec.{eqb}
+use Rattle.scope.specs.Header.{headerOf, classed}
+use Rattle.wire.specs.Headers.{formAs}
+use borrow.Author.Needs.{needs}
+use Rattle.wire.proofs.header.header_of.Statement.{statement}
+use Rattle.wire.proofs.header.header_of.Tie as tie
+use Rattle.wire.proofs.header.header_of.Reads as reads
+use Rattle.wire.proofs.header.header_of.Lts as lts
+use Rattle.wire.proofs.header.class_of.Reads as class-of-reads
+use Rattle.wire.proofs.header.form_of.Reads as form-of-reads
+use Rattle.wire.proofs.number.byte_at.Reads as byte-at-reads
+
+-- the first byte, once it was tested
+first : (c : tie.Else1) → eqb (getD (c .before .before .before .args .s .now) 0 0) 0x27 ≡ false
+first c = ap (λ (x : ℕ). eqb x 0x27) (sym (c .before .byte-at .ensures)) ∙ ne-eqb _ _ (c .if1 .left)
+
+-- src/header.rt:126:8
+byte-at-requires : tie.Need-byte-at-requires
+byte-at-requires c κs = search needs
+
+-- src/header.rt:127:9
+returns : tie.Need-returns
+unfolding headerOf
+returns c =
+    let h : eqb (getD (c .before .before .before .args .s .now) 0 0) 0x27 ≡ true = ap (λ (x : ℕ). eqb x 0x27) (sym (c .before .byte-at .ensures)) ∙ eq-eqb _ _ (c .if1 .taken) in
+    rw h (refl, tt)
+
+-- src/header.rt:129:11
+form-of-requires : tie.Need-form-of-requires
+form-of-requires c κs = search needs
+
+-- src/header.rt:130:20
+enum-known-n : tie.Need-enum-known-n
+enum-known-n c = search needs
+
+-- src/header.rt:130:26
+class-of-requires : tie.Need-class-of-requires
+class-of-requires c κs = rw (c .before .n .given .1) at (c .before .before .before .form-of .ensures .1)
+
+-- src/header.rt:131:22
+enum-known-i : tie.Need-enum-known-i
+enum-known-i c = search needs
+
+-- src/header.rt:122:1
+returns-2 : tie.Need-returns-2
+unfolding headerOf
+returns-2 c =
+    let k = c .before .before .before .before in
+    (rw (first (k .before), sym (k .form-of .ensures .0) ∙ ap formAs (c .before .before .n .given .1)) (c .class-of .ensures .0), c .class-of .ensures .1)
+
+-- src/header.rt:122:1
+returns-3 : tie.Need-returns-3
+unfolding headerOf classed
+returns-3 c =
+    let k = c .before .before .before in
+    (rw (first (k .before), sym (k .form-of .ensures .0) ∙ ap formAs (c .before .i .given .1)), tt)
+
+pub header-of-spec : {M : Type 1} → statement M
+header-of-spec =
+    tie.close
+    (tie.spec
+    byte-at-requires
+    returns
+    form-of-requires
+    enum-known-n
+    class-of-requires
+    enum-known-i
+    returns-2
+    returns-3)
