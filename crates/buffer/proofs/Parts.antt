@@ -6,9 +6,13 @@ use native.Mathlib.Nat.{add-zero, zero-mul, suc-mul, not-suc-le-zero, le-of-suc-
 use native.Mathlib.Numerals.{add-one}
 use native.Mathlib.Omega.{arith}
 use lib.ListN.{length, take, drop, set, getD, length-drop, length-take, length-append, drop-of-length-le, take-append-drop}
-use lib.Seq.{drop-drop, drop-at, take-at, length-take-le, take-all}
+use lib.Dec.{ltb}
+use lib.Seq.{drop-drop, drop-at, take-at, take-take, take-append-le, length-take-le, take-all}
+use mathlib.Core.Bool.{false}
+use borrow.Author.Tests.{le-ltb}
 use borrow.Rule.Slice.PartMut.{midOf, putMid}
-use Rattle.buffer.specs.Over.{over}
+use Rattle.buffer.specs.Over.{over, cleared}
+use Rattle.scope.specs.Verdict.{zeros, clearedBy, admitted}
 
 -- a callee was lent `&mut s[a..]` and left vs at the front of the part: then the whole has vs at a
 pub part-back : (xs ys : List ℕ) (a : ℕ) (vs : List ℕ) → a ≤ length xs → ys ≡ vs ++ drop (length vs) (midOf a (length xs - a) xs)
@@ -63,3 +67,32 @@ drop-over xs a vs n h k =
     let w : take a xs ++ (vs ++ drop m xs) ≡ p ++ drop m xs = rw append-assoc in
     let e : m + (n - m) ≡ n = omega arith in
     rw (w, ← e, ← drop-drop (n - m) m (p ++ drop m xs), drop-at p (drop m xs) m lp, drop-drop)
+
+-- before a write nothing has changed
+pub take-under : (xs : List ℕ) (a : ℕ) (vs : List ℕ) (n : ℕ) → n ≤ a → a ≤ length xs → take n (over xs a vs) ≡ take n xs
+unfolding over
+take-under xs a vs n h k =
+    let l : n ≤ length (take a xs) = simp length-take (omega arith) in
+    rw (take-append-le n (take a xs) (vs ++ drop (a + length vs) xs) l) (take-take n a xs h)
+
+-- up to its end stands what stood before, and what was written
+pub take-over : (xs : List ℕ) (a : ℕ) (vs : List ℕ) → a ≤ length xs → take (a + length vs) (over xs a vs) ≡ take a xs ++ vs
+unfolding over
+take-over xs a vs h =
+    let l : length (take a xs ++ vs) ≡ a + length vs = simp (length-append, length-take) (omega arith) in
+    rw (← append-assoc (take a xs) vs (drop (a + length vs) xs)) (take-at (take a xs ++ vs) _ (a + length vs) l)
+
+-- the part that was written
+pub part-over : (xs : List ℕ) (a : ℕ) (vs : List ℕ) → a ≤ length xs → take (length vs) (drop a (over xs a vs)) ≡ vs
+unfolding over
+part-over xs a vs h =
+    let l : length (take a xs) ≡ a = length-take-le a xs h in
+    rw (drop-at (take a xs) (vs ++ drop (a + length vs) xs) a l) (take-at vs _ (length vs) refl)
+
+-- a buffer whose bytes from 16,384 on are those of another is cleared to what that one is cleared to
+pub cleared-alike : (w w₀ : List ℕ) → length w ≡ length w₀ → 16384 ≤ length w₀ → drop 16384 w ≡ drop 16384 w₀
+    → cleared w ≡ clearedBy admitted w₀
+unfolding cleared clearedBy
+cleared-alike w w₀ l h e =
+    let f : ltb (length w) 16384 ≡ false = le-ltb (length w) 16384 (omega arith) in
+    rw f (ap (λ (t : List ℕ). zeros 16384 ++ t) e)

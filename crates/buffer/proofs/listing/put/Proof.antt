@@ -1,0 +1,53 @@
+-- `put`: the part was left with the record at its front.
+-- Assumes nothing.
+use borrow.Author.Needs.{needs}
+use native.Mathlib.Omega.{arith}
+use Rattle.buffer.proofs.Parts.{part-back}
+use Rattle.buffer.proofs.listing.put.Statement.{statement}
+use Rattle.buffer.proofs.listing.put.Tie as tie
+use Rattle.buffer.proofs.listing.put.Reads as reads
+use Rattle.buffer.proofs.listing.put.Lts as lts
+use Rattle.buffer.proofs.copying.copy.Reads as copy-reads
+
+-- src/listing.rt:62:10
+slice-aggregate-copy : tie.Need-slice-aggregate-copy
+slice-aggregate-copy c = search needs
+
+-- src/listing.rt:62:18
+sub-copy : tie.Need-sub-copy
+sub-copy c = search needs
+
+-- src/listing.rt:62:18
+part-copy-start : tie.Need-part-copy-start
+part-copy-start c = search needs
+
+-- src/listing.rt:62:18
+part-copy-end : tie.Need-part-copy-end
+part-copy-end c = search needs
+
+-- src/listing.rt:62:5
+copy-requires : tie.Need-copy-requires
+copy-requires c κs = search needs
+
+-- src/listing.rt:58:1
+same-length : tie.Need-same-length
+same-length c = search needs
+
+-- src/listing.rt:58:1
+returns : tie.Need-returns
+returns c =
+    let a = c .before .before .before .before .before .before .args in
+    let p = c .before .before .copy in
+    part-back (a .list .now) (p .last .1 .0) (a .place) (a .t3) (omega arith) (p .ensures)
+
+pub put-spec : {M : Type 1} → statement M
+put-spec =
+    tie.close
+    (tie.spec
+    slice-aggregate-copy
+    sub-copy
+    part-copy-start
+    part-copy-end
+    copy-requires
+    same-length
+    returns)
