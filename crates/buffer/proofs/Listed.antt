@@ -18,7 +18,7 @@ use Rattle.scope.specs.Verdict.{four, attributeRecord, operatorRecord, attribut
 use Rattle.wire.specs.Rows.{Sized, rowAt, rowsFrom, rowsOf}
 use Rattle.buffer.specs.Over.{over, joinedAt}
 use Rattle.buffer.proofs.Parts.{over-next}
-use Rattle.buffer.specs.Listed.{BytesIn, bytes-none, bytes-more, lowOf, lows, roomFor, sixteen, recordsFor}
+use Rattle.buffer.specs.Listed.{BytesIn, bytes-more, lowOf, lows, roomFor, sixteen, recordsFor}
 
 pub length-attributeRecord : (a : Attribute) → length (attributeRecord a) ≡ 16
 unfolding attributeRecord four

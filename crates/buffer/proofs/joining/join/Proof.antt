@@ -11,9 +11,6 @@ use lib.ListN.{length}
 use Rattle.buffer.proofs.Parts.{part-back}
 use Rattle.buffer.proofs.joining.join.Statement.{statement}
 use Rattle.buffer.proofs.joining.join.Tie as tie
-use Rattle.buffer.proofs.joining.join.Reads as reads
-use Rattle.buffer.proofs.joining.join.Lts as lts
-use Rattle.buffer.proofs.copying.copy.Reads as copy-reads
 
 -- src/joining.rt:15:9
 returns : tie.Need-returns

@@ -4,9 +4,6 @@ use borrow.Author.Needs.{needs}
 use Rattle.buffer.proofs.Listed.{attribute-sixteen}
 use Rattle.buffer.proofs.listing.attribute_row.Statement.{statement}
 use Rattle.buffer.proofs.listing.attribute_row.Tie as tie
-use Rattle.buffer.proofs.listing.attribute_row.Reads as reads
-use Rattle.buffer.proofs.listing.attribute_row.Lts as lts
-use Rattle.buffer.proofs.listing.row.Reads as row-reads
 
 -- src/listing.rt:41:24
 mul-number : tie.Need-mul-number

@@ -6,8 +6,6 @@ use native.Mathlib.Omega.{arith}
 use Rattle.buffer.proofs.Listed.{room-many, room-none, room-left}
 use Rattle.buffer.proofs.listing.has_room.Statement.{statement}
 use Rattle.buffer.proofs.listing.has_room.Tie as tie
-use Rattle.buffer.proofs.listing.has_room.Reads as reads
-use Rattle.buffer.proofs.listing.has_room.Lts as lts
 
 -- src/listing.rt:70:9
 returns : tie.Need-returns

@@ -13,10 +13,6 @@ use Rattle.buffer.proofs.Parts.{over-nil}
 use Rattle.buffer.proofs.Listed.{attribute-more}
 use Rattle.buffer.proofs.listing.list_attributes.Statement.{statement}
 use Rattle.buffer.proofs.listing.list_attributes.Tie as tie
-use Rattle.buffer.proofs.listing.list_attributes.Reads as reads
-use Rattle.buffer.proofs.listing.list_attributes.Lts as lts
-use Rattle.buffer.proofs.listing.attribute_row.Reads as attribute-row-reads
-use Rattle.buffer.proofs.listing.put.Reads as put-reads
 
 abbrev Inv-loop : tie.InvT-loop
 Inv-loop list₀ records attrs n i₀ list i =

@@ -8,17 +8,11 @@ use Prim.Native.Nat.{suc, _+_, _*_, _≤_}
 use native.Mathlib.Omega.{arith}
 use lib.ListN.{length}
 use Rattle.wire.specs.Rows.{rowsOf}
-use Rattle.buffer.specs.Over.{over, joinedAt}
+use Rattle.buffer.specs.Over.{over}
 use Rattle.buffer.specs.Listed.{lows, roomFor, recordsFor}
 use Rattle.buffer.proofs.Listed.{room-is, operator-listed, listed-whole}
 use Rattle.buffer.proofs.listing.list_operator.Statement.{statement}
 use Rattle.buffer.proofs.listing.list_operator.Tie as tie
-use Rattle.buffer.proofs.listing.list_operator.Reads as reads
-use Rattle.buffer.proofs.listing.list_operator.Lts as lts
-use Rattle.buffer.proofs.listing.has_room.Reads as has-room-reads
-use Rattle.buffer.proofs.listing.list_attributes.Reads as list-attributes-reads
-use Rattle.buffer.proofs.listing.operator_row.Reads as operator-row-reads
-use Rattle.buffer.proofs.listing.put.Reads as put-reads
 
 -- past the test there is room
 room : (c : tie.Else1)

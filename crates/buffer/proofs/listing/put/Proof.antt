@@ -5,9 +5,6 @@ use native.Mathlib.Omega.{arith}
 use Rattle.buffer.proofs.Parts.{part-back}
 use Rattle.buffer.proofs.listing.put.Statement.{statement}
 use Rattle.buffer.proofs.listing.put.Tie as tie
-use Rattle.buffer.proofs.listing.put.Reads as reads
-use Rattle.buffer.proofs.listing.put.Lts as lts
-use Rattle.buffer.proofs.copying.copy.Reads as copy-reads
 
 -- src/listing.rt:62:10
 slice-aggregate-copy : tie.Need-slice-aggregate-copy

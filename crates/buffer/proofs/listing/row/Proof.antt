@@ -6,8 +6,6 @@ use Rattle.scope.specs.Verdict.{four}
 use Rattle.buffer.specs.Listed.{sixteen}
 use Rattle.buffer.proofs.listing.row.Statement.{statement}
 use Rattle.buffer.proofs.listing.row.Tie as tie
-use Rattle.buffer.proofs.listing.row.Reads as reads
-use Rattle.buffer.proofs.listing.row.Lts as lts
 
 -- src/listing.rt:21:9
 cast-t9 : tie.Need-cast-t9
