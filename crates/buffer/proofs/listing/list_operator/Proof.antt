@@ -69,8 +69,9 @@ returns-2 c =
     let m = c .before .before .before .before .before .before .before .list-attributes in
     let o = c .before .before .before .before .operator-row in
     let e : true ≡ roomFor (a .records) (a .n) (length l) = sym (not-false _ (k .if1 .left)) ∙ k .before .has-room .ensures in
+    let f : p .last .0 ≡ over (m .last .0) ((a .records + a .n) * 16) (o .result) = p .ensures in
     let w : p .last .0 ≡ over l (a .records * 16) (recordsFor (a .tag) (a .at) (a .size) (a .first) (lows (rowsOf (a .attrs .now) (a .n)))) =
-    p .ensures ∙ operator-listed l (m .last .0) (a .attrs .now) (o .result) (a .records) (a .n) (a .tag) (a .at) (a .size) (a .first) (h .1) (m .ensures) (o .ensures) in
+    f ∙ operator-listed l (m .last .0) (a .attrs .now) (o .result) (a .records) (a .n) (a .tag) (a .at) (a .size) (a .first) (h .1) (m .ensures) (o .ensures) in
     (omega arith, (listed-whole l (p .last .0) (a .attrs .now) (a .records) (a .n) (a .tag) (a .at) (a .size) (a .first) true e w, (e, w)))
 
 pub list-operator-spec : {M : Type 1} → statement M
