@@ -1,4 +1,5 @@
--- What a callee did to a part `&mut s[a..]`, said of the whole; and one more element copied. Assumes nothing.
+-- Laws on writes: what a callee did to a part `&mut s[a..]` said of the whole, writes one after the other, what stays.
+-- Assumes nothing.
 use mathlib.Core.Path.{_≡_, refl, ap}
 use mathlib.Core.List.{List, [], _∷_, _++_, append-nil, append-assoc}
 use Prim.Native.Nat.{ℕ, zero, suc, _+_, _-_, _≤_, _<_}

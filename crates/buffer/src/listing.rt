@@ -99,6 +99,7 @@ fn list_attributes(list: &mut [u8], records: usize, attrs: &[usize; 80], n: usiz
 
 // The records of n attributes and of their operator, after so many others, and the answer true.
 // Without room for all of them the list stays as it is, and the answer is false.
+// The operator has its tag at `at`, and `size` bytes of data from `first` on.
 pub fn list_operator(
     list: &mut [u8],
     records: usize,

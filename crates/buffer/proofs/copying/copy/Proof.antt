@@ -1,4 +1,5 @@
--- `copy`: after i turns the list is src's first i bytes and the rest. Assumes nothing.
+-- `copy`: after i turns dst is the first i bytes of src and the rest.
+-- Assumes nothing.
 use mathlib.Core.Path.{_≡_, refl}
 use mathlib.Core.List.{_++_}
 use Prim.Native.Nat.{_≤_, _<_, _-_}

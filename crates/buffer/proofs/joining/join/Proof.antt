@@ -12,7 +12,6 @@ use Rattle.buffer.proofs.Parts.{part-back}
 use Rattle.buffer.proofs.joining.join.Statement.{statement}
 use Rattle.buffer.proofs.joining.join.Tie as tie
 
--- src/joining.rt:15:9
 returns : tie.Need-returns
 returns c =
     let a = c .before .before .before .args in
@@ -20,11 +19,9 @@ returns c =
     lt-leb (a .held + length (a .block .now)) (length (a .work .now)) (omega arith) in
     (sym f, refl)
 
--- src/joining.rt:17:8
 sub-if2 : tie.Need-sub-if2
 sub-if2 c = search needs
 
--- src/joining.rt:18:9
 returns-2 : tie.Need-returns-2
 returns-2 c =
     let a = c .before .before .before .before .args in
@@ -32,27 +29,21 @@ returns-2 c =
     lt-leb (a .held + length (a .block .now)) (length (a .work .now)) (omega arith) in
     (sym f, refl)
 
--- src/joining.rt:20:17
 sub-copy : tie.Need-sub-copy
 sub-copy c = search needs
 
--- src/joining.rt:20:17
 part-copy-start : tie.Need-part-copy-start
 part-copy-start c = search needs
 
--- src/joining.rt:20:17
 part-copy-end : tie.Need-part-copy-end
 part-copy-end c = search needs
 
--- src/joining.rt:20:5
 copy-requires : tie.Need-copy-requires
 copy-requires c κs = search needs
 
--- src/joining.rt:10:1
 same-length : tie.Need-same-length
 same-length c = search needs
 
--- src/joining.rt:10:1
 returns-3 : tie.Need-returns-3
 returns-3 c =
     let a = c .before .before .before .before .before .before .before .before .args in

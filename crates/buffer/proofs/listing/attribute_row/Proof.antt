@@ -5,95 +5,72 @@ use Rattle.buffer.proofs.Listed.{attribute-sixteen}
 use Rattle.buffer.proofs.listing.attribute_row.Statement.{statement}
 use Rattle.buffer.proofs.listing.attribute_row.Tie as tie
 
--- src/listing.rt:41:24
 mul-number : tie.Need-mul-number
 mul-number c = search needs
 
--- src/listing.rt:41:18
 mul-number-2 : tie.Need-mul-number-2
 mul-number-2 c = search needs
 
--- src/listing.rt:41:18
 element-copy-out-number : tie.Need-element-copy-out-number
 element-copy-out-number c = search needs
 
--- src/listing.rt:42:21
 mul-tag : tie.Need-mul-tag
 mul-tag c = search needs
 
--- src/listing.rt:42:21
 add-tag : tie.Need-add-tag
 add-tag c = search needs
 
--- src/listing.rt:42:15
 mul-tag-2 : tie.Need-mul-tag-2
 mul-tag-2 c = search needs
 
--- src/listing.rt:42:15
 element-copy-out-tag : tie.Need-element-copy-out-tag
 element-copy-out-tag c = search needs
 
--- src/listing.rt:43:20
 mul-at : tie.Need-mul-at
 mul-at c = search needs
 
--- src/listing.rt:43:20
 add-at : tie.Need-add-at
 add-at c = search needs
 
--- src/listing.rt:43:14
 mul-at-2 : tie.Need-mul-at-2
 mul-at-2 c = search needs
 
--- src/listing.rt:43:14
 element-copy-out-at : tie.Need-element-copy-out-at
 element-copy-out-at c = search needs
 
--- src/listing.rt:44:23
 mul-count : tie.Need-mul-count
 mul-count c = search needs
 
--- src/listing.rt:44:23
 add-count : tie.Need-add-count
 add-count c = search needs
 
--- src/listing.rt:44:17
 mul-count-2 : tie.Need-mul-count-2
 mul-count-2 c = search needs
 
--- src/listing.rt:44:17
 element-copy-out-count : tie.Need-element-copy-out-count
 element-copy-out-count c = search needs
 
--- src/listing.rt:45:23
 mul-first : tie.Need-mul-first
 mul-first c = search needs
 
--- src/listing.rt:45:23
 add-first : tie.Need-add-first
 add-first c = search needs
 
--- src/listing.rt:45:17
 mul-first-2 : tie.Need-mul-first-2
 mul-first-2 c = search needs
 
--- src/listing.rt:45:17
 element-copy-out-first : tie.Need-element-copy-out-first
 element-copy-out-first c = search needs
 
--- src/listing.rt:46:12
 cast-row : tie.Need-cast-row
 cast-row c = search needs
 
--- src/listing.rt:46:34
 cast-row-2 : tie.Need-cast-row-2
 cast-row-2 c = search needs
 
--- src/listing.rt:46:5
 row-requires : tie.Need-row-requires
 row-requires c κs = search needs
 
--- src/listing.rt:37:1
 returns : tie.Need-returns
 returns c =
     let a = c .before .before .before .before .before .before .args in

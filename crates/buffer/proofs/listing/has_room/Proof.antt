@@ -7,23 +7,19 @@ use Rattle.buffer.proofs.Listed.{room-many, room-none, room-left}
 use Rattle.buffer.proofs.listing.has_room.Statement.{statement}
 use Rattle.buffer.proofs.listing.has_room.Tie as tie
 
--- src/listing.rt:70:9
 returns : tie.Need-returns
 returns c =
     let a = c .before .args in
     sym (room-many (a .records) (a .n) (a .bytes) (omega arith))
 
--- src/listing.rt:73:9
 returns-2 : tie.Need-returns-2
 returns-2 c =
     let a = c .before .before .args in
     sym (room-none (a .records) (a .n) (a .bytes) (omega arith) (omega arith))
 
--- src/listing.rt:75:9
 sub-result : tie.Need-sub-result
 sub-result c = search needs
 
--- src/listing.rt:66:1
 returns-3 : tie.Need-returns-3
 returns-3 c =
     let a = c .before .before .args in

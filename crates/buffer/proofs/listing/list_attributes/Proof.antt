@@ -21,38 +21,30 @@ Inv-loop list₀ records attrs n i₀ list i =
 abbrev μ-loop : tie.MeasureT-loop
 μ-loop list₀ records attrs n i₀ list i = n - i
 
--- src/listing.rt:82:5
 loop-holds : tie.Need-loop-holds Inv-loop μ-loop
 unfolding rowsOf rowsFrom lows attributeRecords
 loop-holds c =
     let a = c .before .args in
     (omega arith, refl, sym (over-nil (a .list .now) (a .records * 16)))
 
--- src/listing.rt:83:13
 attribute-row-requires : tie.Need-attribute-row-requires Inv-loop μ-loop
 attribute-row-requires c κs = search needs
 
--- src/listing.rt:84:20
 add-put : tie.Need-add-put Inv-loop μ-loop
 add-put c = search needs
 
--- src/listing.rt:84:19
 mul-put : tie.Need-mul-put Inv-loop μ-loop
 mul-put c = search needs
 
--- src/listing.rt:84:9
 put-requires : tie.Need-put-requires Inv-loop μ-loop
 put-requires c κs = search needs
 
--- src/listing.rt:85:9
 add-i : tie.Need-add-i Inv-loop μ-loop
 add-i c = search needs
 
--- src/listing.rt:82:5
 loop-less : tie.Need-loop-less Inv-loop μ-loop
 loop-less c = search needs
 
--- src/listing.rt:82:5
 loop-again : tie.Need-loop-again Inv-loop μ-loop
 loop-again c =
     let a = c .before .before .before .before .before .before .before .before .args in
@@ -62,11 +54,9 @@ loop-again c =
     let h : (a .records + suc (l .i)) * 16 ≤ length (a .list .now) = omega arith in
     (omega arith, omega arith, p .ensures ∙ attribute-more (a .list .now) (l .list) (a .attrs .now) (q .result) (a .records) (l .i) h (l .inv .2) (q .ensures))
 
--- src/listing.rt:76:1
 same-length : tie.Need-same-length Inv-loop μ-loop
 same-length c = search needs
 
--- src/listing.rt:76:1
 returns : tie.Need-returns Inv-loop μ-loop
 returns c =
     let l = c .before .loop in

@@ -22,11 +22,9 @@ room c =
     let a = c .before .before .before .args in
     room-is (a .records) (a .n) (length (a .list .now)) (sym (c .before .has-room .ensures) ∙ not-false _ (c .if1 .left))
 
--- src/listing.rt:102:9
 has-room-requires : tie.Need-has-room-requires
 has-room-requires c κs = search needs
 
--- src/listing.rt:103:9
 returns : tie.Need-returns
 returns c =
     let a = c .before .before .before .args in
@@ -34,31 +32,24 @@ returns c =
     let e : false ≡ roomFor (a .records) (a .n) (length l) = sym (not-true _ (c .if1 .taken)) ∙ c .before .has-room .ensures in
     (refl, (listed-whole l l (a .attrs .now) (a .records) (a .n) (a .tag) (a .at) (a .size) (a .first) false e refl, (e, refl)))
 
--- src/listing.rt:105:5
 list-attributes-requires : tie.Need-list-attributes-requires
 list-attributes-requires c κs = let h = room (c .before) in (omega arith, omega arith)
 
--- src/listing.rt:106:9
 operator-row-requires : tie.Need-operator-row-requires
 operator-row-requires c κs = let h = room (c .before .before .before .before) in omega arith
 
--- src/listing.rt:107:16
 add-put : tie.Need-add-put
 add-put c = let h = room (c .before .before .before .before .before .before) in omega arith
 
--- src/listing.rt:107:15
 mul-put : tie.Need-mul-put
 mul-put c = let h = room (c .before .before .before .before .before .before) in omega arith
 
--- src/listing.rt:107:5
 put-requires : tie.Need-put-requires
 put-requires c κs = let h = room (c .before .before .before .before .before .before) in omega arith
 
--- src/listing.rt:94:1
 same-length : tie.Need-same-length
 same-length c = search needs
 
--- src/listing.rt:94:1
 returns-2 : tie.Need-returns-2
 returns-2 c =
     let k = c .before .before .before .before .before .before .before .before .before in

@@ -6,31 +6,24 @@ use Rattle.buffer.proofs.Parts.{part-back}
 use Rattle.buffer.proofs.listing.put.Statement.{statement}
 use Rattle.buffer.proofs.listing.put.Tie as tie
 
--- src/listing.rt:62:10
 slice-aggregate-copy : tie.Need-slice-aggregate-copy
 slice-aggregate-copy c = search needs
 
--- src/listing.rt:62:18
 sub-copy : tie.Need-sub-copy
 sub-copy c = search needs
 
--- src/listing.rt:62:18
 part-copy-start : tie.Need-part-copy-start
 part-copy-start c = search needs
 
--- src/listing.rt:62:18
 part-copy-end : tie.Need-part-copy-end
 part-copy-end c = search needs
 
--- src/listing.rt:62:5
 copy-requires : tie.Need-copy-requires
 copy-requires c κs = search needs
 
--- src/listing.rt:58:1
 same-length : tie.Need-same-length
 same-length c = search needs
 
--- src/listing.rt:58:1
 returns : tie.Need-returns
 returns c =
     let a = c .before .before .before .before .before .before .args in

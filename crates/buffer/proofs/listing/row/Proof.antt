@@ -7,55 +7,42 @@ use Rattle.buffer.specs.Listed.{sixteen}
 use Rattle.buffer.proofs.listing.row.Statement.{statement}
 use Rattle.buffer.proofs.listing.row.Tie as tie
 
--- src/listing.rt:21:9
 cast-t9 : tie.Need-cast-t9
 cast-t9 c = search needs
 
--- src/listing.rt:22:9
 cast-t12 : tie.Need-cast-t12
 cast-t12 c = search needs
 
--- src/listing.rt:23:9
 cast-t15 : tie.Need-cast-t15
 cast-t15 c = search needs
 
--- src/listing.rt:24:9
 cast-t18 : tie.Need-cast-t18
 cast-t18 c = search needs
 
--- src/listing.rt:25:9
 cast-t20 : tie.Need-cast-t20
 cast-t20 c = search needs
 
--- src/listing.rt:26:9
 cast-t23 : tie.Need-cast-t23
 cast-t23 c = search needs
 
--- src/listing.rt:27:9
 cast-t26 : tie.Need-cast-t26
 cast-t26 c = search needs
 
--- src/listing.rt:28:9
 cast-t29 : tie.Need-cast-t29
 cast-t29 c = search needs
 
--- src/listing.rt:29:9
 cast-t31 : tie.Need-cast-t31
 cast-t31 c = search needs
 
--- src/listing.rt:30:9
 cast-t34 : tie.Need-cast-t34
 cast-t34 c = search needs
 
--- src/listing.rt:31:9
 cast-t37 : tie.Need-cast-t37
 cast-t37 c = search needs
 
--- src/listing.rt:32:9
 cast-t40 : tie.Need-cast-t40
 cast-t40 c = search needs
 
--- src/listing.rt:13:1
 returns : tie.Need-returns
 unfolding sixteen four
 returns c = refl
