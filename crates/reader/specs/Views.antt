@@ -1,6 +1,6 @@
 -- What the code's phases, contexts, operators and answers say in 01's words.
 -- Assumes nothing.
-use Prim.Native.Nat.{ℕ}
+use Prim.Native.Nat.{ℕ, _+_, _≤_, _<_}
 use mathlib.Core.Bool.{Bool}
 use mathlib.Core.List.{List}
 use Rattle.scope.specs.Choice.{pick}
@@ -40,3 +40,8 @@ dueAs Code-due.the-variants.Nothing = Def.none
 -- a line reads its points, if it has NumberOfPoints
 unfoldable pub pointsDue : Bool → List ℕ → List Attribute → Def.Due
 pointsDue high s l = pick (has 77 l) (Def.reads (Def.pointBytes (valueIn high s l 80) (valueIn high s l 77))) Def.none
+
+-- data that was found begins past p and ends within the bytes
+abbrev pub Placed : (len p due : ℕ) → Code-found.Found → Type 0
+Placed len p due (Code-found.the-variants.At first) = (p < first) × (first + due ≤ len)
+Placed len p due (Code-found.the-variants.No code place) = Unit {0}

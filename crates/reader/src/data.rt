@@ -4,7 +4,7 @@ ghost use Prim.Native.Nat.{ℕ, _+_, _^_, _≤_, _<_};
 ghost use lib.ListN.{length};
 ghost use Rattle.wire.specs.Widths.{bytesOf};
 ghost use Rattle.scope.specs.Data.{blockOf, blockAt};
-ghost use Rattle.reader.specs.Views.{foundAs};
+ghost use Rattle.reader.specs.Views.{foundAs, Placed};
 use wire::Width;
 
 // The place of the first data byte, or a code and a place.
@@ -17,6 +17,7 @@ pub enum Found {
 fn block_of(s: &[u8], high: bool, op: usize, due: usize, p: usize, n: usize, width: Width) -> Found
     requires { ⌜ (p < length (now s)) × (n ≤ 4) × (n ≡ bytesOf width) ⌝ }
     ensures { λ r. ⌜ foundAs r ≡ blockOf high (now (s .entry)) op due p n ⌝ }
+    ensures { λ r. ⌜ Placed (length (now (s .entry))) p due r ⌝ }
 {
     let first = p + 1 + n;
     if s.len() < first {
@@ -35,6 +36,7 @@ fn block_of(s: &[u8], high: bool, op: usize, due: usize, p: usize, n: usize, wid
 // The data of the operator at op, at a place that is not white.
 pub fn block_at(s: &[u8], high: bool, op: usize, due: usize, p: usize) -> Found
     ensures { λ r. ⌜ foundAs r ≡ blockAt high (now (s .entry)) op due p ⌝ }
+    ensures { λ r. ⌜ Placed (length (now (s .entry))) p due r ⌝ }
 {
     if s.len() <= p {
         return Found::No(27, s.len());

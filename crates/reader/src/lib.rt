@@ -2,13 +2,12 @@
 mod data;
 mod due;
 mod order;
+mod reading;
 
-pub use data::block_at;
-pub use data::Found;
-pub use due::due_of;
 pub use due::row_of;
-pub use due::rows_fit;
-pub use due::Due;
 pub use order::may_come;
 pub use order::Image;
 pub use order::Phase;
+pub use reading::Context;
+pub use reading::Operator;
+pub use reading::Read;

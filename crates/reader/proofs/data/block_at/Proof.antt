@@ -10,8 +10,7 @@ use Rattle.reader.proofs.data.block_of.Reads as block-of-reads
 -- src/data.rt:40:9
 returns : tie.Need-returns
 unfolding blockAt
-returns c =
-    simp (le-leb _ _ (c .if1 .taken))
+returns c = (simp (le-leb _ _ (c .if1 .taken)), tt)
 
 -- src/data.rt:42:13
 shared-slice-read-b : tie.Need-shared-slice-read-b
@@ -40,8 +39,7 @@ returns-3 c =
 -- src/data.rt:36:1
 returns-4 : tie.Need-returns-4
 unfolding blockAt
-returns-4 c =
-    rw (lt-leb _ _ (c .before .before .before .if1 .left), ne-eqb _ _ (c .before .if2 .left), ne-eqb _ _ (c .if3 .left))
+returns-4 c = (rw (lt-leb _ _ (c .before .before .before .if1 .left), ne-eqb _ _ (c .before .if2 .left), ne-eqb _ _ (c .if3 .left)), tt)
 
 pub block-at-spec : {M : Type 1} → statement M
 block-at-spec =

@@ -1,3 +1,4 @@
+use native.Mathlib.Omega.{arith}
 use mathlib.Core.Path.{_≡_, sym, ap, _∙_}
 use Prim.Native.Nat.{_+_}
 use Rattle.scope.specs.Number.{number}
@@ -21,7 +22,7 @@ add-first-2 c = search needs
 returns : tie.Need-returns
 returns c =
     let a = c .before .before .args in
-    sym (cut (a .high) (a .s .now) (a .op) (a .due) (a .p) (a .n) (c .if1 .taken))
+    (sym (cut (a .high) (a .s .now) (a .op) (a .due) (a .p) (a .n) (c .if1 .taken)), tt)
 
 -- src/data.rt:25:35
 add-number-at : tie.Need-add-number-at
@@ -46,7 +47,7 @@ told c =
 returns-2 : tie.Need-returns-2
 returns-2 c =
     let a = c .before .before .before .before .args in
-    sym (other (a .high) (a .s .now) (a .op) (a .due) (a .p) (a .n) (c .before .before .if1 .left) (λ e. c .if2 .taken (told (c .before) ∙ e)))
+    (sym (other (a .high) (a .s .now) (a .op) (a .due) (a .p) (a .n) (c .before .before .if1 .left) (λ e. c .if2 .taken (told (c .before) ∙ e))), tt)
 
 -- src/data.rt:29:8
 sub-if3 : tie.Need-sub-if3
@@ -56,13 +57,13 @@ sub-if3 c = search needs
 returns-3 : tie.Need-returns-3
 returns-3 c =
     let a = c .before .before .before .before .before .args in
-    sym (short (a .high) (a .s .now) (a .op) (a .due) (a .p) (a .n) (c .before .before .before .if1 .left) (sym (told (c .before .before)) ∙ c .before .if2 .left) (c .if3 .taken))
+    (sym (short (a .high) (a .s .now) (a .op) (a .due) (a .p) (a .n) (c .before .before .before .if1 .left) (sym (told (c .before .before)) ∙ c .before .if2 .left) (c .if3 .taken)), tt)
 
 -- src/data.rt:17:1
 returns-4 : tie.Need-returns-4
 returns-4 c =
     let a = c .before .before .before .before .before .args in
-    sym (there (a .high) (a .s .now) (a .op) (a .due) (a .p) (a .n) (c .before .before .before .if1 .left) (sym (told (c .before .before)) ∙ c .before .if2 .left) (c .if3 .left))
+    (sym (there (a .high) (a .s .now) (a .op) (a .due) (a .p) (a .n) (c .before .before .before .if1 .left) (sym (told (c .before .before)) ∙ c .before .if2 .left) (c .if3 .left)), (omega arith, omega arith))
 
 pub block-of-spec : {M : Type 1} → statement M
 block-of-spec =

@@ -1,0 +1,130 @@
+// The next operator from a place on, for a job and for a motif.
+ghost use mathlib.Core.Path.{_≡_};
+ghost use Prim.Native.Nat.{ℕ, suc, _+_, _^_, _≤_, _<_};
+ghost use mathlib.Core.List.{List};
+ghost use mathlib.Core.Bool.{_&&_, not};
+ghost use lib.ListN.{length};
+ghost use Rattle.wire.specs.Rows.{rowsOf, Sized};
+ghost use Rattle.scope.specs.Order.{imageOf};
+ghost use Rattle.scope.specs.Reading.{withBlock, withData, asWhole};
+ghost use Rattle.scope.specs.Data.{reads};
+ghost use Rattle.reader.specs.Views.{phaseAs, imageAs, dueAs, foundAs, Placed};
+ghost use Rattle.reader.specs.Reads.{contextAs, readAs, Within};
+use crate::data::block_at;
+use crate::data::Found;
+use crate::due::due_of;
+use crate::due::rows_fit;
+use crate::due::Due;
+use crate::order::Image;
+use crate::order::Phase;
+
+// What reading has to know: the byte order, the phase, whether the source is open, and whether 17 is judged.
+pub struct Context {
+    pub high: bool,
+    pub phase: Phase,
+    pub opened: bool,
+    pub asked: bool,
+}
+
+// An operator: its tag and the tag's place, the number of its attributes, whether it reads data, the data (0 and 0 if it reads none), the place after it.
+pub struct Operator {
+    pub tag: u8,
+    pub at: usize,
+    pub count: usize,
+    pub reads: bool,
+    pub length: usize,
+    pub first: usize,
+    pub next: usize,
+}
+
+// An operator, the end of the bytes, or a code and a place.
+pub enum Read {
+    Operator(Operator),
+    Ended,
+    No(u32, usize),
+}
+
+fn lacks(need: bool, has: bool) -> bool
+    ensures { λ r. ⌜ r ≡ (need && not has) ⌝ }
+{
+    if need { !has } else { false }
+}
+
+// The image of a phase; one without rows where there is none.
+fn image_of(phase: Phase) -> Image
+    ensures { λ r. ⌜ imageAs r ≡ imageOf (phaseAs phase) ⌝ }
+{
+    let none = Image {
+        width: 0,
+        depth: 0,
+        height: 0,
+        rows: 0,
+    };
+    match phase {
+        Phase::BetweenSessions => none,
+        Phase::InSession => none,
+        Phase::InStream => none,
+        Phase::InPage(_) => none,
+        Phase::InMotif(_) => none,
+        Phase::InImage(image) => image,
+    }
+}
+
+// The operator, where its data was found.
+fn with_block(len: usize, tag: u8, at: usize, n: usize, due: usize, found: Found) -> Read
+    requires { ⌜ (Placed len at due found) × (len < 2 ^ 63) × (n ≤ 16) ⌝ }
+    ensures { λ r. ⌜ ((attrs : List ℕ) → readAs r attrs ≡ withBlock tag at (rowsOf attrs n) due (foundAs found)) ⌝ }
+    ensures { λ r. ⌜ Within len at r ⌝ }
+{
+    match found {
+        Found::At(first) => Read::Operator(Operator {
+            tag,
+            at,
+            count: n,
+            reads: true,
+            length: due,
+            first,
+            next: first + due,
+        }),
+        Found::No(code, place) => Read::No(code, place),
+    }
+}
+
+// An operator that reads so much data: 17, then the data.
+fn with_data(c: Context, s: &[u8], tag: u8, at: usize, n: usize, due: usize) -> Read
+    requires { ⌜ (at < length (now s)) × (n ≤ 16) ⌝ }
+    ensures { λ r. ⌜ ((attrs : List ℕ) → readAs r attrs ≡ withData (contextAs c) (now (s .entry)) tag at (rowsOf attrs n) (reads due)) ⌝ }
+    ensures { λ r. ⌜ Within (length (now (s .entry))) at r ⌝ }
+{
+    if lacks(c.asked, c.opened) {
+        return Read::No(17, at);
+    }
+    let p = wire::after_white(s, at + 1);
+    let found = block_at(s, c.high, at, due, p);
+    with_block(s.len(), tag, at, n, due, found)
+}
+
+// 14 for rows, then how much data is due.
+fn with_rows(c: Context, s: &[u8], tag: u8, at: usize, attrs: &[usize; 80], n: usize) -> Read
+    requires { ⌜ (at < length (now s)) × (n ≤ 16) ⌝ }
+    ensures { λ r. ⌜ (Sized (now (attrs .entry)) n → readAs r (now (attrs .entry)) ≡ asWhole (contextAs c) (now (s .entry)) tag at (rowsOf (now (attrs .entry)) n) 0) ⌝ }
+    ensures { λ r. ⌜ Within (length (now (s .entry))) at r ⌝ }
+{
+    let phase = c.phase;
+    let image = image_of(phase);
+    if !rows_fit(s, c.high, image, tag, attrs, n) {
+        return Read::No(14, at);
+    }
+    match due_of(s, c.high, image, tag, attrs, n) {
+        Due::Reads(due) => with_data(c, s, tag, at, n, due),
+        Due::Nothing => Read::Operator(Operator {
+            tag,
+            at,
+            count: n,
+            reads: false,
+            length: 0,
+            first: 0,
+            next: at + 1,
+        }),
+    }
+}
