@@ -1,6 +1,8 @@
 // Reading the bytes of a job or a motif: numbers, white space, headers, and the items before an operator's tag.
 mod header;
 mod number;
+mod pair;
+mod value;
 mod white;
 
 pub use header::header_of;
