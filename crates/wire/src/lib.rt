@@ -2,6 +2,7 @@
 mod header;
 mod number;
 mod pair;
+mod scan;
 mod value;
 mod white;
 
@@ -10,5 +11,7 @@ pub use header::Header;
 pub use number::byte_at;
 pub use number::number_at;
 pub use number::Width;
+pub use scan::scan_at;
+pub use scan::Scan;
 pub use white::after_white;
 pub use white::is_white;
