@@ -5,11 +5,11 @@ ghost use lib.ListN.{length, getD};
 ghost use Rattle.scope.specs.Item.{numbered, numberAt, pairAt};
 ghost use Rattle.wire.specs.Widths.{bytesOf};
 ghost use Rattle.wire.specs.Values.{pairAs};
+use crate::number::Width;
 use crate::number::bytes_of;
 use crate::number::number_at;
-use crate::number::Width;
-use crate::value::value_at;
 use crate::value::Value;
+use crate::value::value_at;
 use crate::white::after_white;
 
 // The attribute's number, how many numbers its value has, the place of the first, and the place after the pair; a refusal; or the
@@ -21,7 +21,15 @@ pub enum Pair {
 }
 
 // The attribute number of a width, whose tag stands at p.
-fn numbered_at(s: &[u8], at: usize, count: usize, first: usize, p: usize, width: Width, high: bool) -> Pair
+fn numbered_at(
+    s: &[u8],
+    at: usize,
+    count: usize,
+    first: usize,
+    p: usize,
+    width: Width,
+    high: bool,
+) -> Pair
     requires { ⌜ p < length (now s) ⌝ }
     ensures { λ r. ⌜ pairAs (getD (now (s .entry)) at 0) at r ≡ numbered high (now (s .entry)) at count first p (bytesOf width) ⌝ }
 {

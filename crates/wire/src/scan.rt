@@ -6,8 +6,8 @@ ghost use lib.ListN.{length};
 ghost use Rattle.scope.specs.Item.{endedWith, scanAt};
 ghost use Rattle.wire.specs.Rows.{rowsOf, withRow};
 ghost use Rattle.wire.specs.Scans.{scanAs, Within};
-use crate::pair::pair_at;
 use crate::pair::Pair;
+use crate::pair::pair_at;
 use crate::white::between;
 use crate::white::is_white;
 

@@ -5,9 +5,9 @@ ghost use lib.ListN.{length, getD};
 ghost use Rattle.scope.specs.Item.{widthOf, kindOf, numbersAt, elementsAt, countedAt, arrayAt, valueOf};
 ghost use Rattle.wire.specs.Widths.{bytesOf};
 ghost use Rattle.wire.specs.Values.{kindAs, KindFits, valueAs};
+use crate::number::Width;
 use crate::number::bytes_of;
 use crate::number::number_at;
-use crate::number::Width;
 use crate::white::between;
 
 // What a value's tag starts: so many numbers of so many bytes, an array of numbers of so many bytes; or it is no value's tag.
@@ -36,6 +36,7 @@ fn width_of(k: u8) -> usize
     }
 }
 
+// What a tag starts.
 fn kind_of(t: u8) -> Kind
     ensures { λ r. ⌜ kindAs r ≡ kindOf t ⌝ }
     ensures { λ r. ⌜ KindFits r ⌝ }

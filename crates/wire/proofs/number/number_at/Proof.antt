@@ -9,25 +9,20 @@ use Rattle.wire.proofs.number.number_at.Lts as lts
 use Rattle.wire.proofs.number.bytes_of.Reads as bytes-of-reads
 use Rattle.wire.proofs.number.value.Reads as value-reads
 
--- src/number.rt:70:9
 returns : tie.Need-returns
 returns c =
     let a = c .before .before .args in
     sym (past (a .high) (bytesOf (a .width)) (a .s .now) (a .at) (c .if1 .taken))
 
--- src/number.rt:72:9
 bytes-of-requires : tie.Need-bytes-of-requires
 bytes-of-requires c κs = search needs
 
--- src/number.rt:73:5
 value-requires : tie.Need-value-requires
 value-requires c κs = search needs
 
--- src/number.rt:73:5
 cast-result : tie.Need-cast-result
 cast-result c = search needs
 
--- src/number.rt:66:1
 returns-2 : tie.Need-returns-2
 returns-2 c = cc
 

@@ -7,36 +7,29 @@ use Rattle.wire.proofs.pair.after_value.Reads as reads
 use Rattle.wire.proofs.pair.after_value.Lts as lts
 use Rattle.wire.proofs.pair.numbered_at.Reads as numbered-at-reads
 
--- src/pair.rt:41:9
 returns : tie.Need-returns
 unfolding numberAt
 returns c = simp (le-leb _ _ (c .if1 .taken))
 
--- src/pair.rt:43:13
 shared-slice-read-b : tie.Need-shared-slice-read-b
 shared-slice-read-b c = search needs
 
--- src/pair.rt:45:9
 numbered-at-requires : tie.Need-numbered-at-requires
 numbered-at-requires c κs = search needs
 
--- src/pair.rt:45:9
 returns-2 : tie.Need-returns-2
 unfolding numberAt
 returns-2 c =
     simp (lt-leb _ _ (c .before .before .before .if1 .left), eq-eqb _ _ (c .before .if2 .taken)) (c .numbered-at .ensures)
 
--- src/pair.rt:48:9
 numbered-at-requires-2 : tie.Need-numbered-at-requires-2
 numbered-at-requires-2 c κs = search needs
 
--- src/pair.rt:48:9
 returns-3 : tie.Need-returns-3
 unfolding numberAt
 returns-3 c =
     simp (lt-leb _ _ (c .before .before .before .before .if1 .left), ne-eqb _ _ (c .before .before .if2 .left), eq-eqb _ _ (c .before .if3 .taken)) (c .numbered-at2 .ensures)
 
--- src/pair.rt:37:1
 returns-4 : tie.Need-returns-4
 unfolding numberAt
 returns-4 c =

@@ -12,19 +12,15 @@ use Rattle.wire.proofs.pair.numbered_at.Lts as lts
 use Rattle.wire.proofs.number.bytes_of.Reads as bytes-of-reads
 use Rattle.wire.proofs.number.number_at.Reads as number-at-reads
 
--- src/pair.rt:28:16
 add-next : tie.Need-add-next
 add-next c = search needs
 
--- src/pair.rt:28:24
 bytes-of-requires : tie.Need-bytes-of-requires
 bytes-of-requires c κs = search needs
 
--- src/pair.rt:28:16
 add-next-2 : tie.Need-add-next-2
 add-next-2 c = search needs
 
--- src/pair.rt:30:9
 returns : tie.Need-returns
 unfolding numbered
 returns c =
@@ -32,15 +28,12 @@ returns c =
     let h : length (a .s .now) < a .p + 1 + bytesOf (a .width) = omega arith in
     simp (lt-leb _ _ h)
 
--- src/pair.rt:32:31
 add-number-at : tie.Need-add-number-at
 add-number-at c = search needs
 
--- src/pair.rt:32:9
 number-at-requires : tie.Need-number-at-requires
 number-at-requires c κs = search needs
 
--- src/pair.rt:24:1
 returns-2 : tie.Need-returns-2
 unfolding numbered
 returns-2 c =

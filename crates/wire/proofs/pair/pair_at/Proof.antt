@@ -10,34 +10,27 @@ use Rattle.wire.proofs.pair.after_value.Reads as after-value-reads
 use Rattle.wire.proofs.value.value_at.Reads as value-at-reads
 use Rattle.wire.proofs.white.after_white.Reads as after-white-reads
 
--- src/pair.rt:57:11
 value-at-requires : tie.Need-value-at-requires
 value-at-requires c κs = search needs
 
--- src/pair.rt:58:19
 enum-known-count : tie.Need-enum-known-count
 enum-known-count c = search needs
 
--- src/pair.rt:59:46
 after-white-requires : tie.Need-after-white-requires
 after-white-requires c κs = search needs
 
--- src/pair.rt:59:13
 after-value-requires : tie.Need-after-value-requires
 after-value-requires c κs = search needs
 
--- src/pair.rt:61:19
 enum-known-code : tie.Need-enum-known-code
 enum-known-code c = search needs
 
--- src/pair.rt:54:1
 returns : tie.Need-returns
 unfolding pairAt pairOf
 returns c =
     let k = c .before .before .before in
     rw (sym (k .before .before .value-at .ensures) ∙ ap valueAs (k .count .given .1), ← c .before .after-white .ensures) (c .after-value .ensures)
 
--- src/pair.rt:54:1
 returns-2 : tie.Need-returns-2
 unfolding pairAt pairOf
 returns-2 c = rw (sym (c .before .before .before .value-at .ensures) ∙ ap valueAs (c .before .code .given .1))

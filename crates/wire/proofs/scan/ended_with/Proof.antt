@@ -6,13 +6,11 @@ use Rattle.wire.proofs.scan.ended_with.Tie as tie
 use Rattle.wire.proofs.scan.ended_with.Reads as reads
 use Rattle.wire.proofs.scan.ended_with.Lts as lts
 
--- src/scan.rt:27:9
 returns : tie.Need-returns
 returns c =
     let a = c .before .args in
     (λ l. sym (ended-none l (a .s .now) (a .n) (c .if1 .taken)), λ _. tt)
 
--- src/scan.rt:22:1
 returns-2 : tie.Need-returns-2
 returns-2 c =
     let a = c .before .args in

@@ -1,3 +1,4 @@
+-- Both invariants say that the scan from here on is the scan from the start: past the white space, and with the attributes stored.
 use Rattle.wire.specs.Rows.{withRow}
 -- Both invariants say that the scan from here on is the scan from the start: the inner loop's that the white space passed does not
 -- matter, the outer loop's with the attributes stored so far.
@@ -98,75 +99,59 @@ room c =
     let k = c .before .before in
     let w = W (T k) in
     let g = pair-read (H (w .before)) (S (w .before)) (w .white .at) (w .before .pairs .n) _ _
-        (sym (k .pair-at .ensures) ∙ ap (pairAs (getD (S (w .before)) (w .white .at) 0) (w .white .at)) (c .number .given .1)) in
+    (sym (k .pair-at .ensures) ∙ ap (pairAs (getD (S (w .before)) (w .white .at) 0) (w .white .at)) (c .number .given .1)) in
     (omega arith, g .1, g .2)
 
--- src/scan.rt:62:5
 pairs-holds : tie.Need-pairs-holds Inv-white μ-white Inv-pairs μ-pairs
 unfolding rowsOf rowsFrom scanAt
 pairs-holds c = (omega arith, refl, omega arith, λ _. refl)
 
--- src/scan.rt:63:9
 white-holds : tie.Need-white-holds Inv-white μ-white Inv-pairs μ-pairs
 white-holds c = search needs
 
--- src/scan.rt:65:17
 ended-with-requires : tie.Need-ended-with-requires Inv-white μ-white Inv-pairs μ-pairs
 ended-with-requires c κs = search needs
 
--- src/scan.rt:68:26
 shared-slice-read-is-white :
     tie.Need-shared-slice-read-is-white Inv-white μ-white Inv-pairs μ-pairs
 shared-slice-read-is-white c = search needs
 
--- src/scan.rt:68:17
 is-white-requires : tie.Need-is-white-requires Inv-white μ-white Inv-pairs μ-pairs
 is-white-requires c κs = search needs
 
--- src/scan.rt:71:13
 add-at : tie.Need-add-at Inv-white μ-white Inv-pairs μ-pairs
 add-at c = search needs
 
--- src/scan.rt:63:9
 white-less : tie.Need-white-less Inv-white μ-white Inv-pairs μ-pairs
 white-less c = search needs
 
--- src/scan.rt:63:9
 white-again : tie.Need-white-again Inv-white μ-white Inv-pairs μ-pairs
 white-again c =
     let w = c .before .before .before .before in
     let h : white (getD (S (w .before)) (w .white .at) 0) ≡ true = sym (c .before .is-white .ensures) ∙ not-false _ (c .if2 .left) in
     (omega arith, sym (scan-white (H (w .before)) (S (w .before)) (w .white .at) (L (w .before)) (c .before .before .before .if1 .left) h) ∙ w .white .inv .1)
 
--- src/scan.rt:73:17
 shared-slice-read-b : tie.Need-shared-slice-read-b Inv-white μ-white Inv-pairs μ-pairs
 shared-slice-read-b c = search needs
 
--- src/scan.rt:74:12
 between-requires : tie.Need-between-requires Inv-white μ-white Inv-pairs μ-pairs
 between-requires c κs = search needs
 
--- src/scan.rt:78:15
 pair-at-requires : tie.Need-pair-at-requires Inv-white μ-white Inv-pairs μ-pairs
 pair-at-requires c κs = search needs
 
--- src/scan.rt:79:22
 enum-known-number : tie.Need-enum-known-number Inv-white μ-white Inv-pairs μ-pairs
 enum-known-number c = search needs
 
--- src/scan.rt:80:17
 store-requires : tie.Need-store-requires Inv-white μ-white Inv-pairs μ-pairs
 store-requires c κs = room (c .before .before) .2
 
--- src/scan.rt:81:17
 add-n : tie.Need-add-n Inv-white μ-white Inv-pairs μ-pairs
 add-n c = search needs
 
--- src/scan.rt:62:5
 pairs-less : tie.Need-pairs-less Inv-white μ-white Inv-pairs μ-pairs
 pairs-less c = let r = room (c .before .before .before) in omega arith
 
--- src/scan.rt:62:5
 pairs-again : tie.Need-pairs-again Inv-white μ-white Inv-pairs μ-pairs
 unfolding onPair
 pairs-again c =
@@ -182,20 +167,17 @@ pairs-again c =
       ap length e ∙ length-stored (p .attrs) (p .n) (g .0) b (w .white .at) (g .1 .0) (g .1 .1 .0) ∙ p .inv .1,
       omega arith,
       λ z.
-        let h : p .n * 5 + 4 < length (p .attrs) = omega arith in
-        rw (e, add-one, rows-stored (p .attrs) (p .n) (g .0) b (w .white .at) (g .1 .0) (g .1 .1 .0) h)
-        (onto k z _ (ap (pairAs b (w .white .at)) (m .number .given .1))),
+          let h : p .n * 5 + 4 < length (p .attrs) = omega arith in
+          rw (e, add-one, rows-stored (p .attrs) (p .n) (g .0) b (w .white .at) (g .1 .0) (g .1 .1 .0) h)
+          (onto k z _ (ap (pairAs b (w .white .at)) (m .number .given .1))),
     )
 
--- src/scan.rt:84:22
 enum-known-code : tie.Need-enum-known-code Inv-white μ-white Inv-pairs μ-pairs
 enum-known-code c = search needs
 
--- src/scan.rt:89:36
 enum-told : tie.Need-enum-told Inv-white μ-white Inv-pairs μ-pairs
 enum-told c = search needs
 
--- src/scan.rt:54:1
 returns : tie.Need-returns Inv-white μ-white Inv-pairs μ-pairs
 returns c =
     let w = c .before .before in
@@ -207,7 +189,6 @@ returns c =
       ),
     )
 
--- src/scan.rt:54:1
 returns-2 : tie.Need-returns-2 Inv-white μ-white Inv-pairs μ-pairs
 returns-2 c =
     let k = c .before .before .before in
@@ -221,7 +202,6 @@ returns-2 c =
       ),
     )
 
--- src/scan.rt:54:1
 returns-3 : tie.Need-returns-3 Inv-white μ-white Inv-pairs μ-pairs
 unfolding onPair
 returns-3 c =
@@ -229,7 +209,6 @@ returns-3 c =
     let w = W (T k) in
     (w .before .pairs .inv .1, (λ z. onto k z _ (ap (pairAs (getD (S (w .before)) (w .white .at) 0) (w .white .at)) (c .before .code .given .1)), tt))
 
--- src/scan.rt:54:1
 returns-4 : tie.Need-returns-4 Inv-white μ-white Inv-pairs μ-pairs
 unfolding onPair
 returns-4 c =

@@ -5,67 +5,51 @@ use Rattle.wire.proofs.scan.store.Tie as tie
 use Rattle.wire.proofs.scan.store.Reads as reads
 use Rattle.wire.proofs.scan.store.Lts as lts
 
--- src/scan.rt:45:13
 mul-i : tie.Need-mul-i
 mul-i c = search needs
 
--- src/scan.rt:46:5
 mul-attrs : tie.Need-mul-attrs
 mul-attrs c = search needs
 
--- src/scan.rt:46:5
 element-write-attrs : tie.Need-element-write-attrs
 element-write-attrs c = search needs
 
--- src/scan.rt:47:11
 add-attrs : tie.Need-add-attrs
 add-attrs c = search needs
 
--- src/scan.rt:47:5
 mul-attrs-2 : tie.Need-mul-attrs-2
 mul-attrs-2 c = search needs
 
--- src/scan.rt:47:5
 element-write-attrs-2 : tie.Need-element-write-attrs-2
 element-write-attrs-2 c = search needs
 
--- src/scan.rt:48:11
 add-attrs-2 : tie.Need-add-attrs-2
 add-attrs-2 c = search needs
 
--- src/scan.rt:48:5
 mul-attrs-3 : tie.Need-mul-attrs-3
 mul-attrs-3 c = search needs
 
--- src/scan.rt:48:5
 element-write-attrs-3 : tie.Need-element-write-attrs-3
 element-write-attrs-3 c = search needs
 
--- src/scan.rt:49:11
 add-attrs-3 : tie.Need-add-attrs-3
 add-attrs-3 c = search needs
 
--- src/scan.rt:49:5
 mul-attrs-4 : tie.Need-mul-attrs-4
 mul-attrs-4 c = search needs
 
--- src/scan.rt:49:5
 element-write-attrs-4 : tie.Need-element-write-attrs-4
 element-write-attrs-4 c = search needs
 
--- src/scan.rt:50:11
 add-attrs-4 : tie.Need-add-attrs-4
 add-attrs-4 c = search needs
 
--- src/scan.rt:50:5
 mul-attrs-5 : tie.Need-mul-attrs-5
 mul-attrs-5 c = search needs
 
--- src/scan.rt:50:5
 element-write-attrs-5 : tie.Need-element-write-attrs-5
 element-write-attrs-5 c = search needs
 
--- src/scan.rt:33:1
 returns : tie.Need-returns
 unfolding withRow
 returns c = search needs

@@ -7,40 +7,32 @@ use Rattle.wire.proofs.value.array_at.Reads as reads
 use Rattle.wire.proofs.value.array_at.Lts as lts
 use Rattle.wire.proofs.value.counted_at.Reads as counted-at-reads
 
--- src/value.rt:100:13
 add-i : tie.Need-add-i
 add-i c = search needs
 
--- src/value.rt:102:9
 returns : tie.Need-returns
 unfolding arrayAt
 returns c = simp (le-leb _ _ (c .if1 .taken))
 
--- src/value.rt:104:13
 shared-slice-read-b : tie.Need-shared-slice-read-b
 shared-slice-read-b c = search needs
 
--- src/value.rt:106:9
 counted-at-requires : tie.Need-counted-at-requires
 counted-at-requires c κs = search needs
 
--- src/value.rt:106:9
 returns-2 : tie.Need-returns-2
 unfolding arrayAt
 returns-2 c =
     simp (lt-leb _ _ (c .before .before .before .if1 .left), eq-eqb _ _ (c .before .if2 .taken)) (c .counted-at .ensures)
 
--- src/value.rt:109:9
 counted-at-requires-2 : tie.Need-counted-at-requires-2
 counted-at-requires-2 c κs = search needs
 
--- src/value.rt:109:9
 returns-3 : tie.Need-returns-3
 unfolding arrayAt
 returns-3 c =
     simp (lt-leb _ _ (c .before .before .before .before .if1 .left), ne-eqb _ _ (c .before .before .if2 .left), eq-eqb _ _ (c .before .if3 .taken)) (c .counted-at2 .ensures)
 
--- src/value.rt:96:1
 returns-4 : tie.Need-returns-4
 unfolding arrayAt
 returns-4 c =

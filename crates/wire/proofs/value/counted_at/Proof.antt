@@ -13,19 +13,15 @@ use Rattle.wire.proofs.number.bytes_of.Reads as bytes-of-reads
 use Rattle.wire.proofs.number.number_at.Reads as number-at-reads
 use Rattle.wire.proofs.value.elements_at.Reads as elements-at-reads
 
--- src/value.rt:87:17
 add-first : tie.Need-add-first
 add-first c = search needs
 
--- src/value.rt:87:26
 bytes-of-requires : tie.Need-bytes-of-requires
 bytes-of-requires c κs = search needs
 
--- src/value.rt:87:17
 add-first-2 : tie.Need-add-first-2
 add-first-2 c = search needs
 
--- src/value.rt:89:9
 returns : tie.Need-returns
 unfolding countedAt
 returns c =
@@ -33,19 +29,15 @@ returns c =
     let h : length (a .s .now) < a .at + 2 + bytesOf (a .width) = omega arith in
     simp (lt-leb _ _ h)
 
--- src/value.rt:91:26
 add-number-at : tie.Need-add-number-at
 add-number-at c = search needs
 
--- src/value.rt:91:9
 number-at-requires : tie.Need-number-at-requires
 number-at-requires c κs = search needs
 
--- src/value.rt:92:5
 elements-at-requires : tie.Need-elements-at-requires
 elements-at-requires c κs = search needs
 
--- src/value.rt:83:1
 returns-2 : tie.Need-returns-2
 unfolding countedAt
 returns-2 c =

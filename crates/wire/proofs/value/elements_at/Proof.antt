@@ -7,16 +7,13 @@ use Rattle.wire.proofs.value.elements_at.Reads as reads
 use Rattle.wire.proofs.value.elements_at.Lts as lts
 use Rattle.wire.proofs.value.numbers_at.Reads as numbers-at-reads
 
--- src/value.rt:77:9
 returns : tie.Need-returns
 unfolding elementsAt
 returns c = simp (lt-ltb _ _ (c .if1 .taken))
 
--- src/value.rt:79:5
 numbers-at-requires : tie.Need-numbers-at-requires
 numbers-at-requires c κs = search needs
 
--- src/value.rt:72:1
 returns-2 : tie.Need-returns-2
 unfolding elementsAt
 returns-2 c = simp (le-ltb _ _ (c .before .if1 .left)) (c .numbers-at .ensures)

@@ -21,82 +21,65 @@ no2 c = sym (c .before .between2 .ensures .0) ∙ c .if2 .left
 no3 : (c : tie.Else3) → between 0xd0 0xd5 (c .before .before .before .before .before .before .args .t) ≡ false
 no3 c = sym (c .before .between3 .ensures .0) ∙ c .if3 .left
 
--- src/value.rt:43:8
 between-requires : tie.Need-between-requires
 between-requires c κs = search needs
 
--- src/value.rt:44:40
 sub-width-of : tie.Need-sub-width-of
 sub-width-of c = omega (arith, c .before .between .ensures .1 (c .if1 .taken))
 
--- src/value.rt:44:31
 width-of-requires : tie.Need-width-of-requires
 width-of-requires c κs = search needs
 
--- src/value.rt:44:9
 returns : tie.Need-returns
 unfolding kindOf
 returns c =
     (rw (sym (c .before .before .between .ensures .0) ∙ c .before .if1 .taken) (ap (plain 1) (c .width-of .ensures .0)), omega arith)
 
--- src/value.rt:46:8
 between-requires-2 : tie.Need-between-requires-2
 between-requires-2 c κs = search needs
 
--- src/value.rt:47:37
 sub-width-of-2 : tie.Need-sub-width-of-2
 sub-width-of-2 c = omega (arith, c .before .between2 .ensures .1 (c .if2 .taken))
 
--- src/value.rt:47:28
 width-of-requires-2 : tie.Need-width-of-requires-2
 width-of-requires-2 c κs = search needs
 
--- src/value.rt:47:9
 returns-2 : tie.Need-returns-2
 unfolding kindOf
 returns-2 c =
     let k = c .before .before in
     (rw (no1 (k .before), sym (k .between2 .ensures .0) ∙ c .before .if2 .taken) (ap array (c .width-of2 .ensures .0)), omega arith)
 
--- src/value.rt:49:8
 between-requires-3 : tie.Need-between-requires-3
 between-requires-3 c κs = search needs
 
--- src/value.rt:50:40
 sub-width-of-3 : tie.Need-sub-width-of-3
 sub-width-of-3 c = omega (arith, c .before .between3 .ensures .1 (c .if3 .taken))
 
--- src/value.rt:50:31
 width-of-requires-3 : tie.Need-width-of-requires-3
 width-of-requires-3 c κs = search needs
 
--- src/value.rt:50:9
 returns-3 : tie.Need-returns-3
 unfolding kindOf
 returns-3 c =
     let k = c .before .before in
     (rw (no1 (k .before .before .before), no2 (k .before), sym (k .between3 .ensures .0) ∙ c .before .if3 .taken) (ap (plain 2) (c .width-of3 .ensures .0)), omega arith)
 
--- src/value.rt:52:8
 between-requires-4 : tie.Need-between-requires-4
 between-requires-4 c κs = search needs
 
--- src/value.rt:53:40
 sub-width-of-4 : tie.Need-sub-width-of-4
 sub-width-of-4 c = omega (arith, c .before .between4 .ensures .1 (c .if4 .taken))
 
--- src/value.rt:53:31
 width-of-requires-4 : tie.Need-width-of-requires-4
 width-of-requires-4 c κs = search needs
 
--- src/value.rt:53:9
 returns-4 : tie.Need-returns-4
 unfolding kindOf
 returns-4 c =
     let k = c .before .before in
     (rw (no1 (k .before .before .before .before .before), no2 (k .before .before .before), no3 (k .before), sym (k .between4 .ensures .0) ∙ c .before .if4 .taken) (ap (plain 4) (c .width-of4 .ensures .0)), omega arith)
 
--- src/value.rt:39:1
 returns-5 : tie.Need-returns-5
 unfolding kindOf
 returns-5 c =

@@ -8,20 +8,16 @@ use Rattle.wire.proofs.value.numbers_at.Tie as tie
 use Rattle.wire.proofs.value.numbers_at.Reads as reads
 use Rattle.wire.proofs.value.numbers_at.Lts as lts
 
--- src/value.rt:63:24
 mul-next : tie.Need-mul-next
 mul-next c = omega (arith, mul-le-mul (c .pre .1) (c .pre .2))
 
--- src/value.rt:63:16
 add-next : tie.Need-add-next
 add-next c = omega (arith, mul-le-mul (c .pre .1) (c .pre .2))
 
--- src/value.rt:59:1
 returns : tie.Need-returns
 unfolding numbersAt
 returns c = simp (le-leb _ _ (c .if1 .taken))
 
--- src/value.rt:59:1
 returns-2 : tie.Need-returns-2
 unfolding numbersAt
 returns-2 c = simp (lt-leb _ _ (c .if1 .left))

@@ -14,76 +14,62 @@ use Rattle.wire.proofs.value.array_at.Reads as array-at-reads
 use Rattle.wire.proofs.value.kind_of.Reads as kind-of-reads
 use Rattle.wire.proofs.value.numbers_at.Reads as numbers-at-reads
 
--- src/value.rt:119:9
 returns : tie.Need-returns
 unfolding valueOf kindOf
 returns c = rw (List·getD-eq-default (c .before .before .args .s .now) 0 (c .if1 .taken))
 
--- src/value.rt:121:19
 shared-slice-read-kind-of : tie.Need-shared-slice-read-kind-of
 shared-slice-read-kind-of c = search needs
 
--- src/value.rt:121:11
 kind-of-requires : tie.Need-kind-of-requires
 kind-of-requires c κs = search needs
 
--- src/value.rt:122:21
 enum-known-k : tie.Need-enum-known-k
 enum-known-k c = search needs
 
--- src/value.rt:126:35
 add-numbers-at : tie.Need-add-numbers-at
 add-numbers-at c = search needs
 
--- src/value.rt:126:17
 numbers-at-requires : tie.Need-numbers-at-requires
 numbers-at-requires c κs =
     let m = rw (c .before .before .k .given .1) at (c .before .before .before .before .kind-of .ensures .1) in
     omega (arith, m)
 
--- src/value.rt:129:21
 enum-known-w : tie.Need-enum-known-w
 enum-known-w c = search needs
 
--- src/value.rt:133:17
 array-at-requires : tie.Need-array-at-requires
 array-at-requires c κs =
     let m = rw (c .before .before .w .given .1) at (c .before .before .before .before .kind-of .ensures .1) in
     omega (arith, m)
 
--- src/value.rt:136:24
 enum-told : tie.Need-enum-told
 enum-told c = search needs
 
--- src/value.rt:115:1
 returns-2 : tie.Need-returns-2
 unfolding valueOf
 returns-2 c =
     let k = c .before .before in
     rw (sym (k .before .before .kind-of .ensures .0) ∙ ap kindAs (k .k .given .1), le-leb _ _ (c .if2 .taken))
 
--- src/value.rt:115:1
 returns-3 : tie.Need-returns-3
 unfolding valueOf
 returns-3 c =
     let k = c .before .before .before in
     rw (sym (k .before .before .kind-of .ensures .0) ∙ ap kindAs (k .k .given .1), lt-leb _ _ (c .before .if2 .left)) (c .numbers-at .ensures)
 
--- src/value.rt:115:1
 returns-4 : tie.Need-returns-4
 unfolding valueOf
 returns-4 c =
     let k = c .before .before in
     rw (sym (k .before .before .kind-of .ensures .0) ∙ ap kindAs (k .w .given .1), le-leb _ _ (c .if3 .taken))
 
--- src/value.rt:115:1
 returns-5 : tie.Need-returns-5
 unfolding valueOf
 returns-5 c =
     let k = c .before .before .before in
     rw (sym (k .before .before .kind-of .ensures .0) ∙ ap kindAs (k .w .given .1), lt-leb _ _ (c .before .if3 .left)) (c .array-at .ensures)
 
--- src/value.rt:115:1
 returns-6 : tie.Need-returns-6
 unfolding valueOf
 returns-6 c = rw (sym (c .before .before .kind-of .ensures .0) ∙ ap kindAs (c .enum-told .given .1))

@@ -7,22 +7,18 @@ use Rattle.wire.proofs.value.width_of.Tie as tie
 use Rattle.wire.proofs.value.width_of.Reads as reads
 use Rattle.wire.proofs.value.width_of.Lts as lts
 
--- src/value.rt:27:1
 returns : tie.Need-returns
 unfolding widthOf
 returns c = (rw (c .match .keys1), omega arith)
 
--- src/value.rt:27:1
 returns-2 : tie.Need-returns-2
 unfolding widthOf
 returns-2 c = (rw (c .match .keys2), omega arith)
 
--- src/value.rt:27:1
 returns-3 : tie.Need-returns-3
 unfolding widthOf
 returns-3 c = (rw (c .match .keys3), omega arith)
 
--- src/value.rt:27:1
 returns-4 : tie.Need-returns-4
 unfolding widthOf
 returns-4 c = (simp (ne-eqb _ _ (c .match .rest .1), ne-eqb _ _ (c .match .rest .0 .1), ne-eqb _ _ (c .match .rest .0 .0 .1)), omega arith)
