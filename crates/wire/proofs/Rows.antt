@@ -1,14 +1,15 @@
 -- Laws of the rows of attributes: how many they are, the first, the last, and a row stored after them.
 -- Assumes nothing.
-use Prim.Native.Nat.{ℕ, zero, suc, _+_, _*_, _≤_, _<_}
+use Prim.Native.Nat.{ℕ, zero, suc, _+_, _-_, _*_, _≤_, _<_}
 use mathlib.Core.Path.{_≡_, refl, sym, ap, _∙_}
 use mathlib.Core.List.{List, [], _∷_, _++_}
 use native.Mathlib.Omega.{arith}
-use native.Mathlib.Nat.{add-zero, add-suc, zero-add, suc-add}
-use lib.ListN.{length, getD, set, length-set}
-use lib.Seq.{getD-set-same, getD-set-other}
-use Rattle.scope.specs.Item.{Attribute}
-use Rattle.wire.specs.Rows.{rowAt, rowsFrom, rowsOf}
+use native.Mathlib.Nat.{add-zero, zero-add, suc-add}
+use native.Mathlib.Numerals.{add-one}
+use lib.ListN.{length, getD, set, take, drop, length-set}
+use lib.Seq.{getD-set-same, getD-set-other, take-at, drop-at}
+use Rattle.scope.specs.Item.{Attribute, Scan, endedWith}
+use Rattle.wire.specs.Rows.{rowAt, rowsFrom, rowsOf, withRow}
 
 module _ (a : List ℕ) where
   -- none
@@ -41,3 +42,123 @@ module _ (a : List ℕ) where
   pub rows-more : (n : ℕ) → rowsOf a (suc n) ≡ rowsOf a n ++ (rowAt a n ∷ [])
   unfolding rowsOf
   rows-more n = rows-last 0 n ∙ ap (λ (j : ℕ). rowsFrom a 0 n ++ (rowAt a j ∷ [])) (zero-add n)
+
+  -- the first j of them, and those after
+  pub rows-append : (i j k : ℕ) → rowsFrom a i (j + k) ≡ rowsFrom a i j ++ rowsFrom a (i + j) k
+  unfolding rowsFrom
+  rows-append i zero k = rw (zero-add k, add-zero i)
+  rows-append i (suc j) k =
+      let e : suc i + j ≡ i + suc j = omega arith in
+      rw (suc-add j k) (ap (λ (l : List Attribute). rowAt a i ∷ l) (rows-append (suc i) j k ∙ ap (λ (p : ℕ). rowsFrom a (suc i) j ++ rowsFrom a p k) e))
+
+  -- of n rows from i on, the first, and those after it
+  pub rows-next : (i n : ℕ) → i < n → rowsFrom a i (n - i) ≡ rowAt a i ∷ rowsFrom a (i + 1) (n - (i + 1))
+  rows-next i n h =
+      let e : n - i ≡ suc (n - (i + 1)) = omega arith in
+      rw (e, add-one) (rows-first i (n - suc i))
+
+  -- none are left
+  pub rows-out : (i n : ℕ) → n ≤ i → rowsFrom a i (n - i) ≡ []
+  rows-out i n h =
+      let e : n - i ≡ 0 = omega arith in
+      rw e (rows-none i)
+
+  drop-from : (i j k : ℕ) → drop j (rowsFrom a i (j + k)) ≡ rowsFrom a (i + j) k
+  drop-from i j k = rw (rows-append i j k) (drop-at (rowsFrom a i j) (rowsFrom a (i + j) k) j (rows-length i j))
+
+  take-from : (i j k : ℕ) → take j (rowsFrom a i (j + k)) ≡ rowsFrom a i j
+  take-from i j k = rw (rows-append i j k) (take-at (rowsFrom a i j) (rowsFrom a (i + j) k) j (rows-length i j))
+
+  -- those from i on
+  pub drop-rows : (i n : ℕ) → i ≤ n → drop i (rowsOf a n) ≡ rowsFrom a i (n - i)
+  unfolding rowsOf
+  drop-rows i n h =
+      let e : n ≡ i + (n - i) = omega arith in
+      ap (λ (p : ℕ). drop i (rowsFrom a 0 p)) e ∙ drop-from 0 i (n - i) ∙ ap (λ (p : ℕ). rowsFrom a p (n - i)) (zero-add i)
+
+  -- those before i
+  pub take-rows : (i n : ℕ) → i ≤ n → take i (rowsOf a n) ≡ rowsOf a i
+  unfolding rowsOf
+  take-rows i n h =
+      let e : n ≡ i + (n - i) = omega arith in
+      ap (λ (p : ℕ). take i (rowsFrom a 0 p)) e ∙ take-from 0 i (n - i)
+
+-- an attribute is stored as attribute n
+module _ (a : List ℕ) (n number tag at count first : ℕ) where
+  pub length-stored : length (withRow a n number tag at count first) ≡ length a
+  unfolding withRow
+  length-stored = simp length-set
+
+  -- what stands before it stays
+  before : (j : ℕ) → j < n * 5 → getD (withRow a n number tag at count first) j 0 ≡ getD a j 0
+  unfolding withRow
+  before j h =
+      getD-set-other (set (set (set (set a (n * 5) number) (n * 5 + 1) tag) (n * 5 + 2) at) (n * 5 + 3) count) (n * 5 + 4) j first 0 (omega arith)
+      ∙ getD-set-other (set (set (set a (n * 5) number) (n * 5 + 1) tag) (n * 5 + 2) at) (n * 5 + 3) j count 0 (omega arith)
+      ∙ getD-set-other (set (set a (n * 5) number) (n * 5 + 1) tag) (n * 5 + 2) j at 0 (omega arith)
+      ∙ getD-set-other (set a (n * 5) number) (n * 5 + 1) j tag 0 (omega arith)
+      ∙ getD-set-other a (n * 5) j number 0 (omega arith)
+
+  row-before : (i : ℕ) → i < n → rowAt (withRow a n number tag at count first) i ≡ rowAt a i
+  unfolding rowAt
+  row-before i h =
+      let e₀ = before (i * 5) (omega arith) in
+      let e₁ = before (i * 5 + 1) (omega arith) in
+      let e₂ = before (i * 5 + 2) (omega arith) in
+      let e₃ = before (i * 5 + 3) (omega arith) in
+      let e₄ = before (i * 5 + 4) (omega arith) in
+      λ k. record { number = e₀ k; tag = e₁ k; at = e₂ k; count = e₃ k; first = e₄ k }
+
+  pub rows-kept : (i k : ℕ) → i + k ≤ n → rowsFrom (withRow a n number tag at count first) i k ≡ rowsFrom a i k
+  unfolding rowsFrom
+  rows-kept i zero h = refl
+  rows-kept i (suc k) h = rw (row-before i (omega arith), rows-kept (suc i) k (omega arith))
+
+  module _ (room : n * 5 + 4 < length a) where
+    s₀ : List ℕ
+    s₀ = set a (n * 5) number
+
+    s₁ : List ℕ
+    s₁ = set s₀ (n * 5 + 1) tag
+
+    s₂ : List ℕ
+    s₂ = set s₁ (n * 5 + 2) at
+
+    s₃ : List ℕ
+    s₃ = set s₂ (n * 5 + 3) count
+
+    row-stored : rowAt (withRow a n number tag at count first) n ≡ record { number = number; tag = tag; at = at; count = count; first = first }
+    unfolding rowAt withRow s₀ s₁ s₂ s₃
+    row-stored =
+        let l₀ : n * 5 < length a = omega arith in
+        let l₁ : n * 5 + 1 < length s₀ = simp length-set (omega arith) in
+        let l₂ : n * 5 + 2 < length s₁ = simp length-set (omega arith) in
+        let l₃ : n * 5 + 3 < length s₂ = simp length-set (omega arith) in
+        let l₄ : n * 5 + 4 < length s₃ = simp length-set room in
+        let e₀ = getD-set-other s₃ (n * 5 + 4) (n * 5) first 0 (omega arith) ∙ getD-set-other s₂ (n * 5 + 3) (n * 5) count 0 (omega arith)
+        ∙ getD-set-other s₁ (n * 5 + 2) (n * 5) at 0 (omega arith) ∙ getD-set-other s₀ (n * 5 + 1) (n * 5) tag 0 (omega arith) ∙ getD-set-same a (n * 5) number 0 l₀ in
+        let e₁ = getD-set-other s₃ (n * 5 + 4) (n * 5 + 1) first 0 (omega arith) ∙ getD-set-other s₂ (n * 5 + 3) (n * 5 + 1) count 0 (omega arith)
+        ∙ getD-set-other s₁ (n * 5 + 2) (n * 5 + 1) at 0 (omega arith) ∙ getD-set-same s₀ (n * 5 + 1) tag 0 l₁ in
+        let e₂ = getD-set-other s₃ (n * 5 + 4) (n * 5 + 2) first 0 (omega arith) ∙ getD-set-other s₂ (n * 5 + 3) (n * 5 + 2) count 0 (omega arith)
+        ∙ getD-set-same s₁ (n * 5 + 2) at 0 l₂ in
+        let e₃ = getD-set-other s₃ (n * 5 + 4) (n * 5 + 3) first 0 (omega arith) ∙ getD-set-same s₂ (n * 5 + 3) count 0 l₃ in
+        let e₄ = getD-set-same s₃ (n * 5 + 4) first 0 l₄ in
+        λ k. record { number = e₀ k; tag = e₁ k; at = e₂ k; count = e₃ k; first = e₄ k }
+
+    -- the rows are those before, and the attribute that was stored
+    pub rows-stored : rowsOf (withRow a n number tag at count first) (suc n)
+        ≡ rowsOf a n ++ (record { number = number; tag = tag; at = at; count = count; first = first } ∷ [])
+    unfolding rowsOf
+    rows-stored =
+        rows-more (withRow a n number tag at count first) n
+        ∙ rw (rows-kept 0 n (omega arith), row-stored)
+
+-- 27 if attributes wait
+pub ended-none : (a s : List ℕ) (n : ℕ) → n ≡ 0 → endedWith s (rowsOf a n) ≡ Scan.ended
+unfolding endedWith rowsOf rowsFrom
+ended-none a s n e = rw e
+
+pub ended-some : (a s : List ℕ) (n : ℕ) → (n ≡ 0 → ⊥) → endedWith s (rowsOf a n) ≡ Scan.no 27 (length s)
+unfolding endedWith rowsOf rowsFrom
+ended-some a s zero h = absurd (h refl)
+ended-some a s (suc n) h = refl

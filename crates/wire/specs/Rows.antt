@@ -3,7 +3,7 @@
 use Prim.Native.Nat.{ℕ, zero, suc, _+_, _*_, _≤_}
 use mathlib.Core.Path.{_≡_}
 use mathlib.Core.List.{List, [], _∷_}
-use lib.ListN.{length, getD}
+use lib.ListN.{length, getD, set}
 use Rattle.scope.specs.Item.{Attribute}
 
 -- attribute i
@@ -30,3 +30,8 @@ rowsOf a n = rowsFrom a 0 n
 pub record Sized (a : List ℕ) (n : ℕ) : Type 0 where
   pub long : length a ≡ 80
   pub few : n ≤ 16
+
+-- the array with an attribute stored as attribute n
+unfoldable pub withRow : List ℕ → ℕ → ℕ → ℕ → ℕ → ℕ → ℕ → List ℕ
+withRow a n number tag at count first =
+    set (set (set (set (set a (n * 5) number) (n * 5 + 1) tag) (n * 5 + 2) at) (n * 5 + 3) count) (n * 5 + 4) first

@@ -19,7 +19,7 @@ pub fn byte_at(s: &[u8], at: usize) -> u8
 }
 
 // How many bytes a width has.
-fn bytes_of(width: Width) -> usize
+pub fn bytes_of(width: Width) -> usize
     ensures { λ r. ⌜ r ≡ bytesOf width ⌝ }
     ensures { λ r. ⌜ r ≤ 4 ⌝ }
 {

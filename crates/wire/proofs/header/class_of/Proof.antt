@@ -16,33 +16,27 @@ use Rattle.wire.proofs.number.byte_at.Reads as byte-at-reads
 first : (c : tie.After-byte-at2) → eqb (getD (c .before .before .before .before .args .s .now) 12 0) 0x31 ≡ true
 first c = ap (λ (x : ℕ). eqb x 0x31) (sym (c .before .before .byte-at .ensures)) ∙ eq-eqb _ _ (c .before .if1 .left)
 
--- src/header.rt:112:8
 byte-at-requires : tie.Need-byte-at-requires
 byte-at-requires c κs = search needs
 
--- src/header.rt:113:9
 returns : tie.Need-returns
 unfolding classed
 returns c =
     let h : eqb (getD (c .before .before .before .args .s .now) 12 0) 0x31 ≡ false = ap (λ (x : ℕ). eqb x 0x31) (sym (c .before .byte-at .ensures)) ∙ ne-eqb _ _ (c .if1 .taken) in
     rw h (refl, tt)
 
--- src/header.rt:115:8
 byte-at-requires-2 : tie.Need-byte-at-requires-2
 byte-at-requires-2 c κs = search needs
 
--- src/header.rt:116:9
 returns-2 : tie.Need-returns-2
 unfolding classed
 returns-2 c =
     let h : eqb (getD (c .before .before .before .before .before .args .s .now) 14 0) 0x31 ≡ false = ap (λ (x : ℕ). eqb x 0x31) (sym (c .before .byte-at2 .ensures)) ∙ ne-eqb _ _ (c .if2 .taken) in
     rw (first (c .before), h) (refl, tt)
 
--- src/header.rt:118:16
 byte-at-requires-3 : tie.Need-byte-at-requires-3
 byte-at-requires-3 c κs = search needs
 
--- src/header.rt:107:1
 returns-3 : tie.Need-returns-3
 unfolding classed
 returns-3 c =

@@ -5,11 +5,9 @@ use Rattle.wire.proofs.header.either.Tie as tie
 use Rattle.wire.proofs.header.either.Reads as reads
 use Rattle.wire.proofs.header.either.Lts as lts
 
--- src/header.rt:33:9
 returns : tie.Need-returns
 returns c = simp (eq-eqb _ _ (c .if1 .taken))
 
--- src/header.rt:29:1
 returns-2 : tie.Need-returns-2
 returns-2 c = simp (ne-eqb _ _ (c .if1 .left))
 

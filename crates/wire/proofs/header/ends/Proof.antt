@@ -5,11 +5,9 @@ use Rattle.wire.proofs.header.ends.Tie as tie
 use Rattle.wire.proofs.header.ends.Reads as reads
 use Rattle.wire.proofs.header.ends.Lts as lts
 
--- src/header.rt:82:9
 returns : tie.Need-returns
 returns c = simp (lt-leb _ _ (c .if1 .taken))
 
--- src/header.rt:78:1
 returns-2 : tie.Need-returns-2
 returns-2 c = simp (le-leb _ _ (c .if1 .left))
 

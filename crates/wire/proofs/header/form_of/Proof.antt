@@ -27,55 +27,44 @@ abbrev μ-loop : tie.MeasureT-loop
 stands : (c : tie.Else1 Inv-loop μ-loop) → mayStand (c .before .before .before .before .loop .i) (getD (c .before .before .before .before .before .before .args .s .now) (c .before .before .before .before .loop .i) 0) ≡ true
 stands c = sym (c .before .may-stand .ensures) ∙ not-false _ (c .if1 .left)
 
--- src/header.rt:93:5
 loop-holds : tie.Need-loop-holds Inv-loop μ-loop
 loop-holds c = search needs
 
--- src/header.rt:94:17
 shared-slice-read-b : tie.Need-shared-slice-read-b Inv-loop μ-loop
 shared-slice-read-b c = search needs
 
--- src/header.rt:95:13
 may-stand-requires : tie.Need-may-stand-requires Inv-loop μ-loop
 may-stand-requires c κs = search needs
 
--- src/header.rt:96:13
 returns : tie.Need-returns Inv-loop μ-loop
 returns c =
     let e = c .before .before .before .before in
     (sym (form-breaks (e .before .before .args .s .now) (e .loop .i) (c .before .before .before .loop-test .taken) (sym (c .before .may-stand .ensures) ∙ not-true _ (c .if1 .taken))) ∙ e .loop .inv .1, tt)
 
--- src/header.rt:98:12
 ends-requires : tie.Need-ends-requires Inv-loop μ-loop
 ends-requires c κs = search needs
 
--- src/header.rt:99:31
 add-t10 : tie.Need-add-t10 Inv-loop μ-loop
 add-t10 c = search needs
 
--- src/header.rt:99:13
 returns-2 : tie.Need-returns-2 Inv-loop μ-loop
 returns-2 c =
     let k = c .before .before in
     let e = k .before .before .before .before in
     (sym (form-ends (e .before .before .args .s .now) (e .loop .i) (k .before .before .before .loop-test .taken) (stands k) (sym (c .before .ends .ensures) ∙ c .if2 .taken)) ∙ e .loop .inv .1, omega arith)
 
--- src/header.rt:101:9
 add-i : tie.Need-add-i Inv-loop μ-loop
 add-i c = search needs
 
--- src/header.rt:93:5
 loop-less : tie.Need-loop-less Inv-loop μ-loop
 loop-less c = search needs
 
--- src/header.rt:93:5
 loop-again : tie.Need-loop-again Inv-loop μ-loop
 loop-again c =
     let k = c .before .before in
     let e = k .before .before .before .before in
     (omega arith, sym (form-next (e .before .before .args .s .now) (e .loop .i) (k .before .before .before .loop-test .taken) (stands k) (sym (c .before .ends .ensures) ∙ c .if2 .left)) ∙ e .loop .inv .1)
 
--- src/header.rt:88:1
 returns-3 : tie.Need-returns-3 Inv-loop μ-loop
 returns-3 c = (sym (form-out (c .before .before .before .args .s .now) (c .before .loop .i) (c .loop-test .left)) ∙ c .before .loop .inv .1, tt)
 

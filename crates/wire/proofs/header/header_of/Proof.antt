@@ -19,41 +19,33 @@ use Rattle.wire.proofs.number.byte_at.Reads as byte-at-reads
 first : (c : tie.Else1) → eqb (getD (c .before .before .before .args .s .now) 0 0) 0x27 ≡ false
 first c = ap (λ (x : ℕ). eqb x 0x27) (sym (c .before .byte-at .ensures)) ∙ ne-eqb _ _ (c .if1 .left)
 
--- src/header.rt:126:8
 byte-at-requires : tie.Need-byte-at-requires
 byte-at-requires c κs = search needs
 
--- src/header.rt:127:9
 returns : tie.Need-returns
 unfolding headerOf
 returns c =
     let h : eqb (getD (c .before .before .before .args .s .now) 0 0) 0x27 ≡ true = ap (λ (x : ℕ). eqb x 0x27) (sym (c .before .byte-at .ensures)) ∙ eq-eqb _ _ (c .if1 .taken) in
     rw h (refl, tt)
 
--- src/header.rt:129:11
 form-of-requires : tie.Need-form-of-requires
 form-of-requires c κs = search needs
 
--- src/header.rt:130:20
 enum-known-n : tie.Need-enum-known-n
 enum-known-n c = search needs
 
--- src/header.rt:130:26
 class-of-requires : tie.Need-class-of-requires
 class-of-requires c κs = rw (c .before .n .given .1) at (c .before .before .before .form-of .ensures .1)
 
--- src/header.rt:131:22
 enum-known-i : tie.Need-enum-known-i
 enum-known-i c = search needs
 
--- src/header.rt:122:1
 returns-2 : tie.Need-returns-2
 unfolding headerOf
 returns-2 c =
     let k = c .before .before .before .before in
     (rw (first (k .before), sym (k .form-of .ensures .0) ∙ ap formAs (c .before .before .n .given .1)) (c .class-of .ensures .0), c .class-of .ensures .1)
 
--- src/header.rt:122:1
 returns-3 : tie.Need-returns-3
 unfolding headerOf classed
 returns-3 c =

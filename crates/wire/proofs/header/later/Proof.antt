@@ -15,44 +15,35 @@ use Rattle.wire.proofs.header.later.Lts as lts
 use Rattle.wire.proofs.header.either.Reads as either-reads
 use Rattle.wire.proofs.white.between.Reads as between-reads
 
--- src/header.rt:68:15
 between-requires : tie.Need-between-requires
 between-requires c κs = search needs
 
--- src/header.rt:70:15
 between-requires-2 : tie.Need-between-requires-2
 between-requires-2 c κs = search needs
 
--- src/header.rt:71:15
 either-requires : tie.Need-either-requires
 either-requires c κs = search needs
 
--- src/header.rt:63:1
 returns : tie.Need-returns
 unfolding mayStand
 returns c = rw (c .before .match .keys1) (c .between .ensures .0)
 
--- src/header.rt:63:1
 returns-2 : tie.Need-returns-2
 unfolding mayStand
 returns-2 c = rw (c .match .keys2)
 
--- src/header.rt:63:1
 returns-3 : tie.Need-returns-3
 unfolding mayStand
 returns-3 c = rw (c .before .match .keys3) (c .between2 .ensures .0)
 
--- src/header.rt:63:1
 returns-4 : tie.Need-returns-4
 unfolding mayStand
 returns-4 c = rw (c .before .match .keys4) (c .either .ensures)
 
--- src/header.rt:63:1
 returns-5 : tie.Need-returns-5
 unfolding mayStand
 returns-5 c = rw (c .match .keys5)
 
--- src/header.rt:63:1
 returns-6 : tie.Need-returns-6
 unfolding mayStand
 returns-6 c =

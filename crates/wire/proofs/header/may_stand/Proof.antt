@@ -9,38 +9,30 @@ use Rattle.wire.proofs.header.either.Reads as either-reads
 use Rattle.wire.proofs.header.later.Reads as later-reads
 use Rattle.wire.proofs.header.title_at.Reads as title-at-reads
 
--- src/header.rt:51:9
 either-requires : tie.Need-either-requires
 either-requires c κs = search needs
 
--- src/header.rt:51:9
 returns : tie.Need-returns
 unfolding mayStand
 returns c = rw (c .before .if1 .taken) (c .either .ensures)
 
--- src/header.rt:54:9
 returns-2 : tie.Need-returns-2
 unfolding mayStand
 returns-2 c = rw (c .if2 .taken)
 
--- src/header.rt:57:30
 sub-title-at : tie.Need-sub-title-at
 sub-title-at c = search needs
 
--- src/header.rt:57:21
 title-at-requires : tie.Need-title-at-requires
 title-at-requires c κs = search needs
 
--- src/header.rt:57:9
 returns-3 : tie.Need-returns-3
 unfolding mayStand
 returns-3 c = simp (ne-eqb _ _ (c .before .before .before .if1 .left), ne-eqb _ _ (c .before .before .if2 .left), le-leb _ _ (c .before .if3 .taken)) (cc)
 
--- src/header.rt:59:5
 later-requires : tie.Need-later-requires
 later-requires c κs = search needs
 
--- src/header.rt:47:1
 returns-4 : tie.Need-returns-4
 returns-4 c = search needs
 

@@ -6,15 +6,12 @@ use Rattle.wire.proofs.number.byte_at.Tie as tie
 use Rattle.wire.proofs.number.byte_at.Reads as reads
 use Rattle.wire.proofs.number.byte_at.Lts as lts
 
--- src/number.rt:18:23
 shared-slice-read-result : tie.Need-shared-slice-read-result
 shared-slice-read-result c = search needs
 
--- src/number.rt:15:1
 returns : tie.Need-returns
 returns c = search needs
 
--- src/number.rt:15:1
 returns-2 : tie.Need-returns-2
 returns-2 c = sym (List·getD-eq-default (c .before .args .s .now) 0 (c .if1 .left))
 

@@ -13,30 +13,29 @@ use Rattle.wire.proofs.number.number_at.Lts as lts
 use Rattle.wire.proofs.number.bytes_of.Reads as bytes-of-reads
 use Rattle.wire.proofs.number.value.Reads as value-reads
 
+<<<<<<< HEAD
 some : (w : Width) → 0 < 256 ^ bytesOf w
 some One = omega arith
 some Two = omega arith
 some Four = omega arith
 
 -- src/number.rt:70:9
+=======
+>>>>>>> 4a7501febfcf3a5d8891d2f4401cfde3152ff537
 returns : tie.Need-returns
 returns c =
     let a = c .before .before .args in
     (sym (past (a .high) (bytesOf (a .width)) (a .s .now) (a .at) (c .if1 .taken)), some (a .width))
 
--- src/number.rt:72:9
 bytes-of-requires : tie.Need-bytes-of-requires
 bytes-of-requires c κs = search needs
 
--- src/number.rt:73:5
 value-requires : tie.Need-value-requires
 value-requires c κs = search needs
 
--- src/number.rt:73:5
 cast-result : tie.Need-cast-result
 cast-result c = search needs
 
--- src/number.rt:66:1
 returns-2 : tie.Need-returns-2
 returns-2 c =
     let v = c .value .ensures in

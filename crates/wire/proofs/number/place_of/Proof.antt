@@ -5,27 +5,21 @@ use Rattle.wire.proofs.number.place_of.Tie as tie
 use Rattle.wire.proofs.number.place_of.Reads as reads
 use Rattle.wire.proofs.number.place_of.Lts as lts
 
--- src/number.rt:46:15
 add-result : tie.Need-add-result
 add-result c = search needs
 
--- src/number.rt:46:37
 sub-result : tie.Need-sub-result
 sub-result c = search needs
 
--- src/number.rt:46:37
 sub-result-2 : tie.Need-sub-result-2
 sub-result-2 c = search needs
 
--- src/number.rt:46:31
 add-result-2 : tie.Need-add-result-2
 add-result-2 c = search needs
 
--- src/number.rt:42:1
 returns : tie.Need-returns
 returns c = simp (c .if1 .taken)
 
--- src/number.rt:42:1
 returns-2 : tie.Need-returns-2
 returns-2 c = simp (c .if1 .left)
 

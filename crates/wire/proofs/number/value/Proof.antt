@@ -28,41 +28,32 @@ small c w h =
     (below-at (λ j. getD (a .s .now) (place (a .high) (a .n) (a .at) j) 0)
     (λ j. omega (arith, c .before .shared-slice-known .given (place (a .high) (a .n) (a .at) j))) (c .loop .k) w h)
 
--- src/number.rt:57:5
 loop-holds : tie.Need-loop-holds Inv-loop μ-loop
 unfolding digits
 loop-holds c = search needs
 
--- src/number.rt:58:13
 place-of-requires : tie.Need-place-of-requires Inv-loop μ-loop
 place-of-requires c κs = search needs
 
--- src/number.rt:59:13
 mul-v : tie.Need-mul-v Inv-loop μ-loop
 mul-v c = omega (arith, small (c .before .before) 3 (omega arith))
 
--- src/number.rt:59:23
 digit-at-requires : tie.Need-digit-at-requires Inv-loop μ-loop
 digit-at-requires c κs = search needs
 
--- src/number.rt:59:13
 add-v : tie.Need-add-v Inv-loop μ-loop
 add-v c = omega (arith, small (c .before .before .before) 3 (omega arith))
 
--- src/number.rt:60:9
 add-k : tie.Need-add-k Inv-loop μ-loop
 add-k c = search needs
 
--- src/number.rt:57:5
 loop-less : tie.Need-loop-less Inv-loop μ-loop
 loop-less c = search needs
 
--- src/number.rt:57:5
 loop-again : tie.Need-loop-again Inv-loop μ-loop
 unfolding digits
 loop-again c = (omega arith, rw add-one (cc))
 
--- src/number.rt:50:1
 returns : tie.Need-returns Inv-loop μ-loop
 unfolding number
 returns c =

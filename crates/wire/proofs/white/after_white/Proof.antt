@@ -19,39 +19,31 @@ Inv-loop s at p₀ p = after s p ≡ after s at
 abbrev μ-loop : tie.MeasureT-loop
 μ-loop s at p₀ p = length s - p
 
--- src/white.rt:34:5
 loop-holds : tie.Need-loop-holds Inv-loop μ-loop
 loop-holds c = search needs
 
--- src/white.rt:35:22
 shared-slice-read-is-white : tie.Need-shared-slice-read-is-white Inv-loop μ-loop
 shared-slice-read-is-white c = search needs
 
--- src/white.rt:35:13
 is-white-requires : tie.Need-is-white-requires Inv-loop μ-loop
 is-white-requires c κs = search needs
 
--- src/white.rt:36:13
 returns : tie.Need-returns Inv-loop μ-loop
 returns c =
     let e = c .before .before .before .before in
     sym (after-black (e .before .before .args .s .now) (e .loop .p) (c .before .before .before .loop-test .taken) (sym (c .before .is-white .ensures) ∙ not-true _ (c .if1 .taken))) ∙ e .loop .inv
 
--- src/white.rt:38:9
 add-p : tie.Need-add-p Inv-loop μ-loop
 add-p c = search needs
 
--- src/white.rt:34:5
 loop-less : tie.Need-loop-less Inv-loop μ-loop
 loop-less c = search needs
 
--- src/white.rt:34:5
 loop-again : tie.Need-loop-again Inv-loop μ-loop
 loop-again c =
     let e = c .before .before .before .before in
     sym (after-white (e .before .before .args .s .now) (e .loop .p) (c .before .before .before .loop-test .taken) (sym (c .before .is-white .ensures) ∙ not-false _ (c .if1 .left))) ∙ e .loop .inv
 
--- src/white.rt:30:1
 returns-2 : tie.Need-returns-2 Inv-loop μ-loop
 returns-2 c = sym (after-end _ (c .before .loop .p) (c .loop-test .left)) ∙ c .before .loop .inv
 

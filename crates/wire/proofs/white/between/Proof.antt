@@ -7,11 +7,9 @@ use Rattle.wire.proofs.white.between.Tie as tie
 use Rattle.wire.proofs.white.between.Reads as reads
 use Rattle.wire.proofs.white.between.Lts as lts
 
--- src/white.rt:14:9
 returns : tie.Need-returns
 returns c = (simp (lt-leb _ _ (c .if1 .taken)), λ e. absurd (false≢true e))
 
--- src/white.rt:9:1
 returns-2 : tie.Need-returns-2
 returns-2 c = (simp (le-leb _ _ (c .if1 .left)), λ _. c .if1 .left)
 

@@ -7,16 +7,13 @@ use Rattle.wire.proofs.white.is_white.Reads as reads
 use Rattle.wire.proofs.white.is_white.Lts as lts
 use Rattle.wire.proofs.white.between.Reads as between-reads
 
--- src/white.rt:23:8
 between-requires : tie.Need-between-requires
 between-requires c κs = search needs
 
--- src/white.rt:24:9
 returns : tie.Need-returns
 unfolding white
 returns c = rw (sym (c .before .between .ensures .0) ∙ c .if1 .taken)
 
--- src/white.rt:20:1
 returns-2 : tie.Need-returns-2
 unfolding white
 returns-2 c = rw (sym (c .before .between .ensures .0) ∙ c .if1 .left)

@@ -1,0 +1,54 @@
+use Prim.Native.Nat.{_+_, _≤_, _<_}
+use native.Mathlib.Omega.{arith}
+use borrow.Author.Tests.{le-leb, lt-leb}
+use lib.ListN.{length}
+use Rattle.scope.specs.Item.{numbered}
+use Rattle.wire.specs.Widths.{bytesOf}
+use borrow.Author.Needs.{needs}
+use Rattle.wire.proofs.pair.numbered_at.Statement.{statement}
+use Rattle.wire.proofs.pair.numbered_at.Tie as tie
+use Rattle.wire.proofs.pair.numbered_at.Reads as reads
+use Rattle.wire.proofs.pair.numbered_at.Lts as lts
+use Rattle.wire.proofs.number.bytes_of.Reads as bytes-of-reads
+use Rattle.wire.proofs.number.number_at.Reads as number-at-reads
+
+add-next : tie.Need-add-next
+add-next c = search needs
+
+bytes-of-requires : tie.Need-bytes-of-requires
+bytes-of-requires c κs = search needs
+
+add-next-2 : tie.Need-add-next-2
+add-next-2 c = search needs
+
+returns : tie.Need-returns
+unfolding numbered
+returns c =
+    let a = c .before .before .before .args in
+    let h : length (a .s .now) < a .p + 1 + bytesOf (a .width) = omega arith in
+    simp (lt-leb _ _ h)
+
+add-number-at : tie.Need-add-number-at
+add-number-at c = search needs
+
+number-at-requires : tie.Need-number-at-requires
+number-at-requires c κs = search needs
+
+returns-2 : tie.Need-returns-2
+unfolding numbered
+returns-2 c =
+    let a = c .before .before .before .before .args in
+    let h : a .p + 1 + bytesOf (a .width) ≤ length (a .s .now) = omega arith in
+    simp (le-leb _ _ h) (cc)
+
+pub numbered-at-spec : {M : Type 1} → statement M
+numbered-at-spec =
+    tie.close
+    (tie.spec
+    add-next
+    bytes-of-requires
+    add-next-2
+    returns
+    add-number-at
+    number-at-requires
+    returns-2)
