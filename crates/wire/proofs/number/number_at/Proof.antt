@@ -13,15 +13,11 @@ use Rattle.wire.proofs.number.number_at.Lts as lts
 use Rattle.wire.proofs.number.bytes_of.Reads as bytes-of-reads
 use Rattle.wire.proofs.number.value.Reads as value-reads
 
-<<<<<<< HEAD
 some : (w : Width) → 0 < 256 ^ bytesOf w
 some One = omega arith
 some Two = omega arith
 some Four = omega arith
 
--- src/number.rt:70:9
-=======
->>>>>>> 4a7501febfcf3a5d8891d2f4401cfde3152ff537
 returns : tie.Need-returns
 returns c =
     let a = c .before .before .args in
