@@ -1,14 +1,17 @@
 -- Balanced rows, one after the other, and as a motif's own operators give them.
-use Prim.Native.Nat.{ℕ, zero, suc, _+_, _-_}
+use Prim.Native.Nat.{ℕ, zero, suc, _+_, _-_, _<_}
 use native.Mathlib.Omega.{arith}
 use native.Mathlib.Nat.{suc-add, zero-add}
 use mathlib.Core.Path.{_≡_, refl, sym, ap, _∙_}
 use mathlib.Core.Bool.{Bool, true, false}
 use mathlib.Core.List.{List, [], _∷_, _++_}
 use lib.Dec.{eqb}
+use borrow.Author.Tests.{eqb-true}
 use Rattle.scope.specs.Choice.{pick, same}
-use Rattle.scope.specs.Arm.{Effect, push, pop, put, Act, idle, Stroke}
-use Rattle.scope.specs.Motif.{Own, does, calls, Motif, flat, unfolded}
+use Rattle.scope.specs.Item.{Attribute}
+use Rattle.scope.specs.Attributes.{valueIn}
+use Rattle.scope.specs.Arm.{Effect, push, pop, put, Mark, kept, to, effectOf, Act, idle, Stroke}
+use Rattle.scope.specs.Motif.{Own, does, calls, Motif, flat, unfolded, savedAfter}
 use Rattle.arm.specs.Balance.{mayDo, depthAfter, Level, Balanced, OwnLevel, HeldBalanced}
 
 may-above : (e : Effect) (d k : ℕ) → mayDo e d → mayDo e (d + k)
@@ -81,3 +84,41 @@ unfolded-balanced (m ∷ ms) h n =
     | true ↦ own-level (unfolded ms) (m .number) (unfolded-balanced ms (h .1)) (m .ops) 0 0 (h .0)
     | false ↦ unfolded-balanced ms (h .1) n
     ]
+
+-- an operator's tag says what its effect does to the number saved
+depth-pop : (n : ℕ) → depthAfter pop n ≡ n - 1
+depth-pop zero = refl
+depth-pop (suc n) = omega arith
+
+pub saved-depth : (high : Bool) (s : List ℕ) (tag : ℕ) (l : List Attribute) (n : ℕ) → depthAfter (effectOf high s tag l) n ≡ savedAfter tag n
+unfolding effectOf savedAfter
+saved-depth high s tag l n = go (eqb tag 0x61) (eqb tag 0x60) (eqb tag 0x6b) (eqb tag 0x85) (eqb tag 0x6a)
+  where
+    go : (a b c d e : Bool)
+        → depthAfter
+        (pick a push (pick b pop (pick c (put (to true) kept) (pick d (put (to false) kept) (pick e (put kept (to (eqb (valueIn high s l 3) 1))) (put kept kept)))))) n
+        ≡ pick a (suc n) (pick b (n - 1) n)
+    go true b c d e = refl
+    go false true c d e = depth-pop n
+    go false false true d e = refl
+    go false false false true e = refl
+    go false false false false true = refl
+    go false false false false false = refl
+
+may-pop : (n : ℕ) → 0 < n → mayDo pop n
+may-pop zero h = absurd (omega arith)
+may-pop (suc n) h = tt
+
+pub may-saved : (high : Bool) (s : List ℕ) (tag : ℕ) (l : List Attribute) (n : ℕ) → (tag ≡ 0x60 → 0 < n) → mayDo (effectOf high s tag l) n
+unfolding effectOf
+may-saved high s tag l n h = go (eqb tag 0x61) (eqb tag 0x60) (eqb tag 0x6b) (eqb tag 0x85) (eqb tag 0x6a) (λ e. h (eqb-true tag 0x60 e))
+  where
+    go : (a b c d e : Bool) → (b ≡ true → 0 < n)
+        → mayDo
+        (pick a push (pick b pop (pick c (put (to true) kept) (pick d (put (to false) kept) (pick e (put kept (to (eqb (valueIn high s l 3) 1))) (put kept kept)))))) n
+    go true b c d e k = tt
+    go false true c d e k = may-pop n (k refl)
+    go false false true d e k = tt
+    go false false false true e k = tt
+    go false false false false true k = tt
+    go false false false false false k = tt

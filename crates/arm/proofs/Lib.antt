@@ -5,3 +5,4 @@ pub mod Stacks
 pub mod Clean
 pub mod Keeping
 pub mod Packs
+pub mod Obeyed
