@@ -1,0 +1,38 @@
+use Rattle.arm.specs.Views.{pageAs}
+use Rattle.scope.specs.Arm.{Page}
+use mathlib.Core.List.{[], _∷_}
+use Rattle.arm.proofs.Keeping.{step-holds, call-holds, code-kept, answer-to}
+use Rattle.arm.specs.Holds.{moves-to, moves-no, PageHolds}
+use Rattle.scope.specs.Arm.{done, risen, from, walk, step}
+use mathlib.Core.Path.{_≡_, refl, sym, ap, _∙_}
+use borrow.Author.Needs.{needs}
+use Rattle.arm.proofs.page.Page.call.Statement.{statement}
+use Rattle.arm.proofs.page.Page.call.Tie as tie
+use Rattle.arm.proofs.page.Page.call.Reads as reads
+use Rattle.arm.proofs.page.Page.call.Lts as lts
+use Rattle.arm.proofs.moved.answer.Reads as answer-reads
+use Rattle.arm.proofs.seen.Seen.call.Reads as call-reads
+use Rattle.arm.proofs.seen.Seen.from.Reads as from-reads
+
+-- src/moved.rt:47:13
+from-requires : tie.Need-from-requires
+from-requires c κs = search needs
+
+-- src/moved.rt:48:16
+call-requires : tie.Need-call-requires
+call-requires c κs = search needs
+
+-- src/moved.rt:48:9
+answer-requires : tie.Need-answer-requires
+answer-requires c κs = search needs
+
+-- src/moved.rt:44:5
+returns : tie.Need-returns
+returns c q x row h e m =
+    let a = c .before .before .before .args in
+    let f : from (pageAs (a .self)) (a .performed) ≡ from q (a .performed) = ap (λ (p : Page). from p (a .performed)) (h .same) in
+    let k = rw f at (c .before .before .from .ensures) in
+    c .answer .ensures q (a .performed) (x ∷ row) (h .few) (c .before .call .ensures (from q (a .performed)) x row k e m)
+
+pub call-spec : {M : Type 1} → statement M
+call-spec = tie.close (tie.spec from-requires call-requires answer-requires returns)

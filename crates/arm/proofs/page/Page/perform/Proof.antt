@@ -1,0 +1,40 @@
+use Rattle.arm.specs.Views.{pageAs}
+use Rattle.scope.specs.Arm.{Page}
+use mathlib.Core.List.{[], _∷_}
+use Rattle.arm.proofs.Keeping.{step-holds, call-holds, code-kept, answer-to}
+use Rattle.arm.specs.Holds.{moves-to, moves-no, PageHolds}
+use Rattle.scope.specs.Arm.{done, risen, from, walk, step}
+use mathlib.Core.Path.{_≡_, refl, sym, ap, _∙_}
+use borrow.Author.Needs.{needs}
+use Rattle.arm.proofs.page.Page.perform.Statement.{statement}
+use Rattle.arm.proofs.page.Page.perform.Tie as tie
+use Rattle.arm.proofs.page.Page.perform.Reads as reads
+use Rattle.arm.proofs.page.Page.perform.Lts as lts
+use Rattle.arm.proofs.moved.answer.Reads as answer-reads
+use Rattle.arm.proofs.seen.Seen.from.Reads as from-reads
+use Rattle.arm.proofs.seen.Seen.step.Reads as step-reads
+
+-- src/moved.rt:39:13
+from-requires : tie.Need-from-requires
+from-requires c κs = search needs
+
+-- src/moved.rt:40:16
+step-requires : tie.Need-step-requires
+step-requires c κs = search needs
+
+-- src/moved.rt:40:9
+answer-requires : tie.Need-answer-requires
+answer-requires c κs = search needs
+
+-- src/moved.rt:36:5
+returns : tie.Need-returns
+unfolding walk
+returns c q x h e =
+    let a = c .before .before .before .args in
+    let f : from (pageAs (a .self)) (a .performed) ≡ from q (a .performed) = ap (λ (p : Page). from p (a .performed)) (h .same) in
+    let k = rw f at (c .before .before .from .ensures) in
+    let l = c .before .step .ensures (from q (a .performed)) k in
+    c .answer .ensures q (a .performed) (x ∷ []) (h .few) (rw e l)
+
+pub perform-spec : {M : Type 1} → statement M
+perform-spec = tie.close (tie.spec from-requires step-requires answer-requires returns)

@@ -1,0 +1,74 @@
+use Rattle.arm.proofs.Keeping.{step-holds, call-holds, code-kept, answer-to}
+use mathlib.Core.Bool.{_||_}
+use native.Mathlib.Omega.{arith}
+use mathlib.Core.Path.{_≡_, refl, sym, ap, _∙_}
+use borrow.Author.Needs.{needs}
+use Rattle.arm.proofs.seen.Seen.step.Statement.{statement}
+use Rattle.arm.proofs.seen.Seen.step.Tie as tie
+use Rattle.arm.proofs.seen.Seen.step.Reads as reads
+use Rattle.arm.proofs.seen.Seen.step.Lts as lts
+use Rattle.arm.proofs.page.Page.done.Reads as done-reads
+use Rattle.arm.proofs.page.Page.risen.Reads as risen-reads
+use Rattle.arm.proofs.seen.add.Reads as add-reads
+use Rattle.arm.proofs.seen.clashes.Reads as clashes-reads
+use Rattle.arm.proofs.seen.either.Reads as either-reads
+use Rattle.arm.proofs.seen.lacks.Reads as lacks-reads
+
+-- src/seen.rt:114:13
+add-requires : tie.Need-add-requires
+add-requires c κs = search needs
+
+-- src/seen.rt:115:13
+risen-requires : tie.Need-risen-requires
+risen-requires c κs = search needs
+
+-- src/seen.rt:116:13
+either-requires : tie.Need-either-requires
+either-requires c κs = search needs
+
+-- src/seen.rt:117:38
+lacks-requires : tie.Need-lacks-requires
+lacks-requires c κs = search needs
+
+-- src/seen.rt:117:13
+either-requires-2 : tie.Need-either-requires-2
+either-requires-2 c κs = search needs
+
+-- src/seen.rt:118:40
+clashes-requires : tie.Need-clashes-requires
+clashes-requires c κs = search needs
+
+-- src/seen.rt:118:13
+either-requires-3 : tie.Need-either-requires-3
+either-requires-3 c κs = search needs
+
+-- src/seen.rt:119:13
+done-requires : tie.Need-done-requires
+done-requires c κs = search needs
+
+-- src/seen.rt:108:5
+returns : tie.Need-returns
+returns c w h =
+    let d = c .before .before .before .before .before in
+    let s = d .before .before .before .before .args .self in
+    step-holds s _ (d .before .before .before .before .args .act) w h
+    (d .before .before .add .ensures (w .count) 1 (h .count) (omega arith))
+    (d .before .risen .ensures (w .most) (h .most))
+    (d .either .ensures)
+    (c .before .before .before .either2 .ensures ∙ ap (_||_ (s .lost)) (c .before .before .before .before .lacks .ensures))
+    (c .before .either3 .ensures ∙ ap (_||_ (s .wrong)) (c .before .before .clashes .ensures))
+    (c .done .ensures)
+
+pub step-spec : {M : Type 1} → statement M
+step-spec =
+    tie.close
+    (tie.spec
+    add-requires
+    risen-requires
+    either-requires
+    lacks-requires
+    either-requires-2
+    clashes-requires
+    either-requires-3
+    done-requires
+    returns)

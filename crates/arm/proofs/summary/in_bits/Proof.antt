@@ -1,0 +1,15 @@
+use Rattle.arm.specs.Sums.{endingOf, summaryOf, SumsAs}
+use mathlib.Core.Path.{_≡_, refl, sym, ap, _∙_}
+use borrow.Author.Needs.{needs}
+use Rattle.arm.proofs.summary.in_bits.Statement.{statement}
+use Rattle.arm.proofs.summary.in_bits.Tie as tie
+use Rattle.arm.proofs.summary.in_bits.Reads as reads
+use Rattle.arm.proofs.summary.in_bits.Lts as lts
+
+-- src/summary.rt:40:1
+returns : tie.Need-returns
+unfolding endingOf
+returns c = refl
+
+pub in-bits-spec : {M : Type 1} → statement M
+in-bits-spec = tie.close (tie.spec returns)

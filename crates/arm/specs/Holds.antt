@@ -1,0 +1,37 @@
+-- What the code keeps of a page, and of an arm on its way. Past 24 saved states, and past 1,000,000 operators, it keeps only that it is past.
+-- Assumes nothing.
+use Prim.Native.Nat.{ℕ, _≤_, min}
+use mathlib.Core.Path.{_≡_}
+use mathlib.Core.Bool.{Bool}
+use lib.ListN.{length}
+use Rattle.scope.specs.Arm as scope
+use Rattle.arm.specs.declared.page.Page.{Page}
+use Rattle.arm.specs.declared.seen.Seen.{Seen}
+use Rattle.arm.specs.declared.moved.Moved.{Moved}
+use Rattle.arm.specs.declared.moved.Moved.the-variants.{To, No}
+use Rattle.arm.specs.Views.{pageAs}
+use Rattle.arm.specs.Codes.{codeOf}
+
+-- the code's page p is read as q, and at most 24 states are saved
+pub record PageHolds (p : Page) (q : scope.Page) : Type 0 where
+  pub same : pageAs p ≡ q
+  pub few : length (q .saved) ≤ 24
+
+-- the part that is exact while no more than 24 were saved
+pub record Exact (s : Seen) (w : scope.Seen) : Type 0 where
+  pub page : pageAs (s .page) ≡ w .page
+  pub lost : s .lost ≡ w .lost
+  pub wrong : s .wrong ≡ w .wrong
+
+-- the code's s keeps what the arm w has seen
+pub record Holds (s : Seen) (w : scope.Seen) : Type 0 where
+  pub count : s .count ≡ min (w .count) 1_000_001
+  pub most : s .most ≡ min (w .most) 25
+  pub source : s .source ≡ w .source
+  pub exact : w .most ≤ 24 → Exact s w
+
+-- the answer to operators that take the arm to w: the page after them and the number performed, where no rule is broken; or the code of the first rule
+-- that is
+pub data Moves (opened : Bool) : Moved → scope.Seen → Type 0 where
+  moves-to : {p : Page} {n : ℕ} {w : scope.Seen} → codeOf opened w ≡ 0 → PageHolds p (w .page) → n ≡ w .count → Moves opened (To p n) w
+  moves-no : {k : ℕ} {w : scope.Seen} → k ≡ codeOf opened w → (k ≡ 0 → ⊥) → Moves opened (No k) w

@@ -1,0 +1,5 @@
+pub mod Views
+pub mod Codes
+pub mod Holds
+pub mod Balance
+pub mod Sums

@@ -1,0 +1,50 @@
+// An operator or a call in a page of the job: the page after it and the number performed, or a refusal.
+ghost use mathlib.Core.Path.{_≡_};
+ghost use Prim.Native.Nat.{ℕ, _≤_};
+ghost use lib.ListN.{length};
+ghost use mathlib.Core.List.{List, [], _∷_};
+ghost use Rattle.scope.specs.Arm.{walk, from, idle, Stroke};
+ghost use Rattle.scope.specs.Arm.{Page as Arm·Page, Seen as Arm·Seen};
+ghost use Rattle.arm.specs.Views.{actAs};
+ghost use Rattle.arm.specs.Holds.{PageHolds, Holds, Moves};
+ghost use Rattle.arm.specs.Sums.{Sums};
+use crate::page::Act;
+use crate::page::Page;
+use crate::seen::Seen;
+use crate::summary::Summary;
+
+// The page after it and the number performed, or the code of the refusal.
+pub enum Moved {
+    To(Page, u32),
+    No(u32),
+}
+
+// The answer, from what was seen.
+fn answer(seen: Seen, opened: bool) -> Moved
+    ensures { λ r. ⌜ ((q : Arm·Page) (n : ℕ) (row : List Stroke) → length (q .saved) ≤ 24 → Holds seen (walk row (from q n)) → Moves opened r (walk row (from q n))) ⌝ }
+{
+    let k = seen.code(opened);
+    if k != 0 {
+        return Moved::No(k);
+    }
+    let page = seen.page;
+    Moved::To(page, seen.count)
+}
+
+impl Page {
+    // An operator that is no call.
+    pub fn perform(self, act: Act, opened: bool, performed: u32) -> Moved
+        ensures { λ r. ⌜ ((q : Arm·Page) (x : Stroke) → PageHolds self q → x .act ≡ actAs act → Moves opened r (walk (x ∷ []) (from q performed))) ⌝ }
+    {
+        let seen = Seen::from(self, performed);
+        answer(seen.step(act), opened)
+    }
+
+    // A call, from what its motif comes to.
+    pub fn call(self, summary: Summary, opened: bool, performed: u32) -> Moved
+        ensures { λ r. ⌜ ((q : Arm·Page) (x : Stroke) (row : List Stroke) → PageHolds self q → x .act ≡ idle → Sums summary row → Moves opened r (walk (x ∷ row) (from q performed))) ⌝ }
+    {
+        let seen = Seen::from(self, performed);
+        answer(seen.call(summary), opened)
+    }
+}

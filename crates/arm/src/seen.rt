@@ -1,0 +1,163 @@
+// The arm on its way, operator by operator: the page, and what was seen.
+ghost use mathlib.Core.Path.{_≡_};
+ghost use mathlib.Core.Bool.{_||_, _&&_, not};
+ghost use mathlib.Core.List.{List, _∷_};
+ghost use Prim.Native.Nat.{ℕ, _+_, _<_, min, max};
+ghost use Rattle.scope.specs.Choice.{pick};
+ghost use Rattle.scope.specs.Arm.{clash, step, walk, from, idle, Stroke};
+ghost use Rattle.scope.specs.Arm.{Seen as Arm·Seen};
+ghost use Rattle.arm.specs.Views.{pageAs, spaceAs, actAs};
+ghost use Rattle.arm.specs.Codes.{codeOf};
+ghost use Rattle.arm.specs.Holds.{Holds};
+ghost use Rattle.arm.specs.Sums.{Sums};
+use crate::page::Act;
+use crate::page::Page;
+use crate::page::Space;
+use crate::summary::Summary;
+
+// The page; the operators performed (past 1,000,000 always 1,000,001); the most states saved right after a PushGS (past 24 always 25); whether an open source
+// was needed, a cursor needed and not set, a colour space needed and another set.
+pub struct Seen {
+    pub page: Page,
+    pub count: u32,
+    pub most: u32,
+    pub source: bool,
+    pub lost: bool,
+    pub wrong: bool,
+}
+
+fn either(a: bool, b: bool) -> bool
+    ensures { λ r. ⌜ r ≡ (a || b) ⌝ }
+{
+    if a { true } else { b }
+}
+
+fn lacks(need: bool, has: bool) -> bool
+    ensures { λ r. ⌜ r ≡ (need && not has) ⌝ }
+{
+    if need { !has } else { false }
+}
+
+fn clashes(space: Space, gray: bool) -> bool
+    ensures { λ r. ⌜ r ≡ clash (spaceAs space) gray ⌝ }
+{
+    match space {
+        Space::Any => false,
+        Space::Gray => !gray,
+        Space::Rgb => gray,
+    }
+}
+
+fn choose(c: bool, a: bool, b: bool) -> bool
+    ensures { λ r. ⌜ r ≡ pick c a b ⌝ }
+{
+    if c { a } else { b }
+}
+
+// Counts past 1,000,000 are all 1,000,001.
+fn add(n: u32, m: u32) -> u32
+    ensures { λ r. ⌜ ((x y : ℕ) → n ≡ min x 1_000_001 → m ≡ min y 1_000_001 → r ≡ min (x + y) 1_000_001) ⌝ }
+{
+    if n <= 1_000_000 {
+        if m <= 1_000_000 - n {
+            return n + m;
+        }
+    }
+    1_000_001
+}
+
+// The most states saved, after m more at a time on top of l; past 24 it is 25.
+pub fn higher(most: u32, l: u32, m: u32) -> u32
+    ensures { λ r. ⌜ ((x y : ℕ) → most ≡ min x 25 → m ≡ min y 25 → (y ≡ 0 → r ≡ min x 25) × (0 < y → r ≡ min (max x (y + l)) 25)) ⌝ }
+{
+    if m == 0 {
+        return most;
+    }
+    if 25 <= most {
+        return 25;
+    }
+    if 25 <= m {
+        return 25;
+    }
+    if 25 <= l {
+        return 25;
+    }
+    let top = l + m;
+    if top <= most {
+        return most;
+    }
+    if 25 <= top {
+        return 25;
+    }
+    top
+}
+
+impl Seen {
+    // The arm before an operator of the job: nothing seen yet.
+    pub fn from(page: Page, performed: u32) -> Seen
+        ensures { λ r. ⌜ Holds r (from (pageAs page) performed) ⌝ }
+    {
+        let mut count: u32 = 1_000_001;
+        if performed <= 1_000_000 {
+            count = performed;
+        }
+        Seen { page, count, most: 0, source: false, lost: false, wrong: false }
+    }
+
+    // One operator performed.
+    pub fn step(self, act: Act) -> Seen
+        ensures { λ r. ⌜ ((w : Arm·Seen) → Holds self w → Holds r (step (actAs act) w)) ⌝ }
+    {
+        let page = self.page;
+        let space = act.space;
+        let effect = act.effect;
+        let count = add(self.count, 1);
+        let most = page.risen(effect, self.most);
+        let source = either(self.source, act.source);
+        let lost = either(self.lost, lacks(act.cursor, page.cursor));
+        let wrong = either(self.wrong, clashes(space, page.gray));
+        let next = page.done(effect);
+        Seen { page: next, count, most, source, lost, wrong }
+    }
+
+    // A call performed, with its motif's operators besides, from what the motif comes to.
+    pub fn call(self, summary: Summary) -> Seen
+        ensures { λ r. ⌜ ((w : Arm·Seen) (x : Stroke) (row : List Stroke) → Holds self w → x .act ≡ idle → Sums summary row → Holds r (walk (x ∷ row) w)) ⌝ }
+    {
+        let page = self.page;
+        let a = summary.a;
+        let b = summary.b;
+        let one = add(self.count, 1);
+        let count = add(one, summary.count);
+        let most = higher(self.most, page.depth, summary.most);
+        let source = either(self.source, summary.source);
+        let lost = either(self.lost, choose(page.cursor, a.lost, b.lost));
+        let wrong = either(self.wrong, choose(page.gray, a.wrong, b.wrong));
+        let cursor = choose(page.cursor, a.cursor, b.cursor);
+        let gray = choose(page.gray, a.gray, b.gray);
+        let next = Page { cursor, gray, depth: page.depth, saved: page.saved };
+        Seen { page: next, count, most, source, lost, wrong }
+    }
+
+    // The code of the first rule broken on the way, or 0.
+    pub fn code(self, opened: bool) -> u32
+        ensures { λ r. ⌜ ((w : Arm·Seen) → Holds self w → r ≡ codeOf opened w) ⌝ }
+    {
+        if lacks(self.source, opened) {
+            return 17;
+        }
+        if 25 <= self.most {
+            return 23;
+        }
+        if self.lost {
+            return 24;
+        }
+        if self.wrong {
+            return 25;
+        }
+        if 1_000_001 <= self.count {
+            return 26;
+        }
+        0
+    }
+}
