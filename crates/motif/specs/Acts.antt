@@ -1,0 +1,25 @@
+-- Parts of 01's rules on what an operator needs and does, where the code has a function of its own for them.
+-- Assumes nothing.
+use Prim.Native.Nat.{ℕ}
+use mathlib.Core.Path.{_≡_, refl}
+use mathlib.Core.Bool.{Bool}
+use mathlib.Core.List.{List}
+use lib.Dec.{eqb}
+use Rattle.scope.specs.Choice.{pick}
+use Rattle.scope.specs.Item.{Attribute}
+use Rattle.scope.specs.Attributes.{has, valueIn}
+use Rattle.scope.specs.Reading.{Operator}
+use Rattle.scope.specs.Arm.{Act, Space, any, gray, rgb, Effect, put, kept, to, needsCursor, needsSpace, effectOf, actOf}
+
+-- RGBColor needs RGB; GrayLevel needs gray
+unfoldable pub brushSpace : List Attribute → Space
+brushSpace l = pick (has 11 l) rgb (pick (has 9 l) gray any)
+
+-- SetColorSpace sets the colour space
+unfoldable pub spaceEffect : Bool → List ℕ → List Attribute → Effect
+spaceEffect high s l = put kept (to (eqb (valueIn high s l 3) 1))
+
+-- an operator of this tag, which reads data or not, with these attributes
+unfoldable pub actFor : Bool → List ℕ → ℕ → Bool → List Attribute → Act
+actFor high s tag reads l =
+    record { source = reads; cursor = needsCursor tag; space = needsSpace tag l; effect = effectOf high s tag l }

@@ -1,0 +1,8 @@
+// Motifs: what is held, and how one is judged when EndStream holds it.
+mod act;
+mod names;
+mod picture;
+
+pub use act::act_of;
+pub use names::Where;
+pub use picture::Picture;
