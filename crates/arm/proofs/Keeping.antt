@@ -5,27 +5,25 @@ use native.Mathlib.Numerals.{add-one}
 use native.Mathlib.Decide.{decLe}
 use mathlib.Core.Path.{_≡_, refl, sym, ap, ap₂, _∙_}
 use mathlib.Core.Bool.{Bool, true, false, not, _&&_, _||_}
-use mathlib.Core.List.{List, [], _∷_, _++_}
+use mathlib.Core.List.{List, [], _∷_}
 use lib.ListN.{length}
 use lib.Dec.{leb, ltb}
-use borrow.Author.Tests.{le-leb, lt-leb, ltb-false}
+use borrow.Author.Tests.{le-leb, lt-leb}
 use Rattle.scope.specs.Choice.{pick}
 use Rattle.scope.specs.Arm as scope
 use Rattle.scope.specs.Arm.{Effect, push, pop, put, risen, done, clash, step, idle, Stroke, walk, from}
 use Rattle.arm.specs.declared.page.Act.{Act}
 use Rattle.arm.specs.declared.page.Page.{Page}
 use Rattle.arm.specs.declared.seen.Seen.{Seen}
-use Rattle.arm.specs.declared.summary.Ending.{Ending}
 use Rattle.arm.specs.declared.summary.Summary.{Summary}
-use Rattle.arm.specs.declared.moved.Moved.{Moved}
 use Rattle.arm.specs.declared.moved.Moved.the-variants.{To, No}
-use Rattle.arm.specs.Views.{stack, pageAs, actAs}
+use Rattle.arm.specs.Views.{pageAs, actAs}
 use Rattle.arm.specs.Codes.{codeOf}
 use Rattle.arm.specs.Holds.{PageHolds, Exact, Holds, Moves, moves-to, moves-no}
 use Rattle.arm.specs.Sums.{fresh, Ends, Sums}
-use Rattle.arm.proofs.Clean.{Clean, clean-code}
+use Rattle.arm.proofs.Clean.{clean-code}
 use Rattle.arm.proofs.Rows.{fresh-count}
-use Rattle.arm.proofs.Ways.{rise, zipped, mixed, inst, or-false, walk-both, fresh-saved, none-zipped, fresh-most, within, page-eq}
+use Rattle.arm.proofs.Ways.{rise, mixed, inst, or-false, walk-both, fresh-saved, none-zipped, within, page-eq}
 use Rattle.arm.proofs.Stacks.{depth-saved}
 
 -- an effect notes at least what was noted, and the same of a page that is the same
@@ -161,8 +159,8 @@ code-kept o s w h = ap₂ (λ (b : Bool) (x : ℕ). pick (b && not o) 17 x) (h .
         ≡ pick {A = ℕ} (ltb 24 (w .most)) 23 (pick (w .lost) 24 (pick (w .wrong) 25 (pick (ltb 1_000_000 (w .count)) 26 0)))
     rest =
         elim (decLe (w .most) 24) [
-        | yes p ↦ (let t = h .exact p in rw (h .most, cap-same 25 (w .most), t .lost, t .wrong, h .count, cap-same 1_000_001 (w .count)) refl)
-        | no p ↦ rw (h .most, le-leb 25 (min (w .most) 25) (omega arith), le-leb 25 (w .most) (omega arith)) refl
+          | yes p ↦ (let t = h .exact p in rw (h .most, cap-same 25 (w .most), t .lost, t .wrong, h .count, cap-same 1_000_001 (w .count)) refl)
+          | no p ↦ rw (h .most, le-leb 25 (min (w .most) 25) (omega arith), le-leb 25 (w .most) (omega arith)) refl
         ]
 
 -- the answer where no rule was broken
@@ -177,3 +175,10 @@ answer-to o s q n row l h z =
     let e : s .count ≡ walk row (from q n) .count = omega arith in
     let f : length (walk row (from q n) .page .saved) ≤ 24 = omega arith in
     moves-to z (record { same = h .exact m .page; few = f }) e
+
+-- what each answer says
+pub moved-to : {o : Bool} {p : Page} {n : ℕ} {w : scope.Seen} → Moves o (To p n) w → (codeOf o w ≡ 0) × PageHolds p (w .page) × (n ≡ w .count)
+moved-to (moves-to z h e) = (z, h, e)
+
+pub moved-no : {o : Bool} {k : ℕ} {w : scope.Seen} → Moves o (No k) w → (k ≡ codeOf o w) × (k ≡ 0 → ⊥)
+moved-no (moves-no e z) = (e, z)

@@ -5,13 +5,15 @@ use native.Mathlib.Nat.{suc-add, zero-add}
 use mathlib.Core.Path.{_≡_, refl, sym, ap, _∙_}
 use mathlib.Core.Bool.{Bool, true, false}
 use mathlib.Core.List.{List, [], _∷_, _++_}
-use lib.Dec.{eqb}
-use borrow.Author.Tests.{eqb-true}
-use Rattle.scope.specs.Choice.{pick, same}
+use lib.Dec.{eqb, leb}
+use borrow.Author.Tests.{eqb-true, leb-true}
+use Rattle.scope.specs.Choice.{pick, among, same}
 use Rattle.scope.specs.Item.{Attribute}
 use Rattle.scope.specs.Attributes.{valueIn}
-use Rattle.scope.specs.Arm.{Effect, push, pop, put, Mark, kept, to, effectOf, Act, idle, Stroke}
+use Rattle.scope.specs.Arm.{Effect, push, pop, put, kept, to, effectOf, Act, idle, Stroke}
+use Rattle.scope.specs.Order.{drawn}
 use Rattle.scope.specs.Motif.{Own, does, calls, Motif, flat, unfolded, savedAfter}
+use Rattle.arm.proofs.Ways.{or-false}
 use Rattle.arm.specs.Balance.{mayDo, depthAfter, Level, Balanced, OwnLevel, HeldBalanced}
 
 may-above : (e : Effect) (d k : ℕ) → mayDo e d → mayDo e (d + k)
@@ -81,8 +83,8 @@ unfolding HeldBalanced unfolded Balanced Level
 unfolded-balanced [] h n = refl
 unfolded-balanced (m ∷ ms) h n =
     elim (same (m .name) n) as (λ (t : Bool). Balanced (elim t [ true ↦ flat (unfolded ms) (m .number) (m .ops) | false ↦ unfolded ms n ])) [
-    | true ↦ own-level (unfolded ms) (m .number) (unfolded-balanced ms (h .1)) (m .ops) 0 0 (h .0)
-    | false ↦ unfolded-balanced ms (h .1) n
+      | true ↦ own-level (unfolded ms) (m .number) (unfolded-balanced ms (h .1)) (m .ops) 0 0 (h .0)
+      | false ↦ unfolded-balanced ms (h .1) n
     ]
 
 -- an operator's tag says what its effect does to the number saved
@@ -122,3 +124,8 @@ may-saved high s tag l n h = go (eqb tag 0x61) (eqb tag 0x60) (eqb tag 0x6b) (eq
     go false false false true e k = tt
     go false false false false true k = tt
     go false false false false false k = tt
+
+-- a PopGS that may come in a motif finds something saved
+pub drawn-pop : (n tag : ℕ) → drawn n tag ≡ true → tag ≡ 0x60 → 0 < n
+unfolding drawn among
+drawn-pop n tag h e = leb-true 1 n (sym (or-false (leb 1 n)) ∙ (rw e at h))

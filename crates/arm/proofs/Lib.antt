@@ -6,3 +6,4 @@ pub mod Clean
 pub mod Keeping
 pub mod Packs
 pub mod Obeyed
+pub mod Rules

@@ -1,12 +1,11 @@
 -- A row is judged 0 exactly if the plain arm comes to its end, no operator breaking a rule where it is performed.
-use Prim.Native.Nat.{ℕ, suc, _<_, _≤_, max}
+use Prim.Native.Nat.{ℕ, _<_, _≤_}
 use native.Mathlib.Omega.{arith}
-use mathlib.Core.Path.{_≡_, refl, sym, ap, _∙_}
+use mathlib.Core.Path.{_≡_, refl, sym, _∙_}
 use mathlib.Core.Logic.{_↔_}
 use mathlib.Core.Bool.{Bool, true, false, not, _&&_, _||_, true≢false}
 use mathlib.Core.List.{List, [], _∷_}
 use lib.ListN.{length}
-use lib.Dec.{leb}
 use borrow.Author.Tests.{leb-false, lt-leb}
 use Rattle.scope.specs.Choice.{pick}
 use Rattle.scope.specs.Arm.{Effect, push, pop, put, Page, clash, risen, Act, Seen, step, Stroke, walk, from}

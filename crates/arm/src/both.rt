@@ -23,7 +23,12 @@ pub struct Both {
 fn at_start(b: bool) -> Seen
     ensures { λ r. ⌜ Holds r (fresh b) ⌝ }
 {
-    let page = Page { cursor: b, gray: b, depth: 0, saved: 0 };
+    let page = Page {
+        cursor: b,
+        gray: b,
+        depth: 0,
+        saved: 0,
+    };
     Seen::from(page, 0)
 }
 
@@ -31,7 +36,12 @@ fn ended(seen: Seen) -> Ending
     ensures { λ r. ⌜ ((w : Arm·Seen) → Holds seen w → w .most ≤ 24 → Ends r w) ⌝ }
 {
     let page = seen.page;
-    Ending { cursor: page.cursor, gray: page.gray, lost: seen.lost, wrong: seen.wrong }
+    Ending {
+        cursor: page.cursor,
+        gray: page.gray,
+        lost: seen.lost,
+        wrong: seen.wrong,
+    }
 }
 
 impl Both {
@@ -74,6 +84,12 @@ impl Both {
         let b = self.b;
         let c = ended(a);
         let d = ended(b);
-        Summary { count: a.count, most: a.most, source: a.source, a: c, b: d }
+        Summary {
+            count: a.count,
+            most: a.most,
+            source: a.source,
+            a: c,
+            b: d,
+        }
     }
 }

@@ -4,7 +4,7 @@ ghost use Prim.Native.Nat.{ℕ, _≤_};
 ghost use lib.ListN.{length};
 ghost use mathlib.Core.List.{List, [], _∷_};
 ghost use Rattle.scope.specs.Arm.{walk, from, idle, Stroke};
-ghost use Rattle.scope.specs.Arm.{Page as Arm·Page, Seen as Arm·Seen};
+ghost use Rattle.scope.specs.Arm.{Page as Arm·Page};
 ghost use Rattle.arm.specs.Views.{actAs};
 ghost use Rattle.arm.specs.Holds.{PageHolds, Holds, Moves};
 ghost use Rattle.arm.specs.Sums.{Sums};

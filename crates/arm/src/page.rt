@@ -3,8 +3,9 @@ ghost use mathlib.Core.Path.{_≡_};
 ghost use Prim.Native.Nat.{ℕ, _≤_, _<_, min};
 ghost use Rattle.scope.specs.Arm.{done, risen, marked, push, pop, put};
 ghost use Rattle.scope.specs.Arm.{blank as Arm·blank};
+ghost use Rattle.arm.specs.Holds.{PageHolds};
 ghost use Rattle.arm.specs.Views.{bitsOf, pageAs, markAs, effectAs};
-use crate::seen::higher;
+use crate::limits::higher;
 
 // What becomes of the cursor, or of the colour space.
 pub enum Mark {
@@ -44,9 +45,14 @@ pub struct Page {
 
 // A page as BeginPage starts it.
 pub fn blank(gray: bool) -> Page
-    ensures { λ r. ⌜ pageAs r ≡ Arm·blank gray ⌝ }
+    ensures { λ r. ⌜ PageHolds r (Arm·blank gray) ⌝ }
 {
-    Page { cursor: false, gray, depth: 0, saved: 0 }
+    Page {
+        cursor: false,
+        gray,
+        depth: 0,
+        saved: 0,
+    }
 }
 
 fn bits(cursor: bool, gray: bool) -> u64
@@ -95,9 +101,11 @@ impl Page {
         if depth == 0 {
             return self;
         }
+        let cursor = saved % 2 == 1;
+        let gray = saved / 2 % 2 == 1;
         Page {
-            cursor: saved % 2 == 1,
-            gray: saved / 2 % 2 == 1,
+            cursor,
+            gray,
             depth: depth - 1,
             saved: saved / 4,
         }
@@ -108,7 +116,12 @@ impl Page {
     {
         let c = marks(cursor, self.cursor);
         let g = marks(gray, self.gray);
-        Page { cursor: c, gray: g, depth: self.depth, saved: self.saved }
+        Page {
+            cursor: c,
+            gray: g,
+            depth: self.depth,
+            saved: self.saved,
+        }
     }
 
     // The page after an effect, where no more than 24 are saved then.

@@ -2,7 +2,6 @@
 ghost use mathlib.Core.Path.{_≡_};
 ghost use mathlib.Core.Bool.{_||_, _&&_, not};
 ghost use mathlib.Core.List.{List, _∷_};
-ghost use Prim.Native.Nat.{ℕ, _+_, _<_, min, max};
 ghost use Rattle.scope.specs.Choice.{pick};
 ghost use Rattle.scope.specs.Arm.{clash, step, walk, from, idle, Stroke};
 ghost use Rattle.scope.specs.Arm.{Seen as Arm·Seen};
@@ -10,6 +9,8 @@ ghost use Rattle.arm.specs.Views.{pageAs, spaceAs, actAs};
 ghost use Rattle.arm.specs.Codes.{codeOf};
 ghost use Rattle.arm.specs.Holds.{Holds};
 ghost use Rattle.arm.specs.Sums.{Sums};
+use crate::limits::add;
+use crate::limits::higher;
 use crate::page::Act;
 use crate::page::Page;
 use crate::page::Space;
@@ -54,44 +55,6 @@ fn choose(c: bool, a: bool, b: bool) -> bool
     if c { a } else { b }
 }
 
-// Counts past 1,000,000 are all 1,000,001.
-fn add(n: u32, m: u32) -> u32
-    ensures { λ r. ⌜ ((x y : ℕ) → n ≡ min x 1_000_001 → m ≡ min y 1_000_001 → r ≡ min (x + y) 1_000_001) ⌝ }
-{
-    if n <= 1_000_000 {
-        if m <= 1_000_000 - n {
-            return n + m;
-        }
-    }
-    1_000_001
-}
-
-// The most states saved, after m more at a time on top of l; past 24 it is 25.
-pub fn higher(most: u32, l: u32, m: u32) -> u32
-    ensures { λ r. ⌜ ((x y : ℕ) → most ≡ min x 25 → m ≡ min y 25 → (y ≡ 0 → r ≡ min x 25) × (0 < y → r ≡ min (max x (y + l)) 25)) ⌝ }
-{
-    if m == 0 {
-        return most;
-    }
-    if 25 <= most {
-        return 25;
-    }
-    if 25 <= m {
-        return 25;
-    }
-    if 25 <= l {
-        return 25;
-    }
-    let top = l + m;
-    if top <= most {
-        return most;
-    }
-    if 25 <= top {
-        return 25;
-    }
-    top
-}
-
 impl Seen {
     // The arm before an operator of the job: nothing seen yet.
     pub fn from(page: Page, performed: u32) -> Seen
@@ -101,7 +64,14 @@ impl Seen {
         if performed <= 1_000_000 {
             count = performed;
         }
-        Seen { page, count, most: 0, source: false, lost: false, wrong: false }
+        Seen {
+            page,
+            count,
+            most: 0,
+            source: false,
+            lost: false,
+            wrong: false,
+        }
     }
 
     // One operator performed.
@@ -117,7 +87,14 @@ impl Seen {
         let lost = either(self.lost, lacks(act.cursor, page.cursor));
         let wrong = either(self.wrong, clashes(space, page.gray));
         let next = page.done(effect);
-        Seen { page: next, count, most, source, lost, wrong }
+        Seen {
+            page: next,
+            count,
+            most,
+            source,
+            lost,
+            wrong,
+        }
     }
 
     // A call performed, with its motif's operators besides, from what the motif comes to.
@@ -135,8 +112,20 @@ impl Seen {
         let wrong = either(self.wrong, choose(page.gray, a.wrong, b.wrong));
         let cursor = choose(page.cursor, a.cursor, b.cursor);
         let gray = choose(page.gray, a.gray, b.gray);
-        let next = Page { cursor, gray, depth: page.depth, saved: page.saved };
-        Seen { page: next, count, most, source, lost, wrong }
+        let next = Page {
+            cursor,
+            gray,
+            depth: page.depth,
+            saved: page.saved,
+        };
+        Seen {
+            page: next,
+            count,
+            most,
+            source,
+            lost,
+            wrong,
+        }
     }
 
     // The code of the first rule broken on the way, or 0.

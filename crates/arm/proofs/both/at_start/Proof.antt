@@ -1,7 +1,6 @@
 use Rattle.arm.specs.Views.{stack}
 use Rattle.arm.specs.Sums.{fresh}
-use Rattle.scope.specs.Arm.{done, risen, from, walk, step}
-use mathlib.Core.Path.{_≡_, refl, sym, ap, _∙_}
+use Rattle.scope.specs.Arm.{from}
 use borrow.Author.Needs.{needs}
 use Rattle.arm.proofs.both.at_start.Statement.{statement}
 use Rattle.arm.proofs.both.at_start.Tie as tie
@@ -9,11 +8,9 @@ use Rattle.arm.proofs.both.at_start.Reads as reads
 use Rattle.arm.proofs.both.at_start.Lts as lts
 use Rattle.arm.proofs.seen.Seen.from.Reads as from-reads
 
--- src/both.rt:27:5
 from-requires : tie.Need-from-requires
 from-requires c κs = search needs
 
--- src/both.rt:23:1
 returns : tie.Need-returns
 unfolding fresh stack
 returns c = c .from .ensures

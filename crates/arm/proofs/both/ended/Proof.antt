@@ -1,12 +1,10 @@
 use Rattle.scope.specs.Arm.{Page}
-use mathlib.Core.Path.{_≡_, refl, sym, ap, _∙_}
-use borrow.Author.Needs.{needs}
+use mathlib.Core.Path.{ap}
 use Rattle.arm.proofs.both.ended.Statement.{statement}
 use Rattle.arm.proofs.both.ended.Tie as tie
 use Rattle.arm.proofs.both.ended.Reads as reads
 use Rattle.arm.proofs.both.ended.Lts as lts
 
--- src/both.rt:30:1
 returns : tie.Need-returns
 returns c w h m =
     let t = h .exact m in

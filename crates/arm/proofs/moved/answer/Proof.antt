@@ -1,7 +1,7 @@
-use Rattle.arm.proofs.Keeping.{step-holds, call-holds, code-kept, answer-to}
-use Rattle.arm.specs.Holds.{moves-to, moves-no, PageHolds}
-use Rattle.scope.specs.Arm.{done, risen, from, walk, step}
-use mathlib.Core.Path.{_≡_, refl, sym, ap, _∙_}
+use Rattle.arm.proofs.Keeping.{answer-to}
+use Rattle.arm.specs.Holds.{moves-no}
+use Rattle.scope.specs.Arm.{from, walk}
+use mathlib.Core.Path.{sym, _∙_}
 use borrow.Author.Needs.{needs}
 use Rattle.arm.proofs.moved.answer.Statement.{statement}
 use Rattle.arm.proofs.moved.answer.Tie as tie
@@ -9,15 +9,12 @@ use Rattle.arm.proofs.moved.answer.Reads as reads
 use Rattle.arm.proofs.moved.answer.Lts as lts
 use Rattle.arm.proofs.seen.Seen.code.Reads as code-reads
 
--- src/moved.rt:26:9
 code-requires : tie.Need-code-requires
 code-requires c κs = search needs
 
--- src/moved.rt:28:9
 returns : tie.Need-returns
 returns c q n row l h = moves-no (c .before .code .ensures (walk row (from q n)) h) (c .if1 .taken)
 
--- src/moved.rt:23:1
 returns-2 : tie.Need-returns-2
 returns-2 c q n row l h = answer-to (c .before .before .before .args .opened) (c .before .before .before .args .seen) q n row l h (sym (c .before .before .code .ensures (walk row (from q n)) h) ∙ c .before .if1 .left)
 

@@ -1,12 +1,10 @@
-use Rattle.arm.specs.Sums.{endingOf, summaryOf, SumsAs}
-use mathlib.Core.Path.{_≡_, refl, sym, ap, _∙_}
-use borrow.Author.Needs.{needs}
+use Rattle.arm.specs.Sums.{endingOf}
+use mathlib.Core.Path.{refl}
 use Rattle.arm.proofs.summary.in_bits.Statement.{statement}
 use Rattle.arm.proofs.summary.in_bits.Tie as tie
 use Rattle.arm.proofs.summary.in_bits.Reads as reads
 use Rattle.arm.proofs.summary.in_bits.Lts as lts
 
--- src/summary.rt:40:1
 returns : tie.Need-returns
 unfolding endingOf
 returns c = refl

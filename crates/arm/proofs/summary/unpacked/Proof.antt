@@ -1,5 +1,4 @@
-use Rattle.arm.specs.Sums.{endingOf, summaryOf, SumsAs}
-use mathlib.Core.Path.{_≡_, refl, sym, ap, _∙_}
+use Rattle.arm.specs.Sums.{summaryOf, SumsAs}
 use borrow.Author.Needs.{needs}
 use Rattle.arm.proofs.summary.unpacked.Statement.{statement}
 use Rattle.arm.proofs.summary.unpacked.Tie as tie
@@ -7,23 +6,18 @@ use Rattle.arm.proofs.summary.unpacked.Reads as reads
 use Rattle.arm.proofs.summary.unpacked.Lts as lts
 use Rattle.arm.proofs.summary.in_bits.Reads as in-bits-reads
 
--- src/summary.rt:71:9
 in-bits-requires : tie.Need-in-bits-requires
 in-bits-requires c κs = search needs
 
--- src/summary.rt:72:9
 in-bits-requires-2 : tie.Need-in-bits-requires-2
 in-bits-requires-2 c κs = search needs
 
--- src/summary.rt:74:16
 cast-t6 : tie.Need-cast-t6
 cast-t6 c = search needs
 
--- src/summary.rt:75:15
 cast-t9 : tie.Need-cast-t9
 cast-t9 c = search needs
 
--- src/summary.rt:68:1
 returns : tie.Need-returns
 unfolding SumsAs summaryOf
 returns c row h = rw (c .before .in-bits .ensures, c .in-bits2 .ensures) h

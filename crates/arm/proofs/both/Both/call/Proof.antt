@@ -1,9 +1,8 @@
 use Rattle.arm.proofs.Rows.{walk-append}
 use mathlib.Core.Bool.{true, false}
-use mathlib.Core.List.{[], _∷_}
+use mathlib.Core.List.{_∷_}
 use Rattle.arm.specs.Sums.{fresh}
-use Rattle.scope.specs.Arm.{done, risen, from, walk, step}
-use mathlib.Core.Path.{_≡_, refl, sym, ap, _∙_}
+use Rattle.scope.specs.Arm.{walk}
 use borrow.Author.Needs.{needs}
 use Rattle.arm.proofs.both.Both.call.Statement.{statement}
 use Rattle.arm.proofs.both.Both.call.Tie as tie
@@ -11,15 +10,12 @@ use Rattle.arm.proofs.both.Both.call.Reads as reads
 use Rattle.arm.proofs.both.Both.call.Lts as lts
 use Rattle.arm.proofs.seen.Seen.call.Reads as call-reads
 
--- src/both.rt:64:13
 call-requires : tie.Need-call-requires
 call-requires c κs = search needs
 
--- src/both.rt:65:13
 call-requires-2 : tie.Need-call-requires-2
 call-requires-2 c κs = search needs
 
--- src/both.rt:59:5
 returns : tie.Need-returns
 returns c row called x h e k =
     record {

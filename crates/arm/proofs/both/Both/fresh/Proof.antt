@@ -1,4 +1,4 @@
-use Rattle.scope.specs.Arm.{done, risen, from, walk, step}
+use Rattle.scope.specs.Arm.{walk}
 use borrow.Author.Needs.{needs}
 use Rattle.arm.proofs.both.Both.fresh.Statement.{statement}
 use Rattle.arm.proofs.both.Both.fresh.Tie as tie
@@ -6,15 +6,12 @@ use Rattle.arm.proofs.both.Both.fresh.Reads as reads
 use Rattle.arm.proofs.both.Both.fresh.Lts as lts
 use Rattle.arm.proofs.both.at_start.Reads as at-start-reads
 
--- src/both.rt:42:13
 at-start-requires : tie.Need-at-start-requires
 at-start-requires c κs = search needs
 
--- src/both.rt:43:13
 at-start-requires-2 : tie.Need-at-start-requires-2
 at-start-requires-2 c κs = search needs
 
--- src/both.rt:39:5
 returns : tie.Need-returns
 unfolding walk
 returns c = record { a = c .before .at-start .ensures; b = c .at-start2 .ensures }

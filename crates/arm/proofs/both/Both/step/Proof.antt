@@ -2,8 +2,7 @@ use Rattle.arm.proofs.Rows.{walk-append}
 use mathlib.Core.Bool.{true, false}
 use mathlib.Core.List.{[], _∷_}
 use Rattle.arm.specs.Sums.{fresh}
-use Rattle.scope.specs.Arm.{done, risen, from, walk, step}
-use mathlib.Core.Path.{_≡_, refl, sym, ap, _∙_}
+use Rattle.scope.specs.Arm.{walk, step}
 use borrow.Author.Needs.{needs}
 use Rattle.arm.proofs.both.Both.step.Statement.{statement}
 use Rattle.arm.proofs.both.Both.step.Tie as tie
@@ -11,15 +10,12 @@ use Rattle.arm.proofs.both.Both.step.Reads as reads
 use Rattle.arm.proofs.both.Both.step.Lts as lts
 use Rattle.arm.proofs.seen.Seen.step.Reads as step-reads
 
--- src/both.rt:53:13
 step-requires : tie.Need-step-requires
 step-requires c κs = search needs
 
--- src/both.rt:54:13
 step-requires-2 : tie.Need-step-requires-2
 step-requires-2 c κs = search needs
 
--- src/both.rt:48:5
 returns : tie.Need-returns
 unfolding walk
 returns c row x h e =

@@ -1,11 +1,8 @@
 use Rattle.arm.proofs.Rows.{fresh-count}
 use Rattle.arm.proofs.Ways.{fresh-most}
-use Prim.Native.Nat.{_≤_}
 use mathlib.Core.Bool.{true, false}
 use Rattle.arm.specs.Sums.{fresh}
-use Rattle.scope.specs.Arm.{done, risen, from, walk, step}
-use native.Mathlib.Omega.{arith}
-use mathlib.Core.Path.{_≡_, refl, sym, ap, _∙_}
+use Rattle.scope.specs.Arm.{walk}
 use borrow.Author.Needs.{needs}
 use Rattle.arm.proofs.both.Both.summary.Statement.{statement}
 use Rattle.arm.proofs.both.Both.summary.Tie as tie
@@ -13,15 +10,12 @@ use Rattle.arm.proofs.both.Both.summary.Reads as reads
 use Rattle.arm.proofs.both.Both.summary.Lts as lts
 use Rattle.arm.proofs.both.ended.Reads as ended-reads
 
--- src/both.rt:75:13
 ended-requires : tie.Need-ended-requires
 ended-requires c κs = search needs
 
--- src/both.rt:76:13
 ended-requires-2 : tie.Need-ended-requires-2
 ended-requires-2 c κs = search needs
 
--- src/both.rt:70:5
 returns : tie.Need-returns
 returns c row h k =
     record {

@@ -1,10 +1,8 @@
 use Rattle.arm.specs.Views.{pageAs}
 use Rattle.scope.specs.Arm.{Page}
-use mathlib.Core.List.{[], _∷_}
-use Rattle.arm.proofs.Keeping.{step-holds, call-holds, code-kept, answer-to}
-use Rattle.arm.specs.Holds.{moves-to, moves-no, PageHolds}
-use Rattle.scope.specs.Arm.{done, risen, from, walk, step}
-use mathlib.Core.Path.{_≡_, refl, sym, ap, _∙_}
+use mathlib.Core.List.{_∷_}
+use Rattle.scope.specs.Arm.{from}
+use mathlib.Core.Path.{_≡_, ap}
 use borrow.Author.Needs.{needs}
 use Rattle.arm.proofs.page.Page.call.Statement.{statement}
 use Rattle.arm.proofs.page.Page.call.Tie as tie
@@ -14,19 +12,15 @@ use Rattle.arm.proofs.moved.answer.Reads as answer-reads
 use Rattle.arm.proofs.seen.Seen.call.Reads as call-reads
 use Rattle.arm.proofs.seen.Seen.from.Reads as from-reads
 
--- src/moved.rt:47:13
 from-requires : tie.Need-from-requires
 from-requires c κs = search needs
 
--- src/moved.rt:48:16
 call-requires : tie.Need-call-requires
 call-requires c κs = search needs
 
--- src/moved.rt:48:9
 answer-requires : tie.Need-answer-requires
 answer-requires c κs = search needs
 
--- src/moved.rt:44:5
 returns : tie.Need-returns
 returns c q x row h e m =
     let a = c .before .before .before .args in

@@ -1,9 +1,6 @@
-use Prim.Native.Nat.{_<_}
-use Rattle.arm.proofs.Stacks.{stack-push, bits-small, stack-length}
-use Rattle.arm.specs.Views.{stack, pageAs, actAs}
-use Rattle.scope.specs.Arm.{done, risen, from, walk, step}
+use Rattle.arm.proofs.Stacks.{stack-length}
+use Rattle.scope.specs.Arm.{risen}
 use native.Mathlib.Omega.{arith}
-use mathlib.Core.Path.{_≡_, refl, sym, ap, _∙_}
 use borrow.Author.Needs.{needs}
 use Rattle.arm.proofs.page.Page.done.Statement.{statement}
 use Rattle.arm.proofs.page.Page.done.Tie as tie
@@ -13,41 +10,32 @@ use Rattle.arm.proofs.page.Page.pop.Reads as pop-reads
 use Rattle.arm.proofs.page.Page.push.Reads as push-reads
 use Rattle.arm.proofs.page.Page.put.Reads as put-reads
 
--- src/page.rt:119:29
 enum-told : tie.Need-enum-told
 enum-told c = search needs
 
--- src/page.rt:119:29
 push-requires : tie.Need-push-requires
 push-requires c κs = search needs
 
--- src/page.rt:120:28
 enum-told-2 : tie.Need-enum-told-2
 enum-told-2 c = search needs
 
--- src/page.rt:120:28
 pop-requires : tie.Need-pop-requires
 pop-requires c κs = search needs
 
--- src/page.rt:121:25
 enum-known-effect : tie.Need-enum-known-effect
 enum-known-effect c = search needs
 
--- src/page.rt:121:34
 put-requires : tie.Need-put-requires
 put-requires c κs = search needs
 
--- src/page.rt:115:5
 returns : tie.Need-returns
 returns c =
     let p = c .before .before .before .args .self in
     rw (c .before .enum-told .given .1) (λ h. c .push .ensures (unfold risen in let l = stack-length (p .depth) (p .saved) in omega arith))
 
--- src/page.rt:115:5
 returns-2 : tie.Need-returns-2
 returns-2 c = rw (c .before .enum-told2 .given .1) (λ h. c .pop .ensures)
 
--- src/page.rt:115:5
 returns-3 : tie.Need-returns-3
 returns-3 c = rw (c .before .before .effect .given .1) (λ h. c .put .ensures)
 

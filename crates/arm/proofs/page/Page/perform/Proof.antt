@@ -1,10 +1,8 @@
 use Rattle.arm.specs.Views.{pageAs}
 use Rattle.scope.specs.Arm.{Page}
 use mathlib.Core.List.{[], _∷_}
-use Rattle.arm.proofs.Keeping.{step-holds, call-holds, code-kept, answer-to}
-use Rattle.arm.specs.Holds.{moves-to, moves-no, PageHolds}
-use Rattle.scope.specs.Arm.{done, risen, from, walk, step}
-use mathlib.Core.Path.{_≡_, refl, sym, ap, _∙_}
+use Rattle.scope.specs.Arm.{from, walk, step}
+use mathlib.Core.Path.{_≡_, ap}
 use borrow.Author.Needs.{needs}
 use Rattle.arm.proofs.page.Page.perform.Statement.{statement}
 use Rattle.arm.proofs.page.Page.perform.Tie as tie
@@ -14,19 +12,15 @@ use Rattle.arm.proofs.moved.answer.Reads as answer-reads
 use Rattle.arm.proofs.seen.Seen.from.Reads as from-reads
 use Rattle.arm.proofs.seen.Seen.step.Reads as step-reads
 
--- src/moved.rt:39:13
 from-requires : tie.Need-from-requires
 from-requires c κs = search needs
 
--- src/moved.rt:40:16
 step-requires : tie.Need-step-requires
 step-requires c κs = search needs
 
--- src/moved.rt:40:9
 answer-requires : tie.Need-answer-requires
 answer-requires c κs = search needs
 
--- src/moved.rt:36:5
 returns : tie.Need-returns
 unfolding walk
 returns c q x h e =

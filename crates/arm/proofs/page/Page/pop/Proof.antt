@@ -1,24 +1,21 @@
 use Prim.Native.Nat.{suc, _-_}
-use Rattle.arm.specs.Views.{stack, pageAs, actAs}
-use Rattle.scope.specs.Arm.{done, risen, from, walk, step}
+use Rattle.arm.specs.Views.{stack}
+use Rattle.scope.specs.Arm.{done}
 use native.Mathlib.Omega.{arith}
-use mathlib.Core.Path.{_≡_, refl, sym, ap, _∙_}
+use mathlib.Core.Path.{_≡_, refl}
 use borrow.Author.Needs.{needs}
 use Rattle.arm.proofs.page.Page.pop.Statement.{statement}
 use Rattle.arm.proofs.page.Page.pop.Tie as tie
 use Rattle.arm.proofs.page.Page.pop.Reads as reads
 use Rattle.arm.proofs.page.Page.pop.Lts as lts
 
--- src/page.rt:96:13
 returns : tie.Need-returns
 unfolding done stack
 returns c = rw (c .if1 .taken) refl
 
--- src/page.rt:101:20
 sub-t9 : tie.Need-sub-t9
 sub-t9 c = search needs
 
--- src/page.rt:90:5
 returns-2 : tie.Need-returns-2
 unfolding done stack
 returns-2 c =

@@ -1,5 +1,5 @@
-use Rattle.scope.specs.Arm.{done, risen, from, walk, step}
-use mathlib.Core.Path.{_≡_, refl, sym, ap, _∙_}
+use Rattle.scope.specs.Arm.{done}
+use mathlib.Core.Path.{refl}
 use borrow.Author.Needs.{needs}
 use Rattle.arm.proofs.page.Page.put.Statement.{statement}
 use Rattle.arm.proofs.page.Page.put.Tie as tie
@@ -7,15 +7,12 @@ use Rattle.arm.proofs.page.Page.put.Reads as reads
 use Rattle.arm.proofs.page.Page.put.Lts as lts
 use Rattle.arm.proofs.page.marks.Reads as marks-reads
 
--- src/page.rt:109:13
 marks-requires : tie.Need-marks-requires
 marks-requires c κs = search needs
 
--- src/page.rt:110:13
 marks-requires-2 : tie.Need-marks-requires-2
 marks-requires-2 c κs = search needs
 
--- src/page.rt:106:5
 returns : tie.Need-returns
 unfolding done
 returns c = rw (c .before .marks .ensures, c .marks2 .ensures) refl

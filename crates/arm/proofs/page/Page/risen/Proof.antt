@@ -1,32 +1,25 @@
-use Rattle.arm.proofs.Stacks.{stack-push, bits-small, stack-length}
-use Rattle.arm.specs.Views.{stack, pageAs, actAs}
-use Rattle.scope.specs.Arm.{done, risen, from, walk, step}
+use Rattle.arm.proofs.Stacks.{stack-length}
+use Rattle.scope.specs.Arm.{risen}
 use native.Mathlib.Omega.{arith}
-use mathlib.Core.Path.{_≡_, refl, sym, ap, _∙_}
 use borrow.Author.Needs.{needs}
 use Rattle.arm.proofs.page.Page.risen.Statement.{statement}
 use Rattle.arm.proofs.page.Page.risen.Tie as tie
 use Rattle.arm.proofs.page.Page.risen.Reads as reads
 use Rattle.arm.proofs.page.Page.risen.Lts as lts
-use Rattle.arm.proofs.seen.higher.Reads as higher-reads
+use Rattle.arm.proofs.limits.higher.Reads as higher-reads
 
--- src/page.rt:130:29
 enum-told : tie.Need-enum-told
 enum-told c = search needs
 
--- src/page.rt:130:29
 higher-requires : tie.Need-higher-requires
 higher-requires c κs = search needs
 
--- src/page.rt:131:28
 enum-told-2 : tie.Need-enum-told-2
 enum-told-2 c = search needs
 
--- src/page.rt:132:34
 enum-told-3 : tie.Need-enum-told-3
 enum-told-3 c = search needs
 
--- src/page.rt:126:5
 returns : tie.Need-returns
 unfolding risen
 returns c m h =
@@ -35,12 +28,10 @@ returns c m h =
     let k = c .higher .ensures m 1 h (omega arith) .1 (omega arith) in
     rw (c .before .enum-told .given .1) (omega arith)
 
--- src/page.rt:126:5
 returns-2 : tie.Need-returns-2
 unfolding risen
 returns-2 c m h = rw (c .enum-told2 .given .1) h
 
--- src/page.rt:126:5
 returns-3 : tie.Need-returns-3
 unfolding risen
 returns-3 c m h = rw (c .enum-told3 .given .1) h

@@ -1,63 +1,52 @@
 use mathlib.Core.Bool.{true}
 use lib.ListN.{length}
-use Rattle.arm.proofs.Keeping.{step-holds, call-holds, code-kept, answer-to}
-use Rattle.scope.specs.Arm.{done, risen, from, walk, step}
+use Rattle.arm.proofs.Keeping.{call-holds}
+use Rattle.scope.specs.Arm.{walk}
 use Rattle.arm.specs.Sums.{fresh}
 use Prim.Native.Nat.{_+_}
 use mathlib.Core.Bool.{_||_}
 use native.Mathlib.Omega.{arith}
-use mathlib.Core.Path.{_≡_, refl, sym, ap, _∙_}
+use mathlib.Core.Path.{refl, ap, _∙_}
 use borrow.Author.Needs.{needs}
 use Rattle.arm.proofs.seen.Seen.call.Statement.{statement}
 use Rattle.arm.proofs.seen.Seen.call.Tie as tie
 use Rattle.arm.proofs.seen.Seen.call.Reads as reads
 use Rattle.arm.proofs.seen.Seen.call.Lts as lts
-use Rattle.arm.proofs.seen.add.Reads as add-reads
+use Rattle.arm.proofs.limits.add.Reads as add-reads
 use Rattle.arm.proofs.seen.choose.Reads as choose-reads
 use Rattle.arm.proofs.seen.either.Reads as either-reads
-use Rattle.arm.proofs.seen.higher.Reads as higher-reads
+use Rattle.arm.proofs.limits.higher.Reads as higher-reads
 
--- src/seen.rt:130:13
 add-requires : tie.Need-add-requires
 add-requires c κs = search needs
 
--- src/seen.rt:131:13
 add-requires-2 : tie.Need-add-requires-2
 add-requires-2 c κs = search needs
 
--- src/seen.rt:132:13
 higher-requires : tie.Need-higher-requires
 higher-requires c κs = search needs
 
--- src/seen.rt:133:13
 either-requires : tie.Need-either-requires
 either-requires c κs = search needs
 
--- src/seen.rt:134:38
 choose-requires : tie.Need-choose-requires
 choose-requires c κs = search needs
 
--- src/seen.rt:134:13
 either-requires-2 : tie.Need-either-requires-2
 either-requires-2 c κs = search needs
 
--- src/seen.rt:135:40
 choose-requires-2 : tie.Need-choose-requires-2
 choose-requires-2 c κs = search needs
 
--- src/seen.rt:135:13
 either-requires-3 : tie.Need-either-requires-3
 either-requires-3 c κs = search needs
 
--- src/seen.rt:136:13
 choose-requires-3 : tie.Need-choose-requires-3
 choose-requires-3 c κs = search needs
 
--- src/seen.rt:137:13
 choose-requires-4 : tie.Need-choose-requires-4
 choose-requires-4 c κs = search needs
 
--- src/seen.rt:124:5
 returns : tie.Need-returns
 returns c w x row h i k =
     let d = c .before .before .before .before .before .before in

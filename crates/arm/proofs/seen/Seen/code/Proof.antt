@@ -1,6 +1,6 @@
 use borrow.Author.Tests.{le-leb, lt-leb}
-use Rattle.arm.proofs.Keeping.{step-holds, call-holds, code-kept, answer-to}
-use mathlib.Core.Path.{_≡_, refl, sym, ap, _∙_}
+use Rattle.arm.proofs.Keeping.{code-kept}
+use mathlib.Core.Path.{sym, _∙_}
 use borrow.Author.Needs.{needs}
 use Rattle.arm.proofs.seen.Seen.code.Statement.{statement}
 use Rattle.arm.proofs.seen.Seen.code.Tie as tie
@@ -8,31 +8,24 @@ use Rattle.arm.proofs.seen.Seen.code.Reads as reads
 use Rattle.arm.proofs.seen.Seen.code.Lts as lts
 use Rattle.arm.proofs.seen.lacks.Reads as lacks-reads
 
--- src/seen.rt:146:12
 lacks-requires : tie.Need-lacks-requires
 lacks-requires c κs = search needs
 
--- src/seen.rt:147:13
 returns : tie.Need-returns
 returns c w h = rw (← code-kept (c .before .before .args .opened) (c .before .before .args .self) w h) (simp (sym (c .before .lacks .ensures) ∙ c .if1 .taken))
 
--- src/seen.rt:150:13
 returns-2 : tie.Need-returns-2
 returns-2 c w h = rw (← code-kept (c .before .before .before .before .args .opened) (c .before .before .before .before .args .self) w h) (simp (sym (c .before .before .before .lacks .ensures) ∙ c .before .before .if1 .left, le-leb _ _ (c .if2 .taken)))
 
--- src/seen.rt:153:13
 returns-3 : tie.Need-returns-3
 returns-3 c w h = rw (← code-kept (c .before .before .before .before .before .args .opened) (c .before .before .before .before .before .args .self) w h) (simp (sym (c .before .before .before .before .lacks .ensures) ∙ c .before .before .before .if1 .left, lt-leb _ _ (c .before .if2 .left), c .if3 .taken))
 
--- src/seen.rt:156:13
 returns-4 : tie.Need-returns-4
 returns-4 c w h = rw (← code-kept (c .before .before .before .before .before .before .args .opened) (c .before .before .before .before .before .before .args .self) w h) (simp (sym (c .before .before .before .before .before .lacks .ensures) ∙ c .before .before .before .before .if1 .left, lt-leb _ _ (c .before .before .if2 .left), c .before .if3 .left, c .if4 .taken))
 
--- src/seen.rt:159:13
 returns-5 : tie.Need-returns-5
 returns-5 c w h = rw (← code-kept (c .before .before .before .before .before .before .before .before .args .opened) (c .before .before .before .before .before .before .before .before .args .self) w h) (simp (sym (c .before .before .before .before .before .before .before .lacks .ensures) ∙ c .before .before .before .before .before .before .if1 .left, lt-leb _ _ (c .before .before .before .before .if2 .left), c .before .before .before .if3 .left, c .before .before .if4 .left, le-leb _ _ (c .if5 .taken)))
 
--- src/seen.rt:143:5
 returns-6 : tie.Need-returns-6
 returns-6 c w h = rw (← code-kept (c .before .before .before .before .before .before .before .before .args .opened) (c .before .before .before .before .before .before .before .before .args .self) w h) (simp (sym (c .before .before .before .before .before .before .before .lacks .ensures) ∙ c .before .before .before .before .before .before .if1 .left, lt-leb _ _ (c .before .before .before .before .if2 .left), c .before .before .before .if3 .left, c .before .before .if4 .left, lt-leb _ _ (c .if5 .left)))
 

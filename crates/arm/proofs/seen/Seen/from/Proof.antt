@@ -1,18 +1,15 @@
-use Rattle.scope.specs.Arm.{done, risen, from, walk, step}
+use Rattle.scope.specs.Arm.{from}
 use native.Mathlib.Omega.{arith}
-use mathlib.Core.Path.{_≡_, refl, sym, ap, _∙_}
-use borrow.Author.Needs.{needs}
+use mathlib.Core.Path.{refl}
 use Rattle.arm.proofs.seen.Seen.from.Statement.{statement}
 use Rattle.arm.proofs.seen.Seen.from.Tie as tie
 use Rattle.arm.proofs.seen.Seen.from.Reads as reads
 use Rattle.arm.proofs.seen.Seen.from.Lts as lts
 
--- src/seen.rt:97:5
 returns : tie.Need-returns
 unfolding from
 returns c = record { count = omega arith; most = refl; source = refl; exact = λ m. record { page = refl; lost = refl; wrong = refl } }
 
--- src/seen.rt:97:5
 returns-2 : tie.Need-returns-2
 unfolding from
 returns-2 c = record { count = omega arith; most = refl; source = refl; exact = λ m. record { page = refl; lost = refl; wrong = refl } }

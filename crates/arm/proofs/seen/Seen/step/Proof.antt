@@ -1,7 +1,7 @@
-use Rattle.arm.proofs.Keeping.{step-holds, call-holds, code-kept, answer-to}
+use Rattle.arm.proofs.Keeping.{step-holds}
 use mathlib.Core.Bool.{_||_}
 use native.Mathlib.Omega.{arith}
-use mathlib.Core.Path.{_≡_, refl, sym, ap, _∙_}
+use mathlib.Core.Path.{ap, _∙_}
 use borrow.Author.Needs.{needs}
 use Rattle.arm.proofs.seen.Seen.step.Statement.{statement}
 use Rattle.arm.proofs.seen.Seen.step.Tie as tie
@@ -9,44 +9,35 @@ use Rattle.arm.proofs.seen.Seen.step.Reads as reads
 use Rattle.arm.proofs.seen.Seen.step.Lts as lts
 use Rattle.arm.proofs.page.Page.done.Reads as done-reads
 use Rattle.arm.proofs.page.Page.risen.Reads as risen-reads
-use Rattle.arm.proofs.seen.add.Reads as add-reads
+use Rattle.arm.proofs.limits.add.Reads as add-reads
 use Rattle.arm.proofs.seen.clashes.Reads as clashes-reads
 use Rattle.arm.proofs.seen.either.Reads as either-reads
 use Rattle.arm.proofs.seen.lacks.Reads as lacks-reads
 
--- src/seen.rt:114:13
 add-requires : tie.Need-add-requires
 add-requires c κs = search needs
 
--- src/seen.rt:115:13
 risen-requires : tie.Need-risen-requires
 risen-requires c κs = search needs
 
--- src/seen.rt:116:13
 either-requires : tie.Need-either-requires
 either-requires c κs = search needs
 
--- src/seen.rt:117:38
 lacks-requires : tie.Need-lacks-requires
 lacks-requires c κs = search needs
 
--- src/seen.rt:117:13
 either-requires-2 : tie.Need-either-requires-2
 either-requires-2 c κs = search needs
 
--- src/seen.rt:118:40
 clashes-requires : tie.Need-clashes-requires
 clashes-requires c κs = search needs
 
--- src/seen.rt:118:13
 either-requires-3 : tie.Need-either-requires-3
 either-requires-3 c κs = search needs
 
--- src/seen.rt:119:13
 done-requires : tie.Need-done-requires
 done-requires c κs = search needs
 
--- src/seen.rt:108:5
 returns : tie.Need-returns
 returns c w h =
     let d = c .before .before .before .before .before in

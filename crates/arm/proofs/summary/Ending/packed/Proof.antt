@@ -5,47 +5,36 @@ use Rattle.arm.proofs.summary.Ending.packed.Reads as reads
 use Rattle.arm.proofs.summary.Ending.packed.Lts as lts
 use Rattle.arm.proofs.summary.bit.Reads as bit-reads
 
--- src/summary.rt:36:9
 bit-requires : tie.Need-bit-requires
 bit-requires c κs = search needs
 
--- src/summary.rt:36:28
 bit-requires-2 : tie.Need-bit-requires-2
 bit-requires-2 c κs = search needs
 
--- src/summary.rt:36:28
 mul-result : tie.Need-mul-result
 mul-result c = search needs
 
--- src/summary.rt:36:9
 add-result : tie.Need-add-result
 add-result c = search needs
 
--- src/summary.rt:36:49
 bit-requires-3 : tie.Need-bit-requires-3
 bit-requires-3 c κs = search needs
 
--- src/summary.rt:36:49
 mul-result-2 : tie.Need-mul-result-2
 mul-result-2 c = search needs
 
--- src/summary.rt:36:9
 add-result-2 : tie.Need-add-result-2
 add-result-2 c = search needs
 
--- src/summary.rt:36:70
 bit-requires-4 : tie.Need-bit-requires-4
 bit-requires-4 c κs = search needs
 
--- src/summary.rt:36:70
 mul-result-3 : tie.Need-mul-result-3
 mul-result-3 c = search needs
 
--- src/summary.rt:36:9
 add-result-3 : tie.Need-add-result-3
 add-result-3 c = search needs
 
--- src/summary.rt:33:5
 returns : tie.Need-returns
 returns c = search needs
 

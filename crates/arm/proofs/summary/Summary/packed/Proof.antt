@@ -1,6 +1,5 @@
 use Rattle.arm.proofs.Packs.{packs}
-use native.Mathlib.Omega.{arith}
-use mathlib.Core.Path.{_≡_, refl, sym, ap, _∙_}
+use mathlib.Core.Path.{refl}
 use borrow.Author.Needs.{needs}
 use Rattle.arm.proofs.summary.Summary.packed.Statement.{statement}
 use Rattle.arm.proofs.summary.Summary.packed.Tie as tie
@@ -9,59 +8,45 @@ use Rattle.arm.proofs.summary.Summary.packed.Lts as lts
 use Rattle.arm.proofs.summary.Ending.packed.Reads as packed-reads
 use Rattle.arm.proofs.summary.bit.Reads as bit-reads
 
--- src/summary.rt:58:13
 packed-requires : tie.Need-packed-requires
 packed-requires c κs = search needs
 
--- src/summary.rt:59:13
 packed-requires-2 : tie.Need-packed-requires-2
 packed-requires-2 c κs = search needs
 
--- src/summary.rt:60:13
 bit-requires : tie.Need-bit-requires
 bit-requires c κs = search needs
 
--- src/summary.rt:61:21
 cast-count : tie.Need-cast-count
 cast-count c = search needs
 
--- src/summary.rt:62:20
 cast-most : tie.Need-cast-most
 cast-most c = search needs
 
--- src/summary.rt:63:9
 mul-result : tie.Need-mul-result
 mul-result c = search needs
 
--- src/summary.rt:63:25
 mul-result-2 : tie.Need-mul-result-2
 mul-result-2 c = search needs
 
--- src/summary.rt:63:9
 add-result : tie.Need-add-result
 add-result c = search needs
 
--- src/summary.rt:63:38
 mul-result-3 : tie.Need-mul-result-3
 mul-result-3 c = search needs
 
--- src/summary.rt:63:9
 add-result-2 : tie.Need-add-result-2
 add-result-2 c = search needs
 
--- src/summary.rt:63:53
 mul-result-4 : tie.Need-mul-result-4
 mul-result-4 c = search needs
 
--- src/summary.rt:63:9
 add-result-3 : tie.Need-add-result-3
 add-result-3 c = search needs
 
--- src/summary.rt:63:9
 add-result-4 : tie.Need-add-result-4
 add-result-4 c = search needs
 
--- src/summary.rt:53:5
 returns : tie.Need-returns
 returns c row h =
     let d = c .before .before in
