@@ -13,7 +13,6 @@ use Rattle.scope.specs.Attributes.{valueIn}
 use Rattle.scope.specs.Arm.{Effect, push, pop, put, kept, to, effectOf, Act, idle, Stroke}
 use Rattle.scope.specs.Order.{drawn}
 use Rattle.scope.specs.Motif.{Own, does, calls, Motif, flat, unfolded, savedAfter}
-use Rattle.arm.proofs.Ways.{or-false}
 use Rattle.arm.specs.Balance.{mayDo, depthAfter, Level, Balanced, OwnLevel, HeldBalanced}
 
 may-above : (e : Effect) (d k : ℕ) → mayDo e d → mayDo e (d + k)
@@ -128,4 +127,4 @@ may-saved high s tag l n h = go (eqb tag 0x61) (eqb tag 0x60) (eqb tag 0x6b) (eq
 -- a PopGS that may come in a motif finds something saved
 pub drawn-pop : (n tag : ℕ) → drawn n tag ≡ true → tag ≡ 0x60 → 0 < n
 unfolding drawn among
-drawn-pop n tag h e = leb-true 1 n (sym (or-false (leb 1 n)) ∙ (rw e at h))
+drawn-pop n tag h e = leb-true 1 n (rw e at h)
