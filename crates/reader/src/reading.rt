@@ -128,3 +128,35 @@ fn with_rows(c: Context, s: &[u8], tag: u8, at: usize, attrs: &[usize; 80], n: u
         }),
     }
 }
+
+// 9, 10, then the attributes.
+fn with_line(c: Context, s: &[u8], tag: u8, at: usize, attrs: &[usize; 80], n: usize) -> Read
+    requires { ⌜ (at < length (now s)) × (n ≤ 16) ⌝ }
+    ensures { λ r. ⌜ (Sized (now (attrs .entry)) n → readAs r (now (attrs .entry)) ≡ withLine (contextAs c) (now (s .entry)) tag at (rowsOf (now (attrs .entry)) n) (lineIn table tag)) ⌝ }
+    ensures { λ r. ⌜ Within (length (now (s .entry))) at r ⌝ }
+{
+    if !rules::is_operator(tag) {
+        return Read::No(9, at);
+    }
+    let phase = c.phase;
+    if !may_come(phase, c.opened, tag) {
+        return Read::No(10, at);
+    }
+    match rules::line_fault(s, c.high, tag, at, attrs, n) {
+        Fault::Fine => with_rows(c, s, tag, at, attrs, n),
+        Fault::Bad(code, place) => Read::No(code, place),
+    }
+}
+
+// The next operator from `start` on; its attributes go to `attrs`.
+pub fn operator_at(c: Context, s: &[u8], start: usize, attrs: &mut [usize; 80]) -> Read
+    ensures { λ _. ⌜ length (now (attrs .exit)) ≡ length (now (attrs .entry)) ⌝ }
+    ensures { λ r. ⌜ (length (now (attrs .entry)) ≡ 80 → readAs r (now (attrs .exit)) ≡ operatorAt (contextAs c) (now (s .entry)) start) ⌝ }
+    ensures { λ r. ⌜ Within (length (now (s .entry))) start r ⌝ }
+{
+    match wire::scan_at(s, start, c.high, attrs) {
+        Scan::Tagged(tag, at, n) => with_line(c, s, tag, at, attrs, n),
+        Scan::Ended => Read::Ended,
+        Scan::No(code, place) => Read::No(code, place),
+    }
+}
