@@ -30,7 +30,7 @@ pub enum Kind {
 }
 
 // An attribute's values, the lowest, the highest, and whether it must be there.
-pub struct Rule(pub Kind, pub u32, pub u32, pub bool);
+pub struct Rule(pub Kind, pub usize, pub usize, pub bool);
 
 // The line of an operator.
 pub fn row_of(tag: u8) -> Row
