@@ -5,7 +5,7 @@ use mathlib.Core.Path.{_≡_, refl, sym, ap, _∙_}
 use mathlib.Core.Bool.{Bool, true, false}
 use mathlib.Core.List.{List}
 use Rattle.scope.specs.Table as scope
-use Rattle.rules.specs.Lines.{isLine, Brief, known, unknown, briefOf, briefBy, briefAs, upToNo}
+use Rattle.rules.specs.Lines.{isLine, isKnown, Brief, known, unknown, briefOf, briefBy, briefAs, upToNo}
 use Rattle.rules.specs.declared.table.Form.{Form}
 use Rattle.rules.specs.declared.table.Row.{Row}
 use Rattle.rules.specs.declared.table.Form.the-variants.{Each, One, Line, Unknown}
@@ -13,12 +13,6 @@ use Rattle.rules.specs.declared.table.Form.the-variants.{Each, One, Line
 shown : Brief → Bool
 shown (known f ns) = true
 shown unknown = false
-
-abbrev pub isKnown : Form → Bool
-isKnown Each = true
-isKnown One = true
-isKnown Line = true
-isKnown Unknown = false
 
 shown-line : (l : scope.Line) → shown (briefOf l) ≡ isLine l
 unfolding shown
