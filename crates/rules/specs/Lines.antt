@@ -43,6 +43,13 @@ isKnown One = true
 isKnown Line = true
 isKnown Unknown = false
 
+-- the form that a known form of the code stands for
+abbrev pub formAs : Form → scope.Form
+formAs Each = scope.each
+formAs One = scope.one
+formAs Line = scope.line
+formAs Unknown = scope.each
+
 -- the form and the numbers that a line of the code stands for
 abbrev pub briefBy : Form → List ℕ → Brief
 briefBy Each ns = known scope.each ns

@@ -1,14 +1,15 @@
 // An operator's attributes judged: one by one 11, 12, 15, 16, then as a whole 13, 14.
 ghost use mathlib.Core.Path.{_≡_};
+ghost use mathlib.Core.Bool.{true};
 ghost use mathlib.Core.List.{List, []};
 ghost use Prim.Native.Nat.{ℕ, _+_, _≤_, _<_};
 ghost use lib.Dec.{eqb};
 ghost use Rattle.scope.specs.Choice.{pick};
-ghost use Rattle.scope.specs.Table.{Rule as RuleIn, Form as FormIn, table, lineIn};
+ghost use Rattle.scope.specs.Table.{Rule as RuleIn, table, lineIn};
 ghost use Rattle.scope.specs.Attributes.{fine, bad, attributeCode, oneByOne, choiceCode, pairCode, formCode};
 ghost use Rattle.wire.specs.Rows.{rowAt, rowsOf, Sized};
-ghost use Rattle.rules.specs.Lines.{upToNo, isKnown};
-ghost use Rattle.rules.specs.Judging.{attributeAs, Formed, ruledIn, Stands, faultAs, lineFault};
+ghost use Rattle.rules.specs.Lines.{upToNo, isKnown, formAs};
+ghost use Rattle.rules.specs.Judging.{attributeAs, ruledIn, Stands, faultAs, lineFault};
 use crate::attributes::at_most;
 use crate::attributes::has;
 use crate::line::all_there;
@@ -112,7 +113,7 @@ fn pair_code(end: bool, points: bool, kind: bool) -> u32
 
 // 13 and 14, by the form of the line; 0 is none.
 fn form_code(form: Form, numbers: [u8; 5], attrs: &[usize; 80], n: usize) -> u32
-    ensures { λ r. ⌜ ((f : FormIn) (rules : List RuleIn) → Formed form f → Stands numbers rules → Sized (now (attrs .entry)) n → r ≡ formCode (rowsOf (now (attrs .entry)) n) rules f) ⌝ }
+    ensures { λ r. ⌜ (isKnown form ≡ true → (rules : List RuleIn) → Stands numbers rules → Sized (now (attrs .entry)) n → r ≡ formCode (rowsOf (now (attrs .entry)) n) rules (formAs form)) ⌝ }
 {
     match form {
         Form::Each => {
