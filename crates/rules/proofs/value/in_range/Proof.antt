@@ -1,0 +1,108 @@
+-- `rules::value::in_range` meets its contract: an arm for each kind.
+-- Assumes nothing.
+use Rattle.scope.specs.Attributes.{inRange}
+use borrow.Author.Needs.{needs}
+use Rattle.rules.proofs.value.in_range.Statement.{statement}
+use Rattle.rules.proofs.value.in_range.Tie as tie
+use Rattle.rules.proofs.value.in_range.Reads as reads
+use Rattle.rules.proofs.value.in_range.Lts as lts
+use Rattle.rules.proofs.value.both_from.Reads as both-from-reads
+use Rattle.rules.proofs.value.first_number.Reads as first-number-reads
+use Rattle.rules.proofs.value.media_size.Reads as media-size-reads
+use Rattle.rules.proofs.value.within.Reads as within-reads
+
+enum-told : tie.Need-enum-told
+enum-told c = search needs
+
+first-number-requires : tie.Need-first-number-requires
+first-number-requires c κs = search needs
+
+within-requires : tie.Need-within-requires
+within-requires c κs = search needs
+
+enum-told-2 : tie.Need-enum-told-2
+enum-told-2 c = search needs
+
+first-number-requires-2 : tie.Need-first-number-requires-2
+first-number-requires-2 c κs = search needs
+
+enum-told-3 : tie.Need-enum-told-3
+enum-told-3 c = search needs
+
+enum-told-4 : tie.Need-enum-told-4
+enum-told-4 c = search needs
+
+enum-told-5 : tie.Need-enum-told-5
+enum-told-5 c = search needs
+
+within-requires-2 : tie.Need-within-requires-2
+within-requires-2 c κs = search needs
+
+enum-told-6 : tie.Need-enum-told-6
+enum-told-6 c = search needs
+
+both-from-requires : tie.Need-both-from-requires
+both-from-requires c κs = search needs
+
+enum-told-7 : tie.Need-enum-told-7
+enum-told-7 c = search needs
+
+first-number-requires-3 : tie.Need-first-number-requires-3
+first-number-requires-3 c κs = search needs
+
+media-size-requires : tie.Need-media-size-requires
+media-size-requires c κs = search needs
+
+returns : tie.Need-returns
+unfolding inRange
+returns c = rw (c .before .before .enum-told .given .1, ← c .before .first-number .ensures) (c .within .ensures)
+
+returns-2 : tie.Need-returns-2
+unfolding inRange
+returns-2 c = rw (c .before .enum-told2 .given .1, c .first-number2 .ensures)
+
+returns-3 : tie.Need-returns-3
+unfolding inRange
+returns-3 c = rw (c .enum-told3 .given .1)
+
+returns-4 : tie.Need-returns-4
+unfolding inRange
+returns-4 c = rw (c .enum-told4 .given .1)
+
+returns-5 : tie.Need-returns-5
+unfolding inRange
+returns-5 c = rw (c .before .enum-told5 .given .1) (c .within2 .ensures)
+
+returns-6 : tie.Need-returns-6
+unfolding inRange
+returns-6 c = rw (c .before .enum-told6 .given .1) (c .both-from .ensures)
+
+returns-7 : tie.Need-returns-7
+unfolding inRange
+returns-7 c = rw (c .before .before .enum-told7 .given .1, ← c .before .first-number3 .ensures) (c .media-size .ensures)
+
+pub in-range-spec : {M : Type 1} → statement M
+in-range-spec =
+    tie.close
+    (tie.spec
+    enum-told
+    first-number-requires
+    within-requires
+    enum-told-2
+    first-number-requires-2
+    enum-told-3
+    enum-told-4
+    enum-told-5
+    within-requires-2
+    enum-told-6
+    both-from-requires
+    enum-told-7
+    first-number-requires-3
+    media-size-requires
+    returns
+    returns-2
+    returns-3
+    returns-4
+    returns-5
+    returns-6
+    returns-7)

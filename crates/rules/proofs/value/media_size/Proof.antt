@@ -1,0 +1,24 @@
+-- `rules::value::media_size` meets its contract: one range or the other.
+-- Assumes nothing.
+use mathlib.Core.Path.{_≡_, sym, _∙_}
+use borrow.Author.Needs.{needs}
+use Rattle.rules.proofs.value.media_size.Statement.{statement}
+use Rattle.rules.proofs.value.media_size.Tie as tie
+use Rattle.rules.proofs.value.media_size.Reads as reads
+use Rattle.rules.proofs.value.media_size.Lts as lts
+use Rattle.rules.proofs.value.within.Reads as within-reads
+
+within-requires : tie.Need-within-requires
+within-requires c κs = search needs
+
+returns : tie.Need-returns
+returns c = rw (sym (c .before .within .ensures) ∙ c .if1 .taken)
+
+within-requires-2 : tie.Need-within-requires-2
+within-requires-2 c κs = search needs
+
+returns-2 : tie.Need-returns-2
+returns-2 c = rw (sym (c .before .before .within .ensures) ∙ c .before .if1 .left) (c .within2 .ensures)
+
+pub media-size-spec : {M : Type 1} → statement M
+media-size-spec = tie.close (tie.spec within-requires returns within-requires-2 returns-2)

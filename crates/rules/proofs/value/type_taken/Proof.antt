@@ -1,0 +1,90 @@
+-- `rules::value::type_taken` meets its contract: an arm for each kind.
+-- Assumes nothing.
+use Rattle.scope.specs.Attributes.{typeTaken}
+use borrow.Author.Needs.{needs}
+use Rattle.rules.proofs.value.type_taken.Statement.{statement}
+use Rattle.rules.proofs.value.type_taken.Tie as tie
+use Rattle.rules.proofs.value.type_taken.Reads as reads
+use Rattle.rules.proofs.value.type_taken.Lts as lts
+use Rattle.rules.proofs.value.any_of.Reads as any-of-reads
+use Rattle.rules.proofs.value.either.Reads as either-reads
+
+enum-told : tie.Need-enum-told
+enum-told c = search needs
+
+enum-told-2 : tie.Need-enum-told-2
+enum-told-2 c = search needs
+
+either-requires : tie.Need-either-requires
+either-requires c κs = search needs
+
+enum-told-3 : tie.Need-enum-told-3
+enum-told-3 c = search needs
+
+any-of-requires : tie.Need-any-of-requires
+any-of-requires c κs = search needs
+
+enum-told-4 : tie.Need-enum-told-4
+enum-told-4 c = search needs
+
+any-of-requires-2 : tie.Need-any-of-requires-2
+any-of-requires-2 c κs = search needs
+
+enum-told-5 : tie.Need-enum-told-5
+enum-told-5 c = search needs
+
+enum-told-6 : tie.Need-enum-told-6
+enum-told-6 c = search needs
+
+enum-told-7 : tie.Need-enum-told-7
+enum-told-7 c = search needs
+
+returns : tie.Need-returns
+unfolding typeTaken
+returns c = λ low high. rw (c .enum-told .given .1)
+
+returns-2 : tie.Need-returns-2
+unfolding typeTaken
+returns-2 c = λ low high. rw (c .before .enum-told2 .given .1) (c .either .ensures)
+
+returns-3 : tie.Need-returns-3
+unfolding typeTaken
+returns-3 c = λ low high. rw (c .before .enum-told3 .given .1) (c .any-of .ensures)
+
+returns-4 : tie.Need-returns-4
+unfolding typeTaken
+returns-4 c = λ low high. rw (c .before .enum-told4 .given .1) (c .any-of2 .ensures)
+
+returns-5 : tie.Need-returns-5
+unfolding typeTaken
+returns-5 c = λ low high. rw (c .enum-told5 .given .1)
+
+returns-6 : tie.Need-returns-6
+unfolding typeTaken
+returns-6 c = λ low high. rw (c .enum-told6 .given .1)
+
+returns-7 : tie.Need-returns-7
+unfolding typeTaken
+returns-7 c = λ low high. rw (c .enum-told7 .given .1)
+
+pub type-taken-spec : {M : Type 1} → statement M
+type-taken-spec =
+    tie.close
+    (tie.spec
+    enum-told
+    enum-told-2
+    either-requires
+    enum-told-3
+    any-of-requires
+    enum-told-4
+    any-of-requires-2
+    enum-told-5
+    enum-told-6
+    enum-told-7
+    returns
+    returns-2
+    returns-3
+    returns-4
+    returns-5
+    returns-6
+    returns-7)

@@ -1,0 +1,59 @@
+-- What the code judges of an operator's attributes, by the words of 01's definitions.
+-- Assumes nothing.
+use Prim.Native.Nat.{ℕ, _+_}
+use mathlib.Core.Path.{_≡_}
+use mathlib.Core.List.{List, [], _∷_}
+use mathlib.Core.Bool.{Bool, true, false, not, _&&_}
+use lib.Dec.{eqb}
+use Rattle.scope.specs.Choice.{pick, among}
+use Rattle.scope.specs.Item as item
+use Rattle.scope.specs.Table as scope
+use Rattle.scope.specs.Attributes as judged
+use Rattle.rules.specs.Lines.{numbersIn, upToNo, ruleOf}
+use Rattle.rules.specs.declared.judge.Fault.{Fault}
+use Rattle.rules.specs.declared.judge.Fault.the-variants.{Fine, Bad}
+use Rattle.rules.specs.declared.value.Attribute.{Attribute}
+
+-- 13 and 14 after what was found attribute by attribute
+unfoldable pub thenWhole : (at code : ℕ) → judged.Fault → judged.Fault
+thenWhole at code judged.fine = pick (eqb code 0) judged.fine (judged.bad code at)
+thenWhole at code (judged.bad c p) = judged.bad c p
+
+-- 9; then attribute by attribute 11, 12, 15, 16; then 13, 14
+unfoldable pub lineFault : Bool → List ℕ → (at : ℕ) → List item.Attribute → scope.Line → judged.Fault
+lineFault high s at l scope.Line.none = judged.bad 9 at
+lineFault high s at l (scope.Line.is r) =
+    thenWhole at (judged.formCode l (r .rules) (r .form)) (judged.oneByOne high s (r .rules) [] l)
+
+-- the fault that a fault of the code stands for
+abbrev pub faultAs : Fault → judged.Fault
+faultAs Fine = judged.fine
+faultAs (Bad c p) = judged.bad c p
+
+-- the attribute that an attribute of the code stands for
+abbrev pub attributeAs : Attribute → item.Attribute
+attributeAs a = record { number = a .number; tag = a .tag; at = a .at; count = a .count; first = a .first }
+
+-- the rule of an attribute in a line that has these numbers
+unfoldable pub ruledIn : List ℕ → ℕ → scope.Ruled
+ruledIn ns n = pick (among ns n) (scope.Ruled.is (ruleOf n)) scope.Ruled.none
+
+-- each of these numbers that must be there is there
+unfoldable pub allIn : List item.Attribute → List ℕ → Bool
+allIn l [] = true
+allIn l (n ∷ ns) = pick (ruleOf n .must && not (judged.has n l)) false (allIn l ns)
+
+-- how many of these numbers are there
+unfoldable pub manyIn : List item.Attribute → List ℕ → ℕ
+manyIn l [] = 0
+manyIn l (n ∷ ns) = pick (judged.has n l) 1 0 + manyIn l ns
+
+-- a line's rules are those of their numbers
+pub data Agreed : List scope.Rule → Type 0 where
+  agreed-none : Agreed []
+  agreed-more : {r : scope.Rule} {rs : List scope.Rule} → ruleOf (r .number) ≡ r → Agreed rs → Agreed (r ∷ rs)
+
+-- the numbers of a line of the code stand for these rules
+pub record Stands (ns : List ℕ) (rules : List scope.Rule) : Type 0 where
+  pub numbers : upToNo ns ≡ numbersIn rules
+  pub agreed : Agreed rules
