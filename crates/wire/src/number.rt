@@ -43,7 +43,8 @@ fn place_of(high: bool, n: usize, at: usize, k: usize) -> usize
     requires { ⌜ (k < n) × (at + n < 2 ^ 63 + 16) ⌝ }
     ensures { λ r. ⌜ r ≡ place high n at k ⌝ }
 {
-    if high { at + k } else { at + (n - 1 - k) }
+    let back = n - 1 - k;
+    if high { at + k } else { at + back }
 }
 
 // The number of n bytes at a place within the bytes.

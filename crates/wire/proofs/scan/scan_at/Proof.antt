@@ -144,7 +144,7 @@ enum-known-number : tie.Need-enum-known-number Inv-white μ-white Inv-pairs μ-p
 enum-known-number c = search needs
 
 store-requires : tie.Need-store-requires Inv-white μ-white Inv-pairs μ-pairs
-store-requires c κs = room (c .before .before) .2
+store-requires c κs = let r = room (c .before .before) in omega arith
 
 add-n : tie.Need-add-n Inv-white μ-white Inv-pairs μ-pairs
 add-n c = search needs
