@@ -1,6 +1,6 @@
 // Numbers of one, two or four bytes, in either byte order.
 ghost use mathlib.Core.Path.{_≡_};
-ghost use Prim.Native.Nat.{ℕ, _+_, _^_, _≤_, _<_};
+ghost use Prim.Native.Nat.{_+_, _^_, _≤_, _<_};
 ghost use lib.ListN.{length, getD};
 ghost use Rattle.scope.specs.Number.{place, number};
 ghost use Rattle.wire.specs.Widths.{bytesOf};

@@ -1,4 +1,4 @@
-use mathlib.Core.Path.{_≡_, sym}
+use mathlib.Core.Path.{sym}
 use Rattle.wire.specs.Widths.{bytesOf}
 use Rattle.wire.proofs.Digits.{past}
 use borrow.Author.Needs.{needs}
