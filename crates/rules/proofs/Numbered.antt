@@ -9,7 +9,7 @@ use native.Mathlib.Numerals.{add-one}
 use lib.ListN.{length, getD, drop, drop-of-length-le}
 use lib.Seq.{drop-cons}
 use lib.Dec.{eqb}
-use borrow.Author.Tests.{eq-eqb, ne-eqb, eqb-true}
+use borrow.Author.Tests.{eq-eqb, ne-eqb, eqb-true, eqb-false}
 use Rattle.scope.specs.Choice.{pick, among}
 use Rattle.scope.specs.Item.{Attribute}
 use Rattle.scope.specs.Table as scope
@@ -30,14 +30,17 @@ module _ (ns : List ℕ) (i : ℕ) where
   unfolding upToNo
   numbers-end h = rw (drop-of-length-le ns h)
 
+eqb-turned : (a b : ℕ) → eqb a b ≡ eqb b a
+eqb-turned a b = turn (eqb a b) refl
+  where
+    turn : (t : Bool) → eqb a b ≡ t → t ≡ eqb b a
+    turn true e = sym (eq-eqb b a (sym (eqb-true a b e)))
+    turn false e = sym (ne-eqb b a (λ k. eqb-false a b e (sym k)))
+
 module _ (ns : List ℕ) (i w : ℕ) (here : i < length ns) (some : getD ns i 0 ≡ 0 → ⊥) (reads : w ≡ getD ns i 0) where
   pub among-step : (x : ℕ) → among (upToNo (drop i ns)) x ≡ pick (eqb w x) true (among (upToNo (drop (i + 1) ns)) x)
   unfolding among
-  among-step x = ap (λ l. among l x) (numbers-more ns i here some) ∙ rw (← reads) (either (eqb w x) (among (upToNo (drop (i + 1) ns)) x))
-    where
-      either : (b t : Bool) → elim b [ true ↦ true | false ↦ t ] ≡ pick b true t
-      either true t = refl
-      either false t = refl
+  among-step x = ap (λ l. among l x) (numbers-more ns i here some) ∙ rw (← reads, eqb-turned x w)
 
   pub all-step : (l : List Attribute) (b : Bool) → b ≡ (ruleOf w .must && not (has w l))
       → allIn l (upToNo (drop i ns)) ≡ pick b false (allIn l (upToNo (drop (i + 1) ns)))
@@ -56,11 +59,11 @@ many-on k o p x y t e f g = omega arith
 pub ruled-by : (rules : List scope.Rule) → Agreed rules → (n : ℕ) → scope.ruleIn rules n ≡ ruledIn (numbersIn rules) n
 unfolding ruledIn numbersIn among scope.ruleIn
 ruled-by [] agreed-none n = refl
-ruled-by (r ∷ rs) (agreed-more e es) n = hit (eqb (r .number) n) (λ q. eqb-true (r .number) n q) (ruled-by rs es n)
+ruled-by (r ∷ rs) (agreed-more e es) n = rw (eqb-turned n (r .number)) (hit (eqb (r .number) n) (λ q. eqb-true (r .number) n q) (ruled-by rs es n))
   where
     hit : (b : Bool) → (b ≡ true → r .number ≡ n) → scope.ruleIn rs n ≡ pick (among (numbersIn rs) n) (scope.Ruled.is (ruleOf n)) scope.Ruled.none
         → elim b [ true ↦ scope.Ruled.is r | false ↦ scope.ruleIn rs n ]
-        ≡ pick (elim b [ true ↦ true | false ↦ among (numbersIn rs) n ]) (scope.Ruled.is (ruleOf n)) scope.Ruled.none
+        ≡ pick (pick b true (among (numbersIn rs) n)) (scope.Ruled.is (ruleOf n)) scope.Ruled.none
     hit true q k = ap scope.Ruled.is (sym e ∙ ap ruleOf (q refl))
     hit false q k = k
 

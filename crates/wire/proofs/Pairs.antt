@@ -1,16 +1,15 @@
 -- Laws of the walk over pairs: each turn of it, and that a pair is read only where there is room for it.
 -- Assumes nothing.
 use Prim.Native.Nat.{ℕ, _+_, _≤_, _<_}
-use mathlib.Core.Path.{_≡_, refl, sym, ap, _∙_}
+use mathlib.Core.Path.{_≡_, sym, ap, _∙_}
 use mathlib.Core.Bool.{Bool, true, false}
-use mathlib.Core.List.{List, [], _∷_, _++_}
+use mathlib.Core.List.{List}
 use native.Mathlib.Omega.{arith}
 use borrow.Author.Tests.{le-leb, lt-leb}
 use lib.ListN.{length, getD}
-use lib.Dec.{leb}
 use Rattle.scope.specs.Choice.{between}
 use Rattle.scope.specs.Iterate.{onward}
-use Rattle.scope.specs.Item.{Attribute, Kind, plain, array, other, kindOf, Value, valueOf, Pair, pairOf, pairAt, Scan, Walk, after, white, endedWith, onPair, scanItem, scanStep, scanFrom}
+use Rattle.scope.specs.Item.{Attribute, Kind, plain, array, other, kindOf, Value, valueOf, Pair, pairOf, pairAt, Scan, white, endedWith, onPair, scanItem, scanStep, scanFrom}
 use Rattle.scope.proofs.Ends.{GoodPair, pair-good}
 use Rattle.scope.proofs.Falls.{scan-step}
 use Rattle.wire.proofs.Spaces.{after-white, after-black, after-end}

@@ -1,7 +1,7 @@
 // The header of a job or of a motif, and codes 3, 2 and 4.
 ghost use mathlib.Core.Path.{_≡_};
 ghost use mathlib.Core.Bool.{_&&_, _||_};
-ghost use Prim.Native.Nat.{ℕ, _≤_, _<_};
+ghost use Prim.Native.Nat.{_≤_, _<_};
 ghost use lib.ListN.{length, getD};
 ghost use lib.Dec.{eqb, leb};
 ghost use Rattle.scope.specs.Header.{title, mayStand, formFrom, classed, headerOf};

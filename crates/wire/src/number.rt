@@ -1,6 +1,6 @@
 // Numbers of one, two or four bytes, in either byte order.
 ghost use mathlib.Core.Path.{_≡_};
-ghost use Prim.Native.Nat.{ℕ, _+_, _^_, _≤_, _<_};
+ghost use Prim.Native.Nat.{_+_, _^_, _≤_, _<_};
 ghost use lib.ListN.{length, getD};
 ghost use Rattle.scope.specs.Number.{place, number};
 ghost use Rattle.wire.specs.Widths.{bytesOf};
@@ -43,7 +43,8 @@ fn place_of(high: bool, n: usize, at: usize, k: usize) -> usize
     requires { ⌜ (k < n) × (at + n < 2 ^ 63 + 16) ⌝ }
     ensures { λ r. ⌜ r ≡ place high n at k ⌝ }
 {
-    if high { at + k } else { at + (n - 1 - k) }
+    let back = n - 1 - k;
+    if high { at + k } else { at + back }
 }
 
 // The number of n bytes at a place within the bytes.

@@ -1,6 +1,6 @@
 // Pairs of a value and an attribute number. Codes 5 and 6 of the number.
 ghost use mathlib.Core.Path.{_≡_};
-ghost use Prim.Native.Nat.{ℕ, _<_};
+ghost use Prim.Native.Nat.{_<_};
 ghost use lib.ListN.{length, getD};
 ghost use Rattle.scope.specs.Item.{numbered, numberAt, pairAt};
 ghost use Rattle.wire.specs.Widths.{bytesOf};

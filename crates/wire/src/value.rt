@@ -1,6 +1,6 @@
 // Values: one, two or four numbers, or an array. Codes 5, 6, 7 and 8.
 ghost use mathlib.Core.Path.{_≡_};
-ghost use Prim.Native.Nat.{ℕ, _+_, _^_, _≤_, _<_};
+ghost use Prim.Native.Nat.{_+_, _^_, _≤_, _<_};
 ghost use lib.ListN.{length, getD};
 ghost use Rattle.scope.specs.Item.{widthOf, kindOf, numbersAt, elementsAt, countedAt, arrayAt, valueOf};
 ghost use Rattle.wire.specs.Widths.{bytesOf};

@@ -1,7 +1,7 @@
 // White space between items, and a byte's being within a range.
 ghost use mathlib.Core.Path.{_≡_};
 ghost use mathlib.Core.Bool.{true};
-ghost use Prim.Native.Nat.{ℕ, _≤_};
+ghost use Prim.Native.Nat.{_≤_};
 ghost use Rattle.scope.specs.Choice.{between as Choice·between};
 ghost use Rattle.scope.specs.Item.{white, after};
 

@@ -16,7 +16,7 @@ cast-result c = search needs
 
 returns : tie.Need-returns
 unfolding firstOf
-returns c = c .first-of .ensures
+returns c = c .first-of .ensures .0
 
 pub first-number-spec : {M : Type 1} → statement M
 first-number-spec = tie.close (tie.spec first-of-requires cast-result returns)

@@ -31,7 +31,7 @@ cast-result c = search needs
 
 returns-2 : tie.Need-returns-2
 unfolding secondOf
-returns-2 c = c .number-at .ensures
+returns-2 c = c .number-at .ensures .0
 
 pub second-number-spec : {M : Type 1} → statement M
 second-number-spec =

@@ -1,5 +1,4 @@
 use borrow.Author.Tests.{eq-eqb, ne-eqb}
-use borrow.Author.Needs.{needs}
 use Rattle.wire.proofs.header.either.Statement.{statement}
 use Rattle.wire.proofs.header.either.Tie as tie
 use Rattle.wire.proofs.header.either.Reads as reads

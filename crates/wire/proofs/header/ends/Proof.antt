@@ -1,5 +1,4 @@
 use borrow.Author.Tests.{le-leb, lt-leb}
-use borrow.Author.Needs.{needs}
 use Rattle.wire.proofs.header.ends.Statement.{statement}
 use Rattle.wire.proofs.header.ends.Tie as tie
 use Rattle.wire.proofs.header.ends.Reads as reads

@@ -1,6 +1,4 @@
-use Prim.Native.Nat.{_≤_}
 use lib.Dec.{leb}
-use Prim.Native.Nat.{_<_}
 use mathlib.Core.Path.{_≡_}
 use mathlib.Core.Bool.{false}
 use native.Mathlib.Omega.{arith}

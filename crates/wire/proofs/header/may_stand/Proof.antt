@@ -1,4 +1,4 @@
-use borrow.Author.Tests.{eq-eqb, ne-eqb, le-leb, lt-leb}
+use borrow.Author.Tests.{ne-eqb, le-leb}
 use Rattle.scope.specs.Header.{mayStand}
 use borrow.Author.Needs.{needs}
 use Rattle.wire.proofs.header.may_stand.Statement.{statement}

@@ -1,4 +1,4 @@
-use mathlib.Core.Path.{_≡_, refl, sym, ap, _∙_}
+use mathlib.Core.Path.{sym, ap, _∙_}
 use Rattle.scope.specs.Item.{pairAt, pairOf}
 use Rattle.wire.specs.Values.{valueAs}
 use borrow.Author.Needs.{needs}

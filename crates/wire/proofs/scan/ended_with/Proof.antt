@@ -1,6 +1,5 @@
 use mathlib.Core.Path.{sym}
 use Rattle.wire.proofs.Rows.{ended-none, ended-some}
-use borrow.Author.Needs.{needs}
 use Rattle.wire.proofs.scan.ended_with.Statement.{statement}
 use Rattle.wire.proofs.scan.ended_with.Tie as tie
 use Rattle.wire.proofs.scan.ended_with.Reads as reads

@@ -2,17 +2,17 @@
 use Rattle.wire.specs.Rows.{withRow}
 -- Both invariants say that the scan from here on is the scan from the start: the inner loop's that the white space passed does not
 -- matter, the outer loop's with the attributes stored so far.
-use Prim.Native.Nat.{ℕ, suc, _+_, _-_, _*_, _≤_, _<_}
+use Prim.Native.Nat.{ℕ, _+_, _-_, _*_, _≤_, _<_}
 use mathlib.Core.Path.{_≡_, refl, sym, ap, _∙_}
 use mathlib.Core.Bool.{Bool, true, false}
-use mathlib.Core.List.{List, [], _∷_, _++_}
+use mathlib.Core.List.{List}
 use native.Mathlib.Omega.{arith}
 use native.Mathlib.Numerals.{add-one}
 use borrow.Author.Tests.{not-true, not-false}
 use lib.ListN.{length, getD}
 use Rattle.scope.specs.Iterate.{onward}
 use Rattle.scope.specs.Choice.{between}
-use Rattle.scope.specs.Item.{Attribute, Pair, white, pairAt, onPair, scanFrom, scanAt}
+use Rattle.scope.specs.Item.{Attribute, Pair, white, onPair, scanFrom, scanAt}
 use Rattle.wire.specs.Rows.{rowsOf, rowsFrom}
 use Rattle.wire.specs.Values.{pairAs}
 use Rattle.wire.proofs.Rows.{length-rows, length-stored, rows-stored}
@@ -144,7 +144,7 @@ enum-known-number : tie.Need-enum-known-number Inv-white μ-white Inv-pairs μ-p
 enum-known-number c = search needs
 
 store-requires : tie.Need-store-requires Inv-white μ-white Inv-pairs μ-pairs
-store-requires c κs = room (c .before .before) .2
+store-requires c κs = let r = room (c .before .before) in omega arith
 
 add-n : tie.Need-add-n Inv-white μ-white Inv-pairs μ-pairs
 add-n c = search needs

@@ -1,8 +1,8 @@
-use mathlib.Core.Path.{_≡_, refl, sym, ap, _∙_}
-use mathlib.Core.Bool.{true, false}
+use mathlib.Core.Path.{_≡_, sym, ap, _∙_}
+use mathlib.Core.Bool.{false}
 use native.Mathlib.Omega.{arith}
 use Rattle.scope.specs.Choice.{between}
-use Rattle.scope.specs.Item.{kindOf, plain, array, widthOf}
+use Rattle.scope.specs.Item.{kindOf, plain, array}
 use borrow.Author.Needs.{needs}
 use Rattle.wire.proofs.value.kind_of.Statement.{statement}
 use Rattle.wire.proofs.value.kind_of.Tie as tie

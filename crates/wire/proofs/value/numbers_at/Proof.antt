@@ -2,7 +2,6 @@ use native.Mathlib.Omega.{arith}
 use native.Mathlib.Nat.{mul-le-mul}
 use borrow.Author.Tests.{le-leb, lt-leb}
 use Rattle.scope.specs.Item.{numbersAt}
-use borrow.Author.Needs.{needs}
 use Rattle.wire.proofs.value.numbers_at.Statement.{statement}
 use Rattle.wire.proofs.value.numbers_at.Tie as tie
 use Rattle.wire.proofs.value.numbers_at.Reads as reads

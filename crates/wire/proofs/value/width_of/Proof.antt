@@ -1,7 +1,6 @@
 use native.Mathlib.Omega.{arith}
 use borrow.Author.Tests.{ne-eqb}
 use Rattle.scope.specs.Item.{widthOf}
-use borrow.Author.Needs.{needs}
 use Rattle.wire.proofs.value.width_of.Statement.{statement}
 use Rattle.wire.proofs.value.width_of.Tie as tie
 use Rattle.wire.proofs.value.width_of.Reads as reads

@@ -1,6 +1,5 @@
 -- The invariant: the first place that is not white is the same from p on as from the start.
 use borrow.Author.Tests.{not-true, not-false}
-use native.Mathlib.Omega.{arith}
 use Rattle.wire.proofs.Spaces.{after-white, after-black, after-end}
 use Rattle.scope.specs.Item.{after}
 use lib.ListN.{length}

@@ -1,7 +1,5 @@
 use mathlib.Core.Bool.{false≢true}
-use mathlib.Core.Path.{_≡_, refl}
 use borrow.Author.Tests.{le-leb, lt-leb}
-use borrow.Author.Needs.{needs}
 use Rattle.wire.proofs.white.between.Statement.{statement}
 use Rattle.wire.proofs.white.between.Tie as tie
 use Rattle.wire.proofs.white.between.Reads as reads

@@ -1,4 +1,4 @@
-use mathlib.Core.Path.{_≡_, refl, sym, _∙_}
+use mathlib.Core.Path.{sym, _∙_}
 use Rattle.scope.specs.Item.{white}
 use borrow.Author.Needs.{needs}
 use Rattle.wire.proofs.white.is_white.Statement.{statement}
