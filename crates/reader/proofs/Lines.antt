@@ -1,6 +1,6 @@
 -- An operator by its line of the table, case by case.
 -- Assumes nothing.
-use Prim.Native.Nat.{ℕ}
+use Prim.Native.Nat.{ℕ, _≤_}
 use mathlib.Core.Path.{_≡_, refl, sym, ap, _∙_, subst⁻¹}
 use mathlib.Core.Bool.{Bool, true, false}
 use mathlib.Core.List.{List, []}
@@ -12,6 +12,9 @@ use Rattle.scope.specs.Attributes.{Fault, fine, bad, oneByOne, formCode}
 use Rattle.scope.specs.Order.{mayCome}
 use Rattle.scope.specs.Reading.{Context, Read, asWhole, withAttributes, withLine}
 use Rattle.rules.specs.Lines.{isLine}
+use Rattle.reader.specs.Reads.{Within}
+use Rattle.reader.specs.declared.reading.Read as Code
+use native.Mathlib.Omega.{arith}
 use Rattle.rules.specs.Judging.{thenWhole, lineFault}
 
 -- two answers that differ
@@ -76,3 +79,9 @@ module _ (c : Context) (s : List ℕ) (tag at : ℕ) (l : List Attribute) where
   unfolding withLine lineFault
   line-fine Line.none e f g = untrue e
   line-fine (Line.is r) e f g = rw f (found-fine r (oneByOne (c .high) s (r .rules) [] l) g)
+
+-- an operator that ends past a place ends past what stands before that place
+pub within-from : (len start p : ℕ) (r : Code.Read) → start ≤ p → Within len p r → Within len start r
+within-from len start p (Code.the-variants.Operator o) h k = (omega arith, k .1, k .2, k .3, k .4)
+within-from len start p Code.the-variants.Ended h k = tt
+within-from len start p (Code.the-variants.No code place) h k = tt

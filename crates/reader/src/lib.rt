@@ -8,6 +8,7 @@ pub use due::row_of;
 pub use order::may_come;
 pub use order::Image;
 pub use order::Phase;
+pub use reading::operator_at;
 pub use reading::Context;
 pub use reading::Operator;
 pub use reading::Read;

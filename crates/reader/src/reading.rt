@@ -6,7 +6,8 @@ ghost use mathlib.Core.Bool.{_&&_, not};
 ghost use lib.ListN.{length};
 ghost use Rattle.wire.specs.Rows.{rowsOf, Sized};
 ghost use Rattle.scope.specs.Order.{imageOf};
-ghost use Rattle.scope.specs.Reading.{withBlock, withData, asWhole};
+ghost use Rattle.scope.specs.Reading.{withBlock, withData, asWhole, withLine, operatorAt};
+ghost use Rattle.scope.specs.Table.{table, lineIn};
 ghost use Rattle.scope.specs.Data.{reads};
 ghost use Rattle.reader.specs.Views.{phaseAs, imageAs, dueAs, foundAs, Placed};
 ghost use Rattle.reader.specs.Reads.{contextAs, readAs, Within};
@@ -15,8 +16,11 @@ use crate::data::Found;
 use crate::due::due_of;
 use crate::due::rows_fit;
 use crate::due::Due;
+use crate::order::may_come;
 use crate::order::Image;
 use crate::order::Phase;
+use rules::Fault;
+use wire::Scan;
 
 // What reading has to know: the byte order, the phase, whether the source is open, and whether 17 is judged.
 pub struct Context {
