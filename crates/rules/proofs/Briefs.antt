@@ -2,10 +2,12 @@
 -- Assumes nothing.
 use Prim.Native.Nat.{ℕ}
 use mathlib.Core.Path.{_≡_, refl, sym, ap, _∙_}
-use mathlib.Core.Bool.{Bool, true, false}
-use mathlib.Core.List.{List}
+use mathlib.Core.Bool.{Bool, true, false, false≢true}
+use mathlib.Core.List.{List, []}
 use Rattle.scope.specs.Table as scope
-use Rattle.rules.specs.Lines.{isLine, Brief, known, unknown, briefOf, briefBy, briefAs, upToNo}
+use Rattle.rules.specs.Lines.{isLine, isKnown, formAs, numbersIn, Brief, known, unknown, briefOf, briefBy, briefAs, upToNo}
+use Rattle.rules.specs.Judging.{Stands}
+use Rattle.rules.proofs.Tested.{row-agreed}
 use Rattle.rules.specs.declared.table.Form.{Form}
 use Rattle.rules.specs.declared.table.Row.{Row}
 use Rattle.rules.specs.declared.table.Form.the-variants.{Each, One, Line, Unknown}
@@ -13,12 +15,6 @@ use Rattle.rules.specs.declared.table.Form.the-variants.{Each, One, Line
 shown : Brief → Bool
 shown (known f ns) = true
 shown unknown = false
-
-abbrev pub isKnown : Form → Bool
-isKnown Each = true
-isKnown One = true
-isKnown Line = true
-isKnown Unknown = false
 
 shown-line : (l : scope.Line) → shown (briefOf l) ≡ isLine l
 unfolding shown
@@ -35,3 +31,42 @@ shown-form Unknown ns = refl
 -- the table has the line exactly if the code's form is known
 pub line-known : (r : Row) (l : scope.Line) → briefAs r ≡ briefOf l → isKnown (r .0) ≡ isLine l
 line-known r l e = sym (shown-form (r .0) (upToNo (r .1))) ∙ ap shown e ∙ shown-line l
+
+formIn : Brief → scope.Form
+formIn (known f ns) = f
+formIn unknown = scope.each
+
+numbersOf : Brief → List ℕ
+numbersOf (known f ns) = ns
+numbersOf unknown = []
+
+by-form : (f : Form) (ns : List ℕ) → formIn (briefBy f ns) ≡ formAs f
+unfolding formIn
+by-form Each ns = refl
+by-form One ns = refl
+by-form Line ns = refl
+by-form Unknown ns = refl
+
+by-numbers : (f : Form) (ns : List ℕ) → isKnown f ≡ true → numbersOf (briefBy f ns) ≡ ns
+unfolding numbersOf
+by-numbers Each ns k = refl
+by-numbers One ns k = refl
+by-numbers Line ns k = refl
+by-numbers Unknown ns k = absurd (false≢true k)
+
+-- a line of the code, against a line of the table
+pub data Stood (r : Row) : scope.Line → Type 0 where
+  stood-none : isKnown (r .0) ≡ false → Stood r scope.Line.none
+  stood-is : {x : scope.Row} → isKnown (r .0) ≡ true → formAs (r .0) ≡ x .form → Stands (r .1) (x .rules) → Stood r (scope.Line.is x)
+
+stood-by : (r : Row) (tag : ℕ) (l : scope.Line) → scope.lineIn scope.table tag ≡ l → briefAs r ≡ briefOf l → Stood r l
+unfolding formIn numbersOf
+stood-by r tag scope.Line.none q e = stood-none (line-known r scope.Line.none e)
+stood-by r tag (scope.Line.is x) q e =
+    let k = line-known r (scope.Line.is x) e in
+    let f : formAs (r .0) ≡ x .form = sym (by-form (r .0) (upToNo (r .1))) ∙ ap formIn e in
+    let n : upToNo (r .1) ≡ numbersIn (x .rules) = sym (by-numbers (r .0) (upToNo (r .1)) k) ∙ ap numbersOf e in
+    stood-is k f (record { numbers = n; agreed = row-agreed tag x q })
+
+pub stood : (r : Row) (tag : ℕ) → briefAs r ≡ briefOf (scope.lineIn scope.table tag) → Stood r (scope.lineIn scope.table tag)
+stood r tag e = stood-by r tag (scope.lineIn scope.table tag) refl e

@@ -30,11 +30,11 @@ unfolding among
 apart-out n [] h = refl
 apart-out n (k ∷ ks) h = rw (ne-eqb k n (λ e. h .1 (sym e)), among) (apart-out n ks (h .0))
 
-both-left : (a b : Bool) → pick a b false ≡ true → a ≡ true
+pub both-left : (a b : Bool) → pick a b false ≡ true → a ≡ true
 both-left true b e = refl
 both-left false b e = e
 
-both-right : (a b : Bool) → pick a b false ≡ true → b ≡ true
+pub both-right : (a b : Bool) → pick a b false ≡ true → b ≡ true
 both-right true b e = e
 both-right false b e = absurd (true≢false (sym e))
 

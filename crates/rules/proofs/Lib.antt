@@ -1,3 +1,6 @@
 pub mod Keys
 pub mod Briefs
 pub mod Rowed
+pub mod Numbered
+pub mod Tested
+pub mod Faults

@@ -10,8 +10,6 @@ use Rattle.scope.specs.Item as item
 use Rattle.scope.specs.Table as scope
 use Rattle.scope.specs.Attributes as judged
 use Rattle.rules.specs.Lines.{numbersIn, upToNo, ruleOf}
-use Rattle.rules.specs.declared.table.Form.{Form}
-use Rattle.rules.specs.declared.table.Form.the-variants.{Each, One, Line}
 use Rattle.rules.specs.declared.judge.Fault.{Fault}
 use Rattle.rules.specs.declared.judge.Fault.the-variants.{Fine, Bad}
 use Rattle.rules.specs.declared.value.Attribute.{Attribute}
@@ -35,12 +33,6 @@ faultAs (Bad c p) = judged.bad c p
 -- the attribute that an attribute of the code stands for
 abbrev pub attributeAs : Attribute → item.Attribute
 attributeAs a = record { number = a .number; tag = a .tag; at = a .at; count = a .count; first = a .first }
-
--- the form that a form of the code stands for
-pub data Formed : Form → scope.Form → Type 0 where
-  formed-each : Formed Each scope.each
-  formed-one : Formed One scope.one
-  formed-line : Formed Line scope.line
 
 -- the rule of an attribute in a line that has these numbers
 unfoldable pub ruledIn : List ℕ → ℕ → scope.Ruled

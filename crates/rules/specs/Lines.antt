@@ -36,6 +36,20 @@ unfoldable pub upToNo : List ℕ → List ℕ
 upToNo [] = []
 upToNo (n ∷ ns) = pick (eqb n 0) [] (n ∷ upToNo ns)
 
+-- a form that a line of the table has
+abbrev pub isKnown : Form → Bool
+isKnown Each = true
+isKnown One = true
+isKnown Line = true
+isKnown Unknown = false
+
+-- the form that a known form of the code stands for
+abbrev pub formAs : Form → scope.Form
+formAs Each = scope.each
+formAs One = scope.one
+formAs Line = scope.line
+formAs Unknown = scope.each
+
 -- the form and the numbers that a line of the code stands for
 abbrev pub briefBy : Form → List ℕ → Brief
 briefBy Each ns = known scope.each ns

@@ -1,16 +1,152 @@
 // An operator's attributes judged: one by one 11, 12, 15, 16, then as a whole 13, 14.
 ghost use mathlib.Core.Path.{_≡_};
+ghost use mathlib.Core.Bool.{true};
 ghost use mathlib.Core.List.{List, []};
 ghost use Prim.Native.Nat.{ℕ, _+_, _≤_, _<_};
 ghost use lib.Dec.{eqb};
 ghost use Rattle.scope.specs.Choice.{pick};
-ghost use Rattle.scope.specs.Table.{Rule as RuleIn, Form as FormIn, table, lineIn};
+ghost use Rattle.scope.specs.Table.{Rule as RuleIn, table, lineIn};
 ghost use Rattle.scope.specs.Attributes.{fine, bad, attributeCode, oneByOne, choiceCode, pairCode, formCode};
 ghost use Rattle.wire.specs.Rows.{rowAt, rowsOf, Sized};
-ghost use Rattle.rules.specs.Lines.{upToNo, ruleOf};
-ghost use Rattle.rules.specs.Judging.{attributeAs, Formed, ruledIn, allIn, manyIn, Stands, faultAs, lineFault};
+ghost use Rattle.rules.specs.Lines.{upToNo, isKnown, formAs};
+ghost use Rattle.rules.specs.Judging.{attributeAs, ruledIn, Stands, faultAs, lineFault};
+use crate::attributes::at_most;
+use crate::attributes::has;
+use crate::line::all_there;
+use crate::line::how_many;
+use crate::line::listed;
+use crate::table::is_known;
+use crate::table::row_of;
+use crate::table::rule_of;
+use crate::table::Form;
+use crate::value::in_range;
+use crate::value::type_taken;
+use crate::value::Attribute;
 
+// A fault has a code and a place.
 pub enum Fault {
     Fine,
     Bad(u32, usize),
+}
+
+// Attribute i of the lent array.
+fn attribute_at(attrs: &[usize; 80], i: usize) -> Attribute
+    requires { ⌜ i < 16 ⌝ }
+    ensures { λ r. ⌜ attributeAs r ≡ rowAt (now (attrs .entry)) i ⌝ }
+{
+    Attribute {
+        number: attrs[i * 5],
+        tag: attrs[i * 5 + 1],
+        at: attrs[i * 5 + 2],
+        count: attrs[i * 5 + 3],
+        first: attrs[i * 5 + 4],
+    }
+}
+
+// The code of attribute i, given those before it; 0 is none.
+fn attribute_code(s: &[u8], high: bool, numbers: [u8; 5], attrs: &[usize; 80], i: usize) -> u32
+    requires { ⌜ i < 16 ⌝ }
+    ensures { λ r. ⌜ (Sized (now (attrs .entry)) i → r ≡ attributeCode high (now (s .entry)) (rowsOf (now (attrs .entry)) i) (rowAt (now (attrs .entry)) i) (ruledIn (upToNo numbers) (rowAt (now (attrs .entry)) i .number))) ⌝ }
+{
+    let a = attribute_at(attrs, i);
+    if !listed(numbers, a.number) {
+        return 11;
+    }
+    if has(attrs, i, a.number) {
+        return 12;
+    }
+    let rule = rule_of(a.number);
+    let kind = rule.0;
+    if !type_taken(kind, a.tag) {
+        return 15;
+    }
+    if in_range(s, high, kind, rule.1, rule.2, a) { 0 } else { 16 }
+}
+
+// Attribute by attribute.
+fn one_by_one(s: &[u8], high: bool, numbers: [u8; 5], attrs: &[usize; 80], n: usize) -> Fault
+    ensures { λ r. ⌜ ((rules : List RuleIn) → Stands numbers rules → Sized (now (attrs .entry)) n → faultAs r ≡ oneByOne high (now (s .entry)) rules [] (rowsOf (now (attrs .entry)) n)) ⌝ }
+{
+    let end = at_most(n);
+    let mut i: usize = 0;
+    while i < end {
+        let code = attribute_code(s, high, numbers, attrs, i);
+        if code != 0 {
+            return Fault::Bad(code, attrs[i * 5 + 2]);
+        }
+        i += 1;
+    }
+    Fault::Fine
+}
+
+// Exactly one of a choice: none is 13, two are 14.
+fn choice_code(many: usize) -> u32
+    ensures { λ r. ⌜ r ≡ choiceCode many ⌝ }
+{
+    if many == 0 {
+        return 13;
+    }
+    if many == 1 { 0 } else { 14 }
+}
+
+// EndPoint alone, or NumberOfPoints with PointType.
+fn pair_code(end: bool, points: bool, kind: bool) -> u32
+    ensures { λ r. ⌜ r ≡ pairCode end points kind ⌝ }
+{
+    if end {
+        if points {
+            return 14;
+        }
+        if kind {
+            return 14;
+        }
+        return 0;
+    }
+    if points {
+        if kind {
+            return 0;
+        }
+        return 14;
+    }
+    if kind { 14 } else { 13 }
+}
+
+// 13 and 14, by the form of the line; 0 is none.
+fn form_code(form: Form, numbers: [u8; 5], attrs: &[usize; 80], n: usize) -> u32
+    ensures { λ r. ⌜ (isKnown form ≡ true → (rules : List RuleIn) → Stands numbers rules → Sized (now (attrs .entry)) n → r ≡ formCode (rowsOf (now (attrs .entry)) n) rules (formAs form)) ⌝ }
+{
+    match form {
+        Form::Each => {
+            if all_there(numbers, attrs, n) { 0 } else { 13 }
+        }
+        Form::One => choice_code(how_many(numbers, attrs, n)),
+        Form::Line => pair_code(has(attrs, n, 69), has(attrs, n, 77), has(attrs, n, 80)),
+        Form::Unknown => 0,
+    }
+}
+
+// The fault of a code, if it is one.
+fn whole(at: usize, code: u32) -> Fault
+    ensures { λ r. ⌜ faultAs r ≡ pick (eqb code 0) fine (bad code at) ⌝ }
+{
+    if code == 0 {
+        return Fault::Fine;
+    }
+    Fault::Bad(code, at)
+}
+
+// What is wrong with the operator whose tag stands at a place, and its attributes: 9, then 11, 12, 15, 16, then 13, 14.
+pub fn line_fault(s: &[u8], high: bool, tag: u8, at: usize, attrs: &[usize; 80], n: usize) -> Fault
+    ensures { λ r. ⌜ (Sized (now (attrs .entry)) n → faultAs r ≡ lineFault high (now (s .entry)) at (rowsOf (now (attrs .entry)) n) (lineIn table tag)) ⌝ }
+{
+    let row = row_of(tag);
+    let form = row.0;
+    let numbers = row.1;
+    if !is_known(form) {
+        return Fault::Bad(9, at);
+    }
+    match one_by_one(s, high, numbers, attrs, n) {
+        Fault::Bad(code, place) => Fault::Bad(code, place),
+        Fault::Fine => whole(at, form_code(form, numbers, attrs, n)),
+    }
 }

@@ -2,11 +2,13 @@
 mod table;
 mod attributes;
 mod judge;
+mod line;
 mod value;
 
 pub use attributes::has;
 pub use attributes::part_in;
 pub use attributes::value_in;
 pub use attributes::Part;
+pub use judge::line_fault;
 pub use judge::Fault;
 pub use table::is_operator;

@@ -1,7 +1,7 @@
 // 01's table of operators: a line of code for a line of the table, and a line for each attribute.
 ghost use mathlib.Core.Path.{_≡_};
 ghost use Rattle.scope.specs.Table.{table, lineIn};
-ghost use Rattle.rules.specs.Lines.{isLine, briefAs, briefOf, ruleAs, ruleOf};
+ghost use Rattle.rules.specs.Lines.{isLine, isKnown, briefAs, briefOf, ruleAs, ruleOf};
 
 // How an operator's attributes belong together: each by itself, exactly one of them, or the first alone or both others.
 pub enum Form {
@@ -15,7 +15,7 @@ pub enum Form {
 pub struct Row(pub Form, pub [u8; 5]);
 
 // No attribute.
-const NO: u8 = 0;
+pub const NO: u8 = 0;
 
 // The values that an attribute takes: E a ubyte, N a ubyte or uint16, P a point, B a box, A an array of ubytes,
 // D two uint16, M MediaSize.
@@ -109,16 +109,23 @@ pub fn rule_of(number: usize) -> Rule
     }
 }
 
-// The operator table has this tag.
-pub fn is_operator(tag: u8) -> bool
-    ensures { λ r. ⌜ r ≡ isLine (lineIn table tag) ⌝ }
+// The form of a line that the table has.
+pub fn is_known(form: Form) -> bool
+    ensures { λ r. ⌜ r ≡ isKnown form ⌝ }
 {
-    let row = row_of(tag);
-    let form = row.0;
     match form {
         Form::Each => true,
         Form::One => true,
         Form::Line => true,
         Form::Unknown => false,
     }
+}
+
+// The operator table has this tag.
+pub fn is_operator(tag: u8) -> bool
+    ensures { λ r. ⌜ r ≡ isLine (lineIn table tag) ⌝ }
+{
+    let row = row_of(tag);
+    let form = row.0;
+    is_known(form)
 }

@@ -1,0 +1,85 @@
+-- The judging of attributes, step by step, by numbers in place of rules.
+-- Assumes nothing.
+use Prim.Native.Nat.{ℕ, _+_, _-_, _≤_, _<_}
+use mathlib.Core.Path.{_≡_, refl, sym, ap, _∙_}
+use mathlib.Core.Bool.{Bool, true, false, false≢true}
+use mathlib.Core.List.{List, [], _∷_}
+use lib.Dec.{eqb}
+use Rattle.scope.specs.Choice.{pick, among}
+use Rattle.scope.specs.Item.{Attribute}
+use Rattle.scope.specs.Table as scope
+use Rattle.scope.specs.Attributes.{has, typeTaken, inRange, Fault, fine, bad, attributeCode, oneByOne, allThere, howMany, formCode}
+use Rattle.wire.specs.Rows.{rowAt, rowsFrom, rowsOf}
+use Rattle.rules.specs.Lines.{upToNo, ruleOf, isKnown, formAs}
+use Rattle.rules.specs.Judging.{ruledIn, allIn, manyIn, Stands, thenWhole, lineFault}
+use Rattle.rules.specs.declared.table.Row.{Row}
+use Rattle.rules.proofs.Rowed.{rows-more, rows-end, rows-before}
+use Rattle.rules.proofs.Numbered.{ruled-by, all-by, many-by}
+use Rattle.rules.proofs.Briefs.{Stood, stood-none, stood-is}
+
+-- one attribute: 11, 12, 15, 16 in this order
+module _ (high : Bool) (s : List ℕ) (before : List Attribute) (a : Attribute) (ns : List ℕ) where
+  pub code-11 : among ns (a .number) ≡ false → attributeCode high s before a (ruledIn ns (a .number)) ≡ 11
+  unfolding attributeCode ruledIn
+  code-11 e = rw e
+
+  module _ (listed : among ns (a .number) ≡ true) where
+    pub code-12 : has (a .number) before ≡ true → attributeCode high s before a (ruledIn ns (a .number)) ≡ 12
+    unfolding attributeCode ruledIn
+    code-12 e = rw (listed, e)
+
+    module _ (new : has (a .number) before ≡ false) (t : scope.Takes) (takes : t ≡ ruleOf (a .number) .takes) where
+      pub code-15 : typeTaken t (a .tag) ≡ false → attributeCode high s before a (ruledIn ns (a .number)) ≡ 15
+      unfolding attributeCode ruledIn
+      code-15 e = rw (listed, new, ← takes, e)
+
+      pub code-16 : typeTaken t (a .tag) ≡ true → (b : Bool) → inRange high s t a ≡ b
+          → attributeCode high s before a (ruledIn ns (a .number)) ≡ pick b 0 16
+      unfolding attributeCode ruledIn
+      code-16 e b q = rw (listed, new, ← takes, e, q)
+
+-- the rules that the numbers stand for
+module _ (ns : List ℕ) (rules : List scope.Rule) (st : Stands ns rules) where
+  pub stands-ruled : (n : ℕ) → ruledIn (upToNo ns) n ≡ scope.ruleIn rules n
+  stands-ruled n = rw (st .numbers) (sym (ruled-by rules (st .agreed) n))
+
+  pub stands-all : (l : List Attribute) → allIn l (upToNo ns) ≡ allThere l rules
+  stands-all l = rw (st .numbers) (sym (all-by l rules (st .agreed)))
+
+  pub stands-many : (l : List Attribute) → manyIn l (upToNo ns) ≡ howMany l rules
+  stands-many l = rw (st .numbers) (sym (many-by l rules))
+
+-- one attribute more
+module _ (high : Bool) (s : List ℕ) (rules : List scope.Rule) (a : List ℕ) (i n : ℕ) where
+  pub one-more : (c : ℕ) → i < n → c ≡ attributeCode high s (rowsOf a i) (rowAt a i) (scope.ruleIn rules (rowAt a i .number))
+      → oneByOne high s rules (rowsOf a i) (rowsFrom a i (n - i))
+      ≡ pick (eqb c 0) (oneByOne high s rules (rowsOf a (i + 1)) (rowsFrom a (i + 1) (n - (i + 1)))) (bad c (rowAt a i .at))
+  unfolding oneByOne
+  one-more c h e = rw (rows-more a i n h, e, rows-before a i)
+
+  pub one-end : n ≤ i → oneByOne high s rules (rowsOf a i) (rowsFrom a i (n - i)) ≡ fine
+  unfolding oneByOne
+  one-end h = rw (rows-end a i n h)
+
+-- the whole line
+module _ (high : Bool) (s : List ℕ) (at : ℕ) (l : List Attribute) (r : Row) where
+  pub fault-9 : (x : scope.Line) → Stood r x → isKnown (r .0) ≡ false → bad 9 at ≡ lineFault high s at l x
+  unfolding lineFault
+  fault-9 scope.Line.none (stood-none e) k = refl
+  fault-9 (scope.Line.is x) (stood-is known f st) k = absurd (false≢true (sym k ∙ known))
+
+  pub fault-one : (x : scope.Line) → Stood r x → isKnown (r .0) ≡ true → (c p : ℕ)
+      → ((rules : List scope.Rule) → Stands (r .1) rules → bad c p ≡ oneByOne high s rules [] l) → bad c p ≡ lineFault high s at l x
+  unfolding lineFault thenWhole
+  fault-one scope.Line.none (stood-none e) k c p h = absurd (false≢true (sym e ∙ k))
+  fault-one (scope.Line.is x) (stood-is known f st) k c p h = rw (← h (x .rules) st)
+
+  pub fault-whole : (x : scope.Line) → Stood r x → isKnown (r .0) ≡ true → (k : ℕ)
+      → ((rules : List scope.Rule) → Stands (r .1) rules → fine ≡ oneByOne high s rules [] l)
+      → ((rules : List scope.Rule) → Stands (r .1) rules → k ≡ formCode l rules (formAs (r .0)))
+      → pick (eqb k 0) fine (bad k at) ≡ lineFault high s at l x
+  unfolding lineFault thenWhole
+  fault-whole scope.Line.none (stood-none e) t k h g = absurd (false≢true (sym e ∙ t))
+  fault-whole (scope.Line.is x) (stood-is known f st) t k h g =
+      let q : k ≡ formCode l (x .rules) (x .form) = g (x .rules) st ∙ ap (formCode l (x .rules)) f in
+      rw (← h (x .rules) st, ← q)

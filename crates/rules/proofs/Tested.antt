@@ -1,0 +1,136 @@
+-- Two facts of the whole table, each by one test that is computed: a rule is that of its number in every line, and numbers are below 256.
+-- Assumes nothing.
+use Prim.Native.Nat.{ℕ, _<_}
+use mathlib.Core.Path.{_≡_, refl, sym, ap, _∙_, subst}
+use mathlib.Core.Bool.{Bool, true, false, not, false≢true}
+use mathlib.Core.List.{List, [], _∷_, _++_}
+use lib.Dec.{eqb, ltb}
+use borrow.Author.Tests.{eqb-true, ltb-true}
+use Rattle.scope.specs.Choice.{pick}
+use Rattle.scope.specs.Item.{Attribute}
+use Rattle.scope.specs.Table as scope
+use Rattle.scope.specs.Table.{Takes, Rule, Row, table, lineIn, ruleIn}
+use Rattle.scope.specs.Attributes.{Fault, fine, bad, attributeCode, oneByOne}
+use Rattle.rules.specs.Lines.{isLine, rulesIn, ruleOf}
+use Rattle.rules.specs.Judging.{Agreed, agreed-none, agreed-more}
+use Rattle.rules.proofs.Keys.{both-left, both-right}
+
+-- what a test that passes at each row says of a row that was found
+unfoldable everyRow : (Row → Bool) → List Row → Bool
+everyRow test [] = true
+everyRow test (r ∷ rs) = pick (test r) (everyRow test rs) false
+
+rowOr : Row → scope.Line → Row
+rowOr d (scope.Line.is r) = r
+rowOr d scope.Line.none = d
+
+is-same : (r x : Row) → scope.Line.is r ≡ scope.Line.is x → r ≡ x
+unfolding rowOr
+is-same r x e = ap (rowOr r) e
+
+row-passes : (test : Row → Bool) (rows : List Row) → everyRow test rows ≡ true → (tag : ℕ) (x : Row) → lineIn rows tag ≡ scope.Line.is x
+    → test x ≡ true
+unfolding everyRow lineIn
+row-passes test [] t tag x e = absurd (false≢true (ap isLine e))
+row-passes test (r ∷ rs) t tag x e = hit (eqb (r .op) tag) (λ q. row-passes test rs (both-right (test r) (everyRow test rs) t) tag x q) e
+  where
+    hit : (b : Bool) → (lineIn rs tag ≡ scope.Line.is x → test x ≡ true)
+        → elim b [ true ↦ scope.Line.is r | false ↦ lineIn rs tag ] ≡ scope.Line.is x → test x ≡ true
+    hit true k q = subst (λ (y : Row). test y ≡ true) (is-same r x q) (both-left (test r) (everyRow test rs) t)
+    hit false k q = k q
+
+-- values as numbers, and back
+kindIn : Takes → ℕ
+kindIn (scope.E l h) = 0
+kindIn (scope.N l) = 1
+kindIn scope.P = 2
+kindIn scope.B = 3
+kindIn (scope.A l h) = 4
+kindIn (scope.D l) = 5
+kindIn scope.M = 6
+
+lowIn : Takes → ℕ
+lowIn (scope.E l h) = l
+lowIn (scope.N l) = l
+lowIn scope.P = 0
+lowIn scope.B = 0
+lowIn (scope.A l h) = l
+lowIn (scope.D l) = l
+lowIn scope.M = 0
+
+highIn : Takes → ℕ
+highIn (scope.E l h) = h
+highIn (scope.N l) = 0
+highIn scope.P = 0
+highIn scope.B = 0
+highIn (scope.A l h) = h
+highIn (scope.D l) = 0
+highIn scope.M = 0
+
+back : ℕ → ℕ → ℕ → Takes
+back k l h =
+    pick (eqb k 0) (scope.E l h)
+    (pick (eqb k 1) (scope.N l)
+    (pick (eqb k 2) scope.P (pick (eqb k 3) scope.B (pick (eqb k 4) (scope.A l h) (pick (eqb k 5) (scope.D l) scope.M)))))
+
+there-and-back : (t : Takes) → back (kindIn t) (lowIn t) (highIn t) ≡ t
+unfolding kindIn lowIn highIn back
+there-and-back (scope.E l h) = refl
+there-and-back (scope.N l) = refl
+there-and-back scope.P = refl
+there-and-back scope.B = refl
+there-and-back (scope.A l h) = refl
+there-and-back (scope.D l) = refl
+there-and-back scope.M = refl
+
+same-takes : (t u : Takes) → kindIn t ≡ kindIn u → lowIn t ≡ lowIn u → highIn t ≡ highIn u → t ≡ u
+same-takes t u k l h = sym (there-and-back t) ∙ rw (k, l, h) (there-and-back u)
+
+alike : Bool → Bool → Bool
+alike true b = b
+alike false b = not b
+
+same-bool : (a b : Bool) → alike a b ≡ true → a ≡ b
+unfolding alike
+same-bool true true e = refl
+same-bool true false e = sym e
+same-bool false true e = e
+same-bool false false e = refl
+
+sameRule : Rule → Rule → Bool
+sameRule x y =
+    pick (eqb (x .number) (y .number))
+    (pick (eqb (kindIn (x .takes)) (kindIn (y .takes)))
+    (pick (eqb (lowIn (x .takes)) (lowIn (y .takes)))
+    (pick (eqb (highIn (x .takes)) (highIn (y .takes))) (alike (x .must) (y .must)) false) false) false) false
+
+same-rule : (x y : Rule) → sameRule x y ≡ true → x ≡ y
+unfolding sameRule
+same-rule x y e =
+    let b = both-right (eqb (x .number) (y .number)) _ e in
+    let c = both-right (eqb (kindIn (x .takes)) (kindIn (y .takes))) _ b in
+    let d = both-right (eqb (lowIn (x .takes)) (lowIn (y .takes))) _ c in
+    let m = both-right (eqb (highIn (x .takes)) (highIn (y .takes))) _ d in
+    let p : x .number ≡ y .number = eqb-true _ _ (both-left _ _ e) in
+    let q : x .takes ≡ y .takes = same-takes (x .takes) (y .takes) (eqb-true _ _ (both-left _ _ b)) (eqb-true _ _ (both-left _ _ c)) (eqb-true _ _ (both-left _ _ d)) in
+    let n : x .must ≡ y .must = same-bool (x .must) (y .must) m in
+    λ i. record { number = p i; takes = q i; must = n i }
+
+-- each rule of a line is that of its number
+agrees : List Rule → Bool
+agrees [] = true
+agrees (r ∷ rs) = pick (sameRule (ruleOf (r .number)) r) (agrees rs) false
+
+agreed-by : (rules : List Rule) → agrees rules ≡ true → Agreed rules
+unfolding agrees
+agreed-by [] t = agreed-none
+agreed-by (r ∷ rs) t =
+    agreed-more (same-rule (ruleOf (r .number)) r (both-left (sameRule (ruleOf (r .number)) r) (agrees rs) t))
+    (agreed-by rs (both-right (sameRule (ruleOf (r .number)) r) (agrees rs) t))
+
+table-agrees : everyRow (λ r. agrees (r .rules)) table ≡ true
+unfolding everyRow agrees sameRule alike kindIn lowIn highIn table rulesIn ruleOf ruleIn
+table-agrees = refl
+
+pub row-agreed : (tag : ℕ) (r : Row) → lineIn table tag ≡ scope.Line.is r → Agreed (r .rules)
+row-agreed tag r e = agreed-by (r .rules) (row-passes (λ r. agrees (r .rules)) table table-agrees tag r e)

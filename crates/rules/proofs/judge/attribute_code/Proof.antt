@@ -1,0 +1,113 @@
+-- `rules::judge::attribute_code` meets its contract: 11, 12, 15, 16 in this order.
+-- Assumes nothing.
+use mathlib.Core.Path.{_≡_, refl, sym, ap, _∙_}
+use mathlib.Core.Bool.{true, false}
+use borrow.Author.Tests.{not-true, not-false}
+use Rattle.scope.specs.Table.{Rule}
+use Rattle.wire.specs.Rows.{rowAt, rowsOf}
+use Rattle.rules.specs.Lines.{upToNo, takesAs}
+use Rattle.rules.specs.Judging.{attributeAs}
+use Rattle.rules.proofs.Faults.{code-11, code-12, code-15, code-16}
+use borrow.Author.Needs.{needs}
+use Rattle.rules.proofs.judge.attribute_code.Statement.{statement}
+use Rattle.rules.proofs.judge.attribute_code.Tie as tie
+use Rattle.rules.proofs.judge.attribute_code.Reads as reads
+use Rattle.rules.proofs.judge.attribute_code.Lts as lts
+use Rattle.rules.proofs.attributes.has.Reads as has-reads
+use Rattle.rules.proofs.judge.attribute_at.Reads as attribute-at-reads
+use Rattle.rules.proofs.line.listed.Reads as listed-reads
+use Rattle.rules.proofs.table.rule_of.Reads as rule-of-reads
+use Rattle.rules.proofs.value.in_range.Reads as in-range-reads
+use Rattle.rules.proofs.value.type_taken.Reads as type-taken-reads
+
+attribute-at-requires : tie.Need-attribute-at-requires
+attribute-at-requires c κs = search needs
+
+listed-requires : tie.Need-listed-requires
+listed-requires c κs = search needs
+
+returns : tie.Need-returns
+returns c = 
+    let e = c .before .before in
+    let a = e .before .before .args in
+    λ z. rw (← e .attribute-at .ensures) (sym (code-11 (a .high) (a .s .now) (rowsOf (a .attrs .now) (a .i)) (attributeAs (e .attribute-at .result)) (upToNo (a .numbers))
+        (sym (c .before .listed .ensures) ∙ not-true _ (c .if1 .taken))))
+
+has-requires : tie.Need-has-requires
+has-requires c κs = search needs
+
+returns-2 : tie.Need-returns-2
+returns-2 c = 
+    let e = c .before .before .before .before in
+    let a = e .before .before .args in
+    λ z. rw (← e .attribute-at .ensures) (sym (code-12 (a .high) (a .s .now) (rowsOf (a .attrs .now) (a .i)) (attributeAs (e .attribute-at .result)) (upToNo (a .numbers))
+        (sym (c .before .before .before .listed .ensures) ∙ not-false _ (c .before .before .if1 .left))
+        (sym (c .before .has .ensures z) ∙ c .if2 .taken)))
+
+rule-of-requires : tie.Need-rule-of-requires
+rule-of-requires c κs = search needs
+
+type-taken-requires : tie.Need-type-taken-requires
+type-taken-requires c κs = search needs
+
+returns-3 : tie.Need-returns-3
+returns-3 c = 
+    let u = c .before .before in
+    let h = u .before .before in
+    let e = h .before .before .before in
+    let a = e .before .before .args in
+    let r = u .rule-of .result in
+    λ z. rw (← e .attribute-at .ensures) (sym (code-15 (a .high) (a .s .now) (rowsOf (a .attrs .now) (a .i)) (attributeAs (e .attribute-at .result)) (upToNo (a .numbers))
+        (sym (h .before .before .listed .ensures) ∙ not-false _ (h .before .if1 .left))
+        (sym (h .has .ensures z) ∙ u .before .if2 .left)
+        (takesAs (r .0) (r .1) (r .2)) (ap (λ (x : Rule). x .takes) (u .rule-of .ensures))
+        (sym (c .before .type-taken .ensures (r .1) (r .2)) ∙ not-true _ (c .if3 .taken))))
+
+in-range-requires : tie.Need-in-range-requires
+in-range-requires c κs = search needs
+
+returns-4 : tie.Need-returns-4
+returns-4 c = 
+    let v = c .before .before in
+    let u = v .before .before in
+    let h = u .before .before in
+    let e = h .before .before .before in
+    let a = e .before .before .args in
+    let r = u .rule-of .result in
+    λ z. rw (← e .attribute-at .ensures) (sym (code-16 (a .high) (a .s .now) (rowsOf (a .attrs .now) (a .i)) (attributeAs (e .attribute-at .result)) (upToNo (a .numbers))
+        (sym (h .before .before .listed .ensures) ∙ not-false _ (h .before .if1 .left))
+        (sym (h .has .ensures z) ∙ u .before .if2 .left)
+        (takesAs (r .0) (r .1) (r .2)) (ap (λ (x : Rule). x .takes) (u .rule-of .ensures))
+        (sym (v .before .type-taken .ensures (r .1) (r .2)) ∙ not-false _ (v .if3 .left))
+        true (sym (c .before .in-range .ensures) ∙ c .if4 .taken)))
+
+returns-5 : tie.Need-returns-5
+returns-5 c = 
+    let v = c .before .before in
+    let u = v .before .before in
+    let h = u .before .before in
+    let e = h .before .before .before in
+    let a = e .before .before .args in
+    let r = u .rule-of .result in
+    λ z. rw (← e .attribute-at .ensures) (sym (code-16 (a .high) (a .s .now) (rowsOf (a .attrs .now) (a .i)) (attributeAs (e .attribute-at .result)) (upToNo (a .numbers))
+        (sym (h .before .before .listed .ensures) ∙ not-false _ (h .before .if1 .left))
+        (sym (h .has .ensures z) ∙ u .before .if2 .left)
+        (takesAs (r .0) (r .1) (r .2)) (ap (λ (x : Rule). x .takes) (u .rule-of .ensures))
+        (sym (v .before .type-taken .ensures (r .1) (r .2)) ∙ not-false _ (v .if3 .left))
+        false (sym (c .before .in-range .ensures) ∙ c .if4 .left)))
+
+pub attribute-code-spec : {M : Type 1} → statement M
+attribute-code-spec =
+    tie.close
+    (tie.spec
+    attribute-at-requires
+    listed-requires
+    returns
+    has-requires
+    returns-2
+    rule-of-requires
+    type-taken-requires
+    returns-3
+    in-range-requires
+    returns-4
+    returns-5)

@@ -1,0 +1,89 @@
+// The numbers of an operator's line, against the attributes that are there.
+ghost use mathlib.Core.Path.{_≡_};
+ghost use mathlib.Core.Bool.{not, _&&_};
+ghost use Prim.Native.Nat.{_≤_};
+ghost use Rattle.scope.specs.Choice.{pick, among};
+ghost use Rattle.scope.specs.Attributes.{has as hasIn};
+ghost use Rattle.wire.specs.Rows.{rowsOf, Sized};
+ghost use Rattle.rules.specs.Lines.{upToNo, ruleOf};
+ghost use Rattle.rules.specs.Judging.{allIn, manyIn};
+use crate::attributes::has;
+use crate::table::rule_of;
+use crate::table::NO;
+
+fn wide(n: u8) -> usize
+    ensures { λ r. ⌜ r ≡ n ⌝ }
+{
+    n as usize
+}
+
+fn one_if(there: bool) -> usize
+    ensures { λ r. ⌜ r ≡ pick there 1 0 ⌝ }
+    ensures { λ r. ⌜ r ≤ 1 ⌝ }
+{
+    if there { 1 } else { 0 }
+}
+
+// The line has this number.
+pub fn listed(numbers: [u8; 5], number: usize) -> bool
+    ensures { λ r. ⌜ r ≡ among (upToNo numbers) number ⌝ }
+{
+    let mut i: usize = 0;
+    while i < 5 {
+        let k = numbers[i];
+        if k == NO {
+            return false;
+        }
+        if wide(k) == number {
+            return true;
+        }
+        i += 1;
+    }
+    false
+}
+
+// An attribute that must be there is not.
+fn lacks(attrs: &[usize; 80], n: usize, number: usize) -> bool
+    ensures { λ r. ⌜ (Sized (now (attrs .entry)) n → r ≡ (ruleOf number .must && not (hasIn number (rowsOf (now (attrs .entry)) n)))) ⌝ }
+{
+    let rule = rule_of(number);
+    if rule.3 {
+        return !has(attrs, n, number);
+    }
+    false
+}
+
+// Each attribute of the line that must be there is there.
+pub fn all_there(numbers: [u8; 5], attrs: &[usize; 80], n: usize) -> bool
+    ensures { λ r. ⌜ (Sized (now (attrs .entry)) n → r ≡ allIn (rowsOf (now (attrs .entry)) n) (upToNo numbers)) ⌝ }
+{
+    let mut i: usize = 0;
+    while i < 5 {
+        let k = numbers[i];
+        if k == NO {
+            return true;
+        }
+        if lacks(attrs, n, wide(k)) {
+            return false;
+        }
+        i += 1;
+    }
+    true
+}
+
+// How many attributes of the line are there.
+pub fn how_many(numbers: [u8; 5], attrs: &[usize; 80], n: usize) -> usize
+    ensures { λ r. ⌜ (Sized (now (attrs .entry)) n → r ≡ manyIn (rowsOf (now (attrs .entry)) n) (upToNo numbers)) ⌝ }
+{
+    let mut many: usize = 0;
+    let mut i: usize = 0;
+    while i < 5 {
+        let k = numbers[i];
+        if k == NO {
+            return many;
+        }
+        many += one_if(has(attrs, n, wide(k)));
+        i += 1;
+    }
+    many
+}
