@@ -1,4 +1,4 @@
--- Attributes that were judged and found fine have numbers below 256; and what a line found fine says of both its parts.
+-- For callers: attributes found fine have numbers below 256, a line found fine is fine in both its parts, and reading goes by a line's fault.
 -- Assumes nothing.
 use Prim.Native.Nat.{ℕ, zero, suc, _+_, _<_}
 use mathlib.Core.Path.{_≡_, refl, sym, ap, _∙_}
@@ -12,6 +12,7 @@ use Rattle.scope.specs.Choice.{pick}
 use Rattle.scope.specs.Item.{Attribute}
 use Rattle.scope.specs.Table as scope
 use Rattle.scope.specs.Attributes.{Fault, fine, bad, attributeCode, oneByOne, formCode}
+use Rattle.scope.specs.Reading.{Context, Read, no, asWhole, withAttributes}
 use Rattle.wire.specs.Rows.{rowAt, rowsFrom, rowsOf}
 use Rattle.rules.specs.Judging.{thenWhole, lineFault}
 use Rattle.rules.proofs.Tested.{row-small}
@@ -80,3 +81,21 @@ line-fine high s at l r e = parts (oneByOne high s (r .rules) [] l) (formCode l 
     parts : (f : Fault) (k : ℕ) → thenWhole at k f ≡ fine → (f ≡ fine) × (k ≡ 0)
     parts fine k w = (refl, eqb-true k 0 (pick-fine (eqb k 0) fine k at w .0))
     parts (bad c p) k w = absurd (bad-fine c p w)
+
+-- reading goes on from a line that is fine, and ends at its fault
+abbrev pub onFault : Context → List ℕ → ℕ → ℕ → List Attribute → Fault → Read
+onFault c s tag at l fine = asWhole c s tag at l 0
+onFault c s tag at l (bad code place) = no code place
+
+pub reads-by : (c : Context) (s : List ℕ) (tag at : ℕ) (l : List Attribute) (r : scope.Row)
+    → withAttributes c s tag at l r (oneByOne (c .high) s (r .rules) [] l) ≡ onFault c s tag at l (lineFault (c .high) s at l (scope.Line.is r))
+unfolding lineFault thenWhole withAttributes asWhole
+reads-by c s tag at l r = parts (oneByOne (c .high) s (r .rules) [] l)
+  where
+    whole : (k : ℕ) (b : Bool) → eqb k 0 ≡ b → asWhole c s tag at l k ≡ onFault c s tag at l (pick b fine (bad k at))
+    whole k true e = rw e
+    whole k false e = rw e
+
+    parts : (f : Fault) → withAttributes c s tag at l r f ≡ onFault c s tag at l (thenWhole at (formCode l (r .rules) (r .form)) f)
+    parts fine = whole (formCode l (r .rules) (r .form)) (eqb (formCode l (r .rules) (r .form)) 0) refl
+    parts (bad code place) = refl
