@@ -4,3 +4,4 @@ pub mod Rowed
 pub mod Numbered
 pub mod Tested
 pub mod Faults
+pub mod Under

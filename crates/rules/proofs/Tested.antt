@@ -7,10 +7,8 @@ use mathlib.Core.List.{List, [], _∷_, _++_}
 use lib.Dec.{eqb, ltb}
 use borrow.Author.Tests.{eqb-true, ltb-true}
 use Rattle.scope.specs.Choice.{pick}
-use Rattle.scope.specs.Item.{Attribute}
 use Rattle.scope.specs.Table as scope
 use Rattle.scope.specs.Table.{Takes, Rule, Row, table, lineIn, ruleIn}
-use Rattle.scope.specs.Attributes.{Fault, fine, bad, attributeCode, oneByOne}
 use Rattle.rules.specs.Lines.{isLine, rulesIn, ruleOf}
 use Rattle.rules.specs.Judging.{Agreed, agreed-none, agreed-more}
 use Rattle.rules.proofs.Keys.{both-left, both-right}
@@ -38,6 +36,10 @@ row-passes test (r ∷ rs) t tag x e = hit (eqb (r .op) tag) (λ q. row-passes t
         → elim b [ true ↦ scope.Line.is r | false ↦ lineIn rs tag ] ≡ scope.Line.is x → test x ≡ true
     hit true k q = subst (λ (y : Row). test y ≡ true) (is-same r x q) (both-left (test r) (everyRow test rs) t)
     hit false k q = k q
+
+abbrev isRuled : scope.Ruled → Bool
+isRuled (scope.Ruled.is r) = true
+isRuled scope.Ruled.none = false
 
 -- values as numbers, and back
 kindIn : Takes → ℕ
@@ -134,3 +136,26 @@ table-agrees = refl
 
 pub row-agreed : (tag : ℕ) (r : Row) → lineIn table tag ≡ scope.Line.is r → Agreed (r .rules)
 row-agreed tag r e = agreed-by (r .rules) (row-passes (λ r. agrees (r .rules)) table table-agrees tag r e)
+
+-- a line's numbers are below 256
+small : List Rule → Bool
+small [] = true
+small (r ∷ rs) = pick (ltb (r .number) 256) (small rs) false
+
+small-in : (rules : List Rule) → small rules ≡ true → (n : ℕ) (x : Rule) → ruleIn rules n ≡ scope.Ruled.is x → n < 256
+unfolding small ruleIn
+small-in [] t n x e = absurd (false≢true (ap isRuled e))
+small-in (r ∷ rs) t n x e =
+    hit (eqb (r .number) n) (λ q. eqb-true (r .number) n q) (λ q. small-in rs (both-right (ltb (r .number) 256) (small rs) t) n x q) e
+  where
+    hit : (b : Bool) → (b ≡ true → r .number ≡ n) → (ruleIn rs n ≡ scope.Ruled.is x → n < 256)
+        → elim b [ true ↦ scope.Ruled.is r | false ↦ ruleIn rs n ] ≡ scope.Ruled.is x → n < 256
+    hit true q k w = subst (λ (m : ℕ). m < 256) (q refl) (ltb-true (r .number) 256 (both-left (ltb (r .number) 256) (small rs) t))
+    hit false q k w = k w
+
+table-small : everyRow (λ r. small (r .rules)) table ≡ true
+unfolding everyRow small table
+table-small = refl
+
+pub row-small : (tag : ℕ) (r : Row) → lineIn table tag ≡ scope.Line.is r → (n : ℕ) (x : Rule) → ruleIn (r .rules) n ≡ scope.Ruled.is x → n < 256
+row-small tag r e = small-in (r .rules) (row-passes (λ r. small (r .rules)) table table-small tag r e)

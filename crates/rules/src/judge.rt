@@ -15,13 +15,13 @@ use crate::attributes::has;
 use crate::line::all_there;
 use crate::line::how_many;
 use crate::line::listed;
+use crate::table::Form;
 use crate::table::is_known;
 use crate::table::row_of;
 use crate::table::rule_of;
-use crate::table::Form;
+use crate::value::Attribute;
 use crate::value::in_range;
 use crate::value::type_taken;
-use crate::value::Attribute;
 
 // A fault has a code and a place.
 pub enum Fault {
@@ -60,7 +60,11 @@ fn attribute_code(s: &[u8], high: bool, numbers: [u8; 5], attrs: &[usize; 80], i
     if !type_taken(kind, a.tag) {
         return 15;
     }
-    if in_range(s, high, kind, rule.1, rule.2, a) { 0 } else { 16 }
+    if in_range(s, high, kind, rule.1, rule.2, a) {
+        0
+    } else {
+        16
+    }
 }
 
 // Attribute by attribute.
@@ -116,9 +120,7 @@ fn form_code(form: Form, numbers: [u8; 5], attrs: &[usize; 80], n: usize) -> u32
     ensures { λ r. ⌜ (isKnown form ≡ true → (rules : List RuleIn) → Stands numbers rules → Sized (now (attrs .entry)) n → r ≡ formCode (rowsOf (now (attrs .entry)) n) rules (formAs form)) ⌝ }
 {
     match form {
-        Form::Each => {
-            if all_there(numbers, attrs, n) { 0 } else { 13 }
-        }
+        Form::Each => { if all_there(numbers, attrs, n) { 0 } else { 13 } }
         Form::One => choice_code(how_many(numbers, attrs, n)),
         Form::Line => pair_code(has(attrs, n, 69), has(attrs, n, 77), has(attrs, n, 80)),
         Form::Unknown => 0,

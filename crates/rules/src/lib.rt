@@ -1,14 +1,14 @@
 // What an operator's attributes must be: 01's table, and the judging of attributes by it.
-mod table;
 mod attributes;
 mod judge;
 mod line;
+mod table;
 mod value;
 
+pub use attributes::Part;
 pub use attributes::has;
 pub use attributes::part_in;
 pub use attributes::value_in;
-pub use attributes::Part;
-pub use judge::line_fault;
 pub use judge::Fault;
+pub use judge::line_fault;
 pub use table::is_operator;

@@ -8,8 +8,8 @@ ghost use Rattle.wire.specs.Rows.{rowsOf, Sized};
 ghost use Rattle.rules.specs.Lines.{upToNo, ruleOf};
 ghost use Rattle.rules.specs.Judging.{allIn, manyIn};
 use crate::attributes::has;
-use crate::table::rule_of;
 use crate::table::NO;
+use crate::table::rule_of;
 
 fn wide(n: u8) -> usize
     ensures { λ r. ⌜ r ≡ n ⌝ }

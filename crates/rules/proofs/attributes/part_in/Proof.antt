@@ -44,14 +44,14 @@ returns c =
     let e = c .before .before .before in
     let a = e .before .args in
     λ z s. bytes-at (a .number) (a .attrs .now) (a .n) (e .place-of .result) (z .few) (e .place-of .ensures .1 z) s
-        ∙ rw (lt-ltb _ _ (c .before .before .if1 .taken))
+    ∙ rw (lt-ltb _ _ (c .before .before .if1 .taken))
 
 returns-2 : tie.Need-returns-2
 returns-2 c =
     let e = c .before in
     let a = e .before .args in
     λ z s. bytes-at (a .number) (a .attrs .now) (a .n) (e .place-of .result) (z .few) (e .place-of .ensures .1 z) s
-        ∙ rw (le-ltb _ _ (c .if1 .left))
+    ∙ rw (le-ltb _ _ (c .if1 .left))
 
 pub part-in-spec : {M : Type 1} → statement M
 part-in-spec =

@@ -27,22 +27,22 @@ listed-requires : tie.Need-listed-requires
 listed-requires c κs = search needs
 
 returns : tie.Need-returns
-returns c = 
+returns c =
     let e = c .before .before in
     let a = e .before .before .args in
     λ z. rw (← e .attribute-at .ensures) (sym (code-11 (a .high) (a .s .now) (rowsOf (a .attrs .now) (a .i)) (attributeAs (e .attribute-at .result)) (upToNo (a .numbers))
-        (sym (c .before .listed .ensures) ∙ not-true _ (c .if1 .taken))))
+    (sym (c .before .listed .ensures) ∙ not-true _ (c .if1 .taken))))
 
 has-requires : tie.Need-has-requires
 has-requires c κs = search needs
 
 returns-2 : tie.Need-returns-2
-returns-2 c = 
+returns-2 c =
     let e = c .before .before .before .before in
     let a = e .before .before .args in
     λ z. rw (← e .attribute-at .ensures) (sym (code-12 (a .high) (a .s .now) (rowsOf (a .attrs .now) (a .i)) (attributeAs (e .attribute-at .result)) (upToNo (a .numbers))
-        (sym (c .before .before .before .listed .ensures) ∙ not-false _ (c .before .before .if1 .left))
-        (sym (c .before .has .ensures z) ∙ c .if2 .taken)))
+    (sym (c .before .before .before .listed .ensures) ∙ not-false _ (c .before .before .if1 .left))
+    (sym (c .before .has .ensures z) ∙ c .if2 .taken)))
 
 rule-of-requires : tie.Need-rule-of-requires
 rule-of-requires c κs = search needs
@@ -51,23 +51,23 @@ type-taken-requires : tie.Need-type-taken-requires
 type-taken-requires c κs = search needs
 
 returns-3 : tie.Need-returns-3
-returns-3 c = 
+returns-3 c =
     let u = c .before .before in
     let h = u .before .before in
     let e = h .before .before .before in
     let a = e .before .before .args in
     let r = u .rule-of .result in
     λ z. rw (← e .attribute-at .ensures) (sym (code-15 (a .high) (a .s .now) (rowsOf (a .attrs .now) (a .i)) (attributeAs (e .attribute-at .result)) (upToNo (a .numbers))
-        (sym (h .before .before .listed .ensures) ∙ not-false _ (h .before .if1 .left))
-        (sym (h .has .ensures z) ∙ u .before .if2 .left)
-        (takesAs (r .0) (r .1) (r .2)) (ap (λ (x : Rule). x .takes) (u .rule-of .ensures))
-        (sym (c .before .type-taken .ensures (r .1) (r .2)) ∙ not-true _ (c .if3 .taken))))
+    (sym (h .before .before .listed .ensures) ∙ not-false _ (h .before .if1 .left))
+    (sym (h .has .ensures z) ∙ u .before .if2 .left)
+    (takesAs (r .0) (r .1) (r .2)) (ap (λ (x : Rule). x .takes) (u .rule-of .ensures))
+    (sym (c .before .type-taken .ensures (r .1) (r .2)) ∙ not-true _ (c .if3 .taken))))
 
 in-range-requires : tie.Need-in-range-requires
 in-range-requires c κs = search needs
 
 returns-4 : tie.Need-returns-4
-returns-4 c = 
+returns-4 c =
     let v = c .before .before in
     let u = v .before .before in
     let h = u .before .before in
@@ -75,14 +75,14 @@ returns-4 c =
     let a = e .before .before .args in
     let r = u .rule-of .result in
     λ z. rw (← e .attribute-at .ensures) (sym (code-16 (a .high) (a .s .now) (rowsOf (a .attrs .now) (a .i)) (attributeAs (e .attribute-at .result)) (upToNo (a .numbers))
-        (sym (h .before .before .listed .ensures) ∙ not-false _ (h .before .if1 .left))
-        (sym (h .has .ensures z) ∙ u .before .if2 .left)
-        (takesAs (r .0) (r .1) (r .2)) (ap (λ (x : Rule). x .takes) (u .rule-of .ensures))
-        (sym (v .before .type-taken .ensures (r .1) (r .2)) ∙ not-false _ (v .if3 .left))
-        true (sym (c .before .in-range .ensures) ∙ c .if4 .taken)))
+    (sym (h .before .before .listed .ensures) ∙ not-false _ (h .before .if1 .left))
+    (sym (h .has .ensures z) ∙ u .before .if2 .left)
+    (takesAs (r .0) (r .1) (r .2)) (ap (λ (x : Rule). x .takes) (u .rule-of .ensures))
+    (sym (v .before .type-taken .ensures (r .1) (r .2)) ∙ not-false _ (v .if3 .left))
+    true (sym (c .before .in-range .ensures) ∙ c .if4 .taken)))
 
 returns-5 : tie.Need-returns-5
-returns-5 c = 
+returns-5 c =
     let v = c .before .before in
     let u = v .before .before in
     let h = u .before .before in
@@ -90,11 +90,11 @@ returns-5 c =
     let a = e .before .before .args in
     let r = u .rule-of .result in
     λ z. rw (← e .attribute-at .ensures) (sym (code-16 (a .high) (a .s .now) (rowsOf (a .attrs .now) (a .i)) (attributeAs (e .attribute-at .result)) (upToNo (a .numbers))
-        (sym (h .before .before .listed .ensures) ∙ not-false _ (h .before .if1 .left))
-        (sym (h .has .ensures z) ∙ u .before .if2 .left)
-        (takesAs (r .0) (r .1) (r .2)) (ap (λ (x : Rule). x .takes) (u .rule-of .ensures))
-        (sym (v .before .type-taken .ensures (r .1) (r .2)) ∙ not-false _ (v .if3 .left))
-        false (sym (c .before .in-range .ensures) ∙ c .if4 .left)))
+    (sym (h .before .before .listed .ensures) ∙ not-false _ (h .before .if1 .left))
+    (sym (h .has .ensures z) ∙ u .before .if2 .left)
+    (takesAs (r .0) (r .1) (r .2)) (ap (λ (x : Rule). x .takes) (u .rule-of .ensures))
+    (sym (v .before .type-taken .ensures (r .1) (r .2)) ∙ not-false _ (v .if3 .left))
+    false (sym (c .before .in-range .ensures) ∙ c .if4 .left)))
 
 pub attribute-code-spec : {M : Type 1} → statement M
 attribute-code-spec =

@@ -52,30 +52,30 @@ enum-told-4 c = search needs
 
 returns : tie.Need-returns
 unfolding formCode
-returns c = 
+returns c =
     let e = c .before in
     let a = e .before .before .before .args in
     λ k rules st z. rw (e .before .enum-told .given .1, sym (stands-all (a .numbers) rules st (rowsOf (a .attrs .now) (a .n))) ∙ sym (e .all-there .ensures z) ∙ c .if1 .taken)
 
 returns-2 : tie.Need-returns-2
 unfolding formCode
-returns-2 c = 
+returns-2 c =
     let e = c .before in
     let a = e .before .before .before .args in
     λ k rules st z. rw (e .before .enum-told .given .1, sym (stands-all (a .numbers) rules st (rowsOf (a .attrs .now) (a .n))) ∙ sym (e .all-there .ensures z) ∙ c .if1 .left)
 
 returns-3 : tie.Need-returns-3
 unfolding formCode
-returns-3 c = 
+returns-3 c =
     let e = c .before in
     let a = e .before .before .before .args in
     λ k rules st z. rw (e .before .enum-told2 .given .1, ← stands-many (a .numbers) rules st (rowsOf (a .attrs .now) (a .n)), ← e .how-many .ensures z) (c .choice-code .ensures)
 
 returns-4 : tie.Need-returns-4
 unfolding formCode
-returns-4 c = 
+returns-4 c =
     λ k rules st z. rw (c .before .before .before .before .enum-told3 .given .1, ← c .before .before .before .has .ensures z, ← c .before .before .has2 .ensures z, ← c .before .has3 .ensures z)
-        (c .pair-code .ensures)
+    (c .pair-code .ensures)
 
 returns-5 : tie.Need-returns-5
 returns-5 c = λ k rules st z. absurd (false≢true (sym (ap isKnown (c .enum-told4 .given .1)) ∙ k))

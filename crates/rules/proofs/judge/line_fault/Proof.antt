@@ -25,12 +25,12 @@ is-known-requires : tie.Need-is-known-requires
 is-known-requires c κs = search needs
 
 returns : tie.Need-returns
-returns c = 
+returns c =
     let w = c .before .before .before in
     let a = w .before .before .args in
     let r = w .row-of .result in
     λ z. fault-9 (a .high) (a .s .now) (a .at) (rowsOf (a .attrs .now) (a .n)) r (lineIn table (a .tag)) (stood r (a .tag) (w .row-of .ensures))
-        (sym (c .before .is-known .ensures) ∙ not-true _ (c .if1 .taken))
+    (sym (c .before .is-known .ensures) ∙ not-true _ (c .if1 .taken))
 
 one-by-one-requires : tie.Need-one-by-one-requires
 one-by-one-requires c κs = search needs
@@ -48,17 +48,17 @@ whole-requires : tie.Need-whole-requires
 whole-requires c κs = search needs
 
 returns-2 : tie.Need-returns-2
-returns-2 c = 
+returns-2 c =
     let o = c .before .before .before in
     let w = o .before .before .before .before in
     let a = w .before .before .args in
     let r = w .row-of .result in
     λ z. fault-one (a .high) (a .s .now) (a .at) (rowsOf (a .attrs .now) (a .n)) r (lineIn table (a .tag)) (stood r (a .tag) (w .row-of .ensures))
-        (sym (o .before .before .is-known .ensures) ∙ not-false _ (o .before .if1 .left))
-        _ _ (λ rules st. sym (ap faultAs (c .before .code .given .1)) ∙ o .one-by-one .ensures rules st z)
+    (sym (o .before .before .is-known .ensures) ∙ not-false _ (o .before .if1 .left))
+    _ _ (λ rules st. sym (ap faultAs (c .before .code .given .1)) ∙ o .one-by-one .ensures rules st z)
 
 returns-3 : tie.Need-returns-3
-returns-3 c = 
+returns-3 c =
     let f = c .before in
     let o = f .before .before .before in
     let w = o .before .before .before .before in
@@ -66,8 +66,8 @@ returns-3 c =
     let r = w .row-of .result in
     let k = sym (o .before .before .is-known .ensures) ∙ not-false _ (o .before .if1 .left) in
     λ z. c .whole .ensures ∙ fault-whole (a .high) (a .s .now) (a .at) (rowsOf (a .attrs .now) (a .n)) r (lineIn table (a .tag)) (stood r (a .tag) (w .row-of .ensures)) k
-        (f .form-code .result) (λ rules st. sym (ap faultAs (f .before .enum-told .given .1)) ∙ o .one-by-one .ensures rules st z)
-        (λ rules st. f .form-code .ensures k rules st z)
+    (f .form-code .result) (λ rules st. sym (ap faultAs (f .before .enum-told .given .1)) ∙ o .one-by-one .ensures rules st z)
+    (λ rules st. f .form-code .ensures k rules st z)
 
 pub line-fault-spec : {M : Type 1} → statement M
 line-fault-spec =

@@ -22,10 +22,10 @@ use Rattle.rules.proofs.attributes.at_most.Reads as at-most-reads
 use Rattle.rules.proofs.judge.attribute_code.Reads as attribute-code-reads
 
 abbrev Inv-loop : tie.InvT-loop
-Inv-loop s high numbers attrs n end i₀ i = 
+Inv-loop s high numbers attrs n end i₀ i =
     (i ≤ end)
     × ((rules : List Rule) → Stands numbers rules → length attrs ≡ 80
-      → oneByOne high s rules (rowsOf attrs i) (rowsFrom attrs i (end - i)) ≡ oneByOne high s rules [] (rowsOf attrs end))
+    → oneByOne high s rules (rowsOf attrs i) (rowsFrom attrs i (end - i)) ≡ oneByOne high s rules [] (rowsOf attrs end))
 
 abbrev μ-loop : tie.MeasureT-loop
 μ-loop s high numbers attrs n end i₀ i = end - i
@@ -35,7 +35,7 @@ at-most-requires c κs = search needs
 
 loop-holds : tie.Need-loop-holds Inv-loop μ-loop
 unfolding rowsOf rowsFrom
-loop-holds c = 
+loop-holds c =
     let e : c .at-most .result - 0 ≡ c .at-most .result = omega arith in
     (omega arith, λ rules st long. rw e)
 
@@ -56,14 +56,14 @@ element-copy-out-t15 c = search needs
 
 returns : tie.Need-returns Inv-loop μ-loop
 unfolding rowAt
-returns c = 
+returns c =
     let o = c .before .before in
     let e = o .before .before in
     let a = e .before .before .before .args in
     let h = o .before .loop-test .taken in
     λ rules st z. let y : Sized (a .attrs .now) (e .loop .i) = record { long = z .long; few = omega arith } in
     let k = one-more (a .high) (a .s .now) rules (a .attrs .now) (e .loop .i) (e .before .at-most .result) (o .attribute-code .result) h
-        (o .attribute-code .ensures y ∙ ap (attributeCode (a .high) (a .s .now) (rowsOf (a .attrs .now) (e .loop .i)) (rowAt (a .attrs .now) (e .loop .i))) (stands-ruled (a .numbers) rules st (rowAt (a .attrs .now) (e .loop .i) .number))) in
+    (o .attribute-code .ensures y ∙ ap (attributeCode (a .high) (a .s .now) (rowsOf (a .attrs .now) (e .loop .i)) (rowAt (a .attrs .now) (e .loop .i))) (stands-ruled (a .numbers) rules st (rowAt (a .attrs .now) (e .loop .i) .number))) in
     rw (← e .before .at-most .ensures .1 (z .few)) (sym (sym (e .loop .inv .1 rules st (z .long)) ∙ k ∙ rw (ne-eqb _ _ (c .before .if1 .taken))))
 
 add-i : tie.Need-add-i Inv-loop μ-loop
@@ -73,24 +73,24 @@ loop-less : tie.Need-loop-less Inv-loop μ-loop
 loop-less c = search needs
 
 loop-again : tie.Need-loop-again Inv-loop μ-loop
-loop-again c = 
+loop-again c =
     let o = c .before in
     let e = o .before .before in
     let a = e .before .before .before .args in
     let h = o .before .loop-test .taken in (
       omega arith,
       λ rules st long. let y : Sized (a .attrs .now) (e .loop .i) = record { long = long; few = omega arith } in
-      let k = one-more (a .high) (a .s .now) rules (a .attrs .now) (e .loop .i) (e .before .at-most .result) (o .attribute-code .result) h
+          let k = one-more (a .high) (a .s .now) rules (a .attrs .now) (e .loop .i) (e .before .at-most .result) (o .attribute-code .result) h
           (o .attribute-code .ensures y ∙ ap (attributeCode (a .high) (a .s .now) (rowsOf (a .attrs .now) (e .loop .i)) (rowAt (a .attrs .now) (e .loop .i))) (stands-ruled (a .numbers) rules st (rowAt (a .attrs .now) (e .loop .i) .number))) in
-      sym (k ∙ rw (eq-eqb _ _ (c .if1 .left))) ∙ e .loop .inv .1 rules st long,
+          sym (k ∙ rw (eq-eqb _ _ (c .if1 .left))) ∙ e .loop .inv .1 rules st long,
     )
 
 returns-2 : tie.Need-returns-2 Inv-loop μ-loop
-returns-2 c = 
+returns-2 c =
     let e = c .before in
     let a = e .before .before .before .args in
     λ rules st z. rw (← e .before .at-most .ensures .1 (z .few)) (sym (sym (e .loop .inv .1 rules st (z .long))
-        ∙ one-end (a .high) (a .s .now) rules (a .attrs .now) (e .loop .i) (e .before .at-most .result) (c .loop-test .left)))
+    ∙ one-end (a .high) (a .s .now) rules (a .attrs .now) (e .loop .i) (e .before .at-most .result) (c .loop-test .left)))
 
 pub one-by-one-spec : {M : Type 1} → statement M
 one-by-one-spec =

@@ -19,7 +19,7 @@ use Rattle.rules.proofs.line.lacks.Reads as lacks-reads
 use Rattle.rules.proofs.line.wide.Reads as wide-reads
 
 abbrev Inv-loop : tie.InvT-loop
-Inv-loop attrs n numbers i₀ i = 
+Inv-loop attrs n numbers i₀ i =
     (i ≤ 5) × (Sized attrs n → allIn (rowsOf attrs n) (upToNo (drop i numbers)) ≡ allIn (rowsOf attrs n) (upToNo numbers))
 
 abbrev μ-loop : tie.MeasureT-loop
@@ -33,7 +33,7 @@ array-read-k c = search needs
 
 returns : tie.Need-returns Inv-loop μ-loop
 unfolding allIn
-returns c = 
+returns c =
     let e = c .before .before in
     let a = e .before .args in
     let f : length (a .t1) ≡ 5 = search needs in
@@ -46,15 +46,15 @@ lacks-requires : tie.Need-lacks-requires Inv-loop μ-loop
 lacks-requires c κs = search needs
 
 returns-2 : tie.Need-returns-2 Inv-loop μ-loop
-returns-2 c = 
+returns-2 c =
     let e = c .before .before .before .before .before in
     let a = e .before .args in
     let w = c .before .before .wide in
     let f : length (a .t1) ≡ 5 = search needs in
     λ z. sym (sym (e .loop .inv .1 z)
-        ∙ all-step (a .t1) (e .loop .i) (w .result) (omega arith) (c .before .before .before .if1 .left) (w .ensures) (rowsOf (a .attrs .now) (a .n))
-            (c .before .lacks .result) (c .before .lacks .ensures z)
-        ∙ rw (c .if2 .taken))
+    ∙ all-step (a .t1) (e .loop .i) (w .result) (omega arith) (c .before .before .before .if1 .left) (w .ensures) (rowsOf (a .attrs .now) (a .n))
+    (c .before .lacks .result) (c .before .lacks .ensures z)
+    ∙ rw (c .if2 .taken))
 
 add-i : tie.Need-add-i Inv-loop μ-loop
 add-i c = search needs
@@ -63,20 +63,20 @@ loop-less : tie.Need-loop-less Inv-loop μ-loop
 loop-less c = search needs
 
 loop-again : tie.Need-loop-again Inv-loop μ-loop
-loop-again c = 
+loop-again c =
     let e = c .before .before .before .before .before in
     let a = e .before .args in
     let w = c .before .before .wide in
     let f : length (a .t1) ≡ 5 = search needs in (
       omega arith,
       λ z. sym (all-step (a .t1) (e .loop .i) (w .result) (omega arith) (c .before .before .before .if1 .left) (w .ensures) (rowsOf (a .attrs .now) (a .n))
-              (c .before .lacks .result) (c .before .lacks .ensures z)
+          (c .before .lacks .result) (c .before .lacks .ensures z)
           ∙ rw (c .if2 .left)) ∙ e .loop .inv .1 z,
     )
 
 returns-3 : tie.Need-returns-3 Inv-loop μ-loop
 unfolding allIn
-returns-3 c = 
+returns-3 c =
     let e = c .before in
     let a = e .before .args in
     let f : length (a .t1) ≡ 5 = search needs in

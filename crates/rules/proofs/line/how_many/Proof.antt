@@ -22,7 +22,7 @@ use Rattle.rules.proofs.line.one_if.Reads as one-if-reads
 use Rattle.rules.proofs.line.wide.Reads as wide-reads
 
 abbrev Inv-loop : tie.InvT-loop
-Inv-loop attrs n numbers many₀ i₀ many i = 
+Inv-loop attrs n numbers many₀ i₀ many i =
     (i ≤ 5) × (many ≤ i)
     × (Sized attrs n → many + manyIn (rowsOf attrs n) (upToNo (drop i numbers)) ≡ manyIn (rowsOf attrs n) (upToNo numbers))
 
@@ -37,12 +37,12 @@ array-read-k c = search needs
 
 returns : tie.Need-returns Inv-loop μ-loop
 unfolding manyIn
-returns c = 
+returns c =
     let e = c .before .before in
     let a = e .before .args in
     let f : length (a .t1) ≡ 5 = search needs in
     λ z. sym (sym (e .loop .inv .2 z)
-        ∙ ap (λ l. e .loop .many + manyIn (rowsOf (a .attrs .now) (a .n)) l) (numbers-no (a .t1) (e .loop .i) (omega arith) (c .if1 .taken)) ∙ add-zero (e .loop .many))
+    ∙ ap (λ l. e .loop .many + manyIn (rowsOf (a .attrs .now) (a .n)) l) (numbers-no (a .t1) (e .loop .i) (omega arith) (c .if1 .taken)) ∙ add-zero (e .loop .many))
 
 wide-requires : tie.Need-wide-requires Inv-loop μ-loop
 wide-requires c κs = search needs
@@ -63,7 +63,7 @@ loop-less : tie.Need-loop-less Inv-loop μ-loop
 loop-less c = search needs
 
 loop-again : tie.Need-loop-again Inv-loop μ-loop
-loop-again c = 
+loop-again c =
     let e = c .before .before .before .before .before in
     let a = e .before .args in
     let l = rowsOf (a .attrs .now) (a .n) in
@@ -79,12 +79,12 @@ loop-again c =
 
 returns-2 : tie.Need-returns-2 Inv-loop μ-loop
 unfolding manyIn
-returns-2 c = 
+returns-2 c =
     let e = c .before in
     let a = e .before .args in
     let f : length (a .t1) ≡ 5 = search needs in
     λ z. sym (sym (e .loop .inv .2 z)
-        ∙ ap (λ l. e .loop .many + manyIn (rowsOf (a .attrs .now) (a .n)) l) (numbers-end (a .t1) (e .loop .i) (omega arith)) ∙ add-zero (e .loop .many))
+    ∙ ap (λ l. e .loop .many + manyIn (rowsOf (a .attrs .now) (a .n)) l) (numbers-end (a .t1) (e .loop .i) (omega arith)) ∙ add-zero (e .loop .many))
 
 pub how-many-spec : {M : Type 1} → statement M
 how-many-spec =

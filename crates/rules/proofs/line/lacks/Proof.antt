@@ -19,13 +19,13 @@ has-requires : tie.Need-has-requires
 has-requires c κs = search needs
 
 returns : tie.Need-returns
-returns c = 
+returns c =
     let e = c .before .before in
     let m : ruleOf (e .before .args .number) .must ≡ true = ap (λ (r : Rule). r .must) (sym (e .rule-of .ensures)) ∙ c .before .if1 .taken in
     λ z. rw m (ap not (c .has .ensures z))
 
 returns-2 : tie.Need-returns-2
-returns-2 c = 
+returns-2 c =
     let e = c .before in
     let m : ruleOf (e .before .args .number) .must ≡ false = ap (λ (r : Rule). r .must) (sym (e .rule-of .ensures)) ∙ c .if1 .left in
     λ z. rw m

@@ -30,7 +30,7 @@ array-read-k c = search needs
 
 returns : tie.Need-returns Inv-loop μ-loop
 unfolding among
-returns c = 
+returns c =
     let e = c .before .before in
     let a = e .before .args in
     let f : length (a .t1) ≡ 5 = search needs in
@@ -40,12 +40,12 @@ wide-requires : tie.Need-wide-requires Inv-loop μ-loop
 wide-requires c κs = search needs
 
 returns-2 : tie.Need-returns-2 Inv-loop μ-loop
-returns-2 c = 
+returns-2 c =
     let e = c .before .before .before .before in
     let a = e .before .args in
     let f : length (a .t1) ≡ 5 = search needs in
     sym (sym (e .loop .inv .1) ∙ among-step (a .t1) (e .loop .i) (c .before .wide .result) (omega arith) (c .before .before .if1 .left) (c .before .wide .ensures) (a .number)
-        ∙ rw (eq-eqb _ _ (c .if2 .taken)))
+    ∙ rw (eq-eqb _ _ (c .if2 .taken)))
 
 add-i : tie.Need-add-i Inv-loop μ-loop
 add-i c = search needs
@@ -54,7 +54,7 @@ loop-less : tie.Need-loop-less Inv-loop μ-loop
 loop-less c = search needs
 
 loop-again : tie.Need-loop-again Inv-loop μ-loop
-loop-again c = 
+loop-again c =
     let e = c .before .before .before .before in
     let a = e .before .args in
     let f : length (a .t1) ≡ 5 = search needs in (
@@ -65,7 +65,7 @@ loop-again c =
 
 returns-3 : tie.Need-returns-3 Inv-loop μ-loop
 unfolding among
-returns-3 c = 
+returns-3 c =
     let e = c .before in
     let a = e .before .args in
     let f : length (a .t1) ≡ 5 = search needs in

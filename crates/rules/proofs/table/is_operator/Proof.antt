@@ -18,7 +18,7 @@ is-known-requires : tie.Need-is-known-requires
 is-known-requires c κs = search needs
 
 returns : tie.Need-returns
-returns c = 
+returns c =
     let e = c .before in
     c .is-known .ensures ∙ line-known (e .row-of .result) (lineIn table (e .before .args .tag)) (e .row-of .ensures)
 

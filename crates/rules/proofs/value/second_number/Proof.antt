@@ -15,7 +15,7 @@ use Rattle.wire.proofs.number_at.Reads as number-at-reads
 
 returns : tie.Need-returns
 unfolding secondOf
-returns c = 
+returns c =
     let a = c .before .before .args in
     let h : length (a .s .now) ≤ a .a .first + 2 = omega arith in
     sym (past (a .high) 2 (a .s .now) (a .a .first + 2) h)
