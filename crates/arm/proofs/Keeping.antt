@@ -20,7 +20,7 @@ use Rattle.arm.specs.declared.moved.Moved.the-variants.{To, No}
 use Rattle.arm.specs.Views.{pageAs, actAs}
 use Rattle.arm.specs.Codes.{codeOf}
 use Rattle.arm.specs.Holds.{PageHolds, Exact, Holds, Moves, moves-to, moves-no}
-use Rattle.arm.specs.Sums.{fresh, Ends, Sums}
+use Rattle.arm.specs.Sums.{fresh, Ends, endsAt, Sums}
 use Rattle.arm.proofs.Clean.{clean-code}
 use Rattle.arm.proofs.Rows.{fresh-count}
 use Rattle.arm.proofs.Ways.{rise, mixed, inst, or-false, walk-both, fresh-saved, none-zipped, within, page-eq}
@@ -85,10 +85,7 @@ rise-le l (suc a) n h = omega arith
 
 -- what the code's call does, part by part
 pub record Called (s : Seen) (m : Summary) (r : Seen) : Type 0 where
-  pub cursor : r .page .cursor ≡ pick (s .page .cursor) (m .a .cursor) (m .b .cursor)
-  pub gray : r .page .gray ≡ pick (s .page .gray) (m .a .gray) (m .b .gray)
-  pub depth : r .page .depth ≡ s .page .depth
-  pub saved : r .page .saved ≡ s .page .saved
+  pub page : r .page ≡ endsAt (s .page) (m .a) (m .b)
   pub source : r .source ≡ (s .source || m .source)
   pub lost : r .lost ≡ (s .lost || pick (s .page .cursor) (m .a .lost) (m .b .lost))
   pub wrong : r .wrong ≡ (s .wrong || pick (s .page .gray) (m .a .wrong) (m .b .wrong))
@@ -97,10 +94,9 @@ call-page : (s r : Seen) (m : Summary) (w a b : scope.Seen) → Called s m r →
     → Ends (m .a) a → Ends (m .b) b → pageAs (r .page) ≡ mixed (a .page) (b .page) (w .page)
 unfolding mixed
 call-page s r m w a b k t e u v =
-    page-eq
-    (rw (k .cursor, ap (λ (q : scope.Page). q .cursor) t, u .cursor, v .cursor) refl)
-    (rw (k .gray, ap (λ (q : scope.Page). q .gray) t, u .gray, v .gray) refl)
-    (rw (k .depth, k .saved) (ap (λ (q : scope.Page). q .saved) t)
+    ap pageAs (k .page)
+    ∙ page-eq (rw (ap (λ (q : scope.Page). q .cursor) t, u .cursor, v .cursor) refl) (rw (ap (λ (q : scope.Page). q .gray) t, u .gray, v .gray) refl)
+    (ap (λ (q : scope.Page). q .saved) t
     ∙ sym (none-zipped (w .page .cursor) (w .page .gray) (a .page .saved) (b .page .saved) (w .page .saved) e))
 
 call-exact : (s r : Seen) (m : Summary) (w a b : scope.Seen) → Called s m r → Exact s w → a .page .saved ≡ [] → Ends (m .a) a → Ends (m .b) b → Exact r (inst a b (step idle w))

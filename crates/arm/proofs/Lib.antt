@@ -7,3 +7,4 @@ pub mod Keeping
 pub mod Packs
 pub mod Obeyed
 pub mod Rules
+pub mod Judging

@@ -7,7 +7,9 @@ use mathlib.Core.Bool.{Bool, true, false}
 use mathlib.Core.List.{List, []}
 use lib.ListN.{length}
 use lib.Dec.{eqb}
+use Rattle.scope.specs.Choice.{pick}
 use Rattle.scope.specs.Arm as scope
+use Rattle.arm.specs.declared.page.Page.{Page}
 use Rattle.arm.specs.declared.summary.Ending.{Ending}
 use Rattle.arm.specs.declared.summary.Summary.{Summary}
 use Rattle.arm.specs.declared.both.Both.{Both}
@@ -24,6 +26,10 @@ pub record Ends (e : Ending) (w : scope.Seen) : Type 0 where
   pub gray : e .gray ≡ w .page .gray
   pub lost : e .lost ≡ w .lost
   pub wrong : e .wrong ≡ w .wrong
+
+-- the page after a row with these endings from the two starts
+abbrev pub endsAt : Page → Ending → Ending → Page
+endsAt p a b = record { cursor = pick (p .cursor) (a .cursor) (b .cursor); gray = pick (p .gray) (a .gray) (b .gray); depth = p .depth; saved = p .saved }
 
 -- the summary of a balanced row: how many operators (past 1,000,000 only that), the most states it saves at a time (past 24 only that), whether it needs an
 -- open source, and its ends from the two starts

@@ -8,12 +8,13 @@ ghost use Rattle.scope.specs.Arm.{Seen as Arm·Seen};
 ghost use Rattle.arm.specs.Views.{pageAs, spaceAs, actAs};
 ghost use Rattle.arm.specs.Codes.{codeOf};
 ghost use Rattle.arm.specs.Holds.{Holds};
-ghost use Rattle.arm.specs.Sums.{Sums};
+ghost use Rattle.arm.specs.Sums.{endsAt, Sums};
 use crate::limits::add;
 use crate::limits::higher;
 use crate::page::Act;
 use crate::page::Page;
 use crate::page::Space;
+use crate::summary::Ending;
 use crate::summary::Summary;
 
 // The page; the operators performed (past 1,000,000 always 1,000,001); the most states saved right after a PushGS (past 24 always 25); whether an open source
@@ -53,6 +54,20 @@ fn choose(c: bool, a: bool, b: bool) -> bool
     ensures { λ r. ⌜ r ≡ pick c a b ⌝ }
 {
     if c { a } else { b }
+}
+
+// The page after a motif with these endings: what it saves it takes off again.
+fn ends_at(page: Page, a: Ending, b: Ending) -> Page
+    ensures { λ r. ⌜ r ≡ endsAt page a b ⌝ }
+{
+    let cursor = choose(page.cursor, a.cursor, b.cursor);
+    let gray = choose(page.gray, a.gray, b.gray);
+    Page {
+        cursor,
+        gray,
+        depth: page.depth,
+        saved: page.saved,
+    }
 }
 
 impl Seen {
@@ -110,14 +125,7 @@ impl Seen {
         let source = either(self.source, summary.source);
         let lost = either(self.lost, choose(page.cursor, a.lost, b.lost));
         let wrong = either(self.wrong, choose(page.gray, a.wrong, b.wrong));
-        let cursor = choose(page.cursor, a.cursor, b.cursor);
-        let gray = choose(page.gray, a.gray, b.gray);
-        let next = Page {
-            cursor,
-            gray,
-            depth: page.depth,
-            saved: page.saved,
-        };
+        let next = ends_at(page, a, b);
         Seen {
             page: next,
             count,

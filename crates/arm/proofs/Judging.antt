@@ -1,0 +1,87 @@
+-- A motif that is judged valid has balanced operators of its own.
+use Prim.Native.Nat.{ℕ, zero, suc, _<_}
+use mathlib.Core.Path.{_≡_, refl, sym}
+use mathlib.Core.Bool.{Bool, true, true≢false}
+use mathlib.Core.List.{List}
+use lib.Dec.{eqb, leb}
+use lib.ListN.{length}
+use borrow.Author.Tests.{eqb-true}
+use Rattle.scope.specs.Iterate.{Next, go, stop, onward, run, iterate}
+use Rattle.scope.specs.Header.{Header, headerOf}
+use Rattle.scope.specs.Order.{mayCome}
+use Rattle.scope.specs.Reading.{Operator, Read}
+use Rattle.scope.specs.Arm.{actOf}
+use Rattle.scope.specs.Motif.{Own, Motif, Held, Picture, phaseIn, Inside, Judged, valid, faulty, contextIn, onCall, onDeed, onEnd, onRead, motifStep, judgedInside, motifFrom, motifOf}
+use Rattle.scope.proofs.Ends.{pick-all, GoodRead, read-good}
+use Rattle.arm.specs.Balance.{OwnLevel}
+use Rattle.arm.proofs.Levels.{own-does, own-calls, saved-depth, may-saved, drawn-pop}
+
+-- a judgement that, where it is valid, has balanced operators
+pub data Even : Judged → Type 0 where
+  even-valid : {os : List Own} {d : ℕ} → OwnLevel 0 os 0 → Even (valid os d)
+  even-faulty : {code inner : ℕ} → Even (faulty code inner)
+
+-- a step that goes on with as many saved as the operators so far leave, or stops with such a judgement
+data EvenNext : Next Inside Judged → Type 0 where
+  even-go : {w : Inside} → OwnLevel 0 (w .ops) (w .saved) → EvenNext (go w)
+  even-stop : {r : Judged} → Even r → EvenNext (stop r)
+
+-- a PopGS finds something saved
+pop-finds : (p : Picture) (n tag : ℕ) → mayCome (phaseIn n p) true tag ≡ true → tag ≡ 0x60 → 0 < n
+unfolding mayCome phaseIn
+pop-finds Picture.none n tag h e = drawn-pop n tag h e
+pop-finds (Picture.being i) n tag h e = absurd (true≢false (sym (rw e at h)))
+
+call-even : (o : Operator) (n : List ℕ) (w : Inside) (x : Held) → OwnLevel 0 (w .ops) (w .saved) → EvenNext (onCall o n w x)
+unfolding onCall
+call-even o n w Held.none h = even-stop even-faulty
+call-even o n w (Held.is m) h = pick-all EvenNext (leb 32 (m .depth)) (λ _. even-stop even-faulty) (λ _. even-go (own-calls (w .ops) (o .at) n 0 (w .saved) h))
+
+deed-even : (high : Bool) (s : List ℕ) (o : Operator) (w : Inside) → OwnLevel 0 (w .ops) (w .saved)
+    → mayCome (phaseIn (w .saved) (w .picture)) true (o .tag) ≡ true → EvenNext (onDeed high s o w)
+unfolding onDeed actOf
+deed-even high s o w h m =
+    let k = may-saved high s (o .tag) (o .attrs) (w .saved) (pop-finds (w .picture) (w .saved) (o .tag) m) in
+    even-go (rw (saved-depth high s (o .tag) (o .attrs) (w .saved)) at (own-does (w .ops) (o .at) (actOf high s o) 0 (w .saved) h k))
+
+end-even : (s : List ℕ) (w : Inside) (p : Picture) → OwnLevel 0 (w .ops) (w .saved) → Even (onEnd s w p)
+unfolding onEnd
+end-even s w (Picture.being i) h = even-faulty
+end-even s w Picture.none h = pick-all Even (eqb (w .saved) 0) (λ t. even-valid (rw (eqb-true (w .saved) 0 t) at h)) (λ _. even-faulty)
+
+read-even : (held : List Motif) (high : Bool) (s : List ℕ) (w : Inside) {r : Read} → OwnLevel 0 (w .ops) (w .saved)
+    → GoodRead (length s) (w .at) (mayCome (phaseIn (w .saved) (w .picture)) true) r → EvenNext (onRead held high s w r)
+unfolding onRead
+read-even held high s w h (GoodRead.operator {o = o} k l m) =
+    pick-all EvenNext (eqb (o .tag) 0x5e) (λ _. call-even o _ w _ h) (λ _. deed-even high s o w h m)
+read-even held high s w h GoodRead.ended = even-stop (end-even s w (w .picture) h)
+read-even held high s w h (GoodRead.no k) = even-stop even-faulty
+
+step-even : (held : List Motif) (high : Bool) (s : List ℕ) (w : Inside) → OwnLevel 0 (w .ops) (w .saved) → EvenNext (motifStep held high s w)
+unfolding motifStep contextIn
+step-even held high s w h = read-even held high s w h (read-good (contextIn high w) s (w .at))
+
+onward-even : (k : Inside → Judged) → ((w : Inside) → OwnLevel 0 (w .ops) (w .saved) → Even (k w)) → {x : Next Inside Judged} → EvenNext x → Even (onward k x)
+onward-even k f (even-go h) = f _ h
+onward-even k f (even-stop e) = e
+
+run-even : (held : List Motif) (high : Bool) (s : List ℕ) (f : ℕ) (w : Inside) → OwnLevel 0 (w .ops) (w .saved) → Even (run (motifStep held high s) (faulty 5 0) f w)
+unfolding run
+run-even held high s zero w h = even-faulty
+run-even held high s (suc f) w h = onward-even (run (motifStep held high s) (faulty 5 0) f) (run-even held high s f) (step-even held high s w h)
+
+from-even : (held : List Motif) (s : List ℕ) (x : Header) → Even (motifFrom held s x)
+unfolding motifFrom judgedInside iterate OwnLevel
+from-even held s (Header.no code place) = even-faulty
+from-even held s (Header.is high next) = run-even held high s _ _ refl
+
+-- a motif judged at EndStream
+pub motif-even : (held : List Motif) (s : List ℕ) → Even (motifOf held s)
+unfolding motifOf
+motif-even held s = from-even held s (headerOf s)
+
+pub valid-balanced : (held : List Motif) (s : List ℕ) (os : List Own) (d : ℕ) → motifOf held s ≡ valid os d → OwnLevel 0 os 0
+valid-balanced held s os d e = found (rw e at (motif-even held s))
+  where
+    found : Even (valid os d) → OwnLevel 0 os 0
+    found (even-valid h) = h
