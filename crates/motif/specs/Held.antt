@@ -5,7 +5,7 @@ use Prim.Native.Nat.{ℕ, suc, _+_, _*_, _≤_, _<_}
 use mathlib.Core.Path.{_≡_}
 use mathlib.Core.List.{List, [], _∷_}
 use lib.ListN.{length, getD, take, drop}
-use Rattle.scope.specs.Motif.{Motif, heldAs, flat, unfolded} 
+use Rattle.scope.specs.Motif.{Motif, heldAs, flat, unfolded}
 use Rattle.scope.specs.Motif.{Held}
 use Rattle.arm.specs.Sums.{SumsAs}
 use Rattle.motif.specs.declared.names.Where.{Where}

@@ -1,3 +1,4 @@
 pub mod Acts
 pub mod Pictures
+pub mod Search
 pub mod Held

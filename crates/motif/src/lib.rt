@@ -5,4 +5,6 @@ mod picture;
 
 pub use act::act_of;
 pub use names::Where;
+pub use names::find;
 pub use picture::Picture;
+pub use picture::picture_after;

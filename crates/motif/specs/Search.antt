@@ -1,0 +1,24 @@
+-- The search of a name through the rows of the held motifs.
+-- Assumes nothing.
+use Prim.Native.Nat.{ℕ, zero, suc, _+_, _*_, _<_}
+use mathlib.Core.Bool.{Bool, false}
+use mathlib.Core.List.{List}
+use lib.ListN.{length, getD, take, drop}
+use lib.Dec.{leb}
+use Rattle.scope.specs.Choice.{pick, same}
+use Rattle.motif.specs.declared.names.Where.{Where}
+use Rattle.motif.specs.declared.names.Where.the-variants.{At, Nowhere}
+
+-- the bytes of the job from a place on are a name; none are that do not lie within the job
+unfoldable pub isName : (job : List ℕ) (at long : ℕ) (name : List ℕ) → Bool
+isName job at long name = pick (leb (at + long) (length job)) (same (take long (drop at job)) name) false
+
+-- the search through the first rows, the last one first
+unfoldable pub findIn : (job rows name : List ℕ) → ℕ → Where
+findIn job rows name zero = Nowhere
+findIn job rows name (suc i) = pick (isName job (getD rows (i * 3) 0) (getD rows (i * 3 + 1) 0) name) (At i) (findIn job rows name i)
+
+-- a row that is found is one of 64
+abbrev pub Row : Where → Type 0
+Row (At i) = i < 64
+Row Nowhere = Unit {0}
