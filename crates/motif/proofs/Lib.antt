@@ -1,3 +1,4 @@
 pub mod Matches
 pub mod Keeping
 pub mod Operators
+pub mod Within

@@ -1,0 +1,25 @@
+use mathlib.Core.Path.{refl, sym, _∙_}
+use borrow.Author.Needs.{needs}
+use Rattle.motif.proofs.part.name_in.Statement.{statement}
+use Rattle.motif.proofs.part.name_in.Tie as tie
+use Rattle.motif.proofs.part.name_in.Reads as reads
+use Rattle.motif.proofs.part.name_in.Lts as lts
+use Rattle.motif.proofs.part.within.Reads as within-reads
+use Rattle.rules.proofs.part_in.Reads as part-in-reads
+
+-- src/part.rt:32:9
+part-in-requires : tie.Need-part-in-requires
+part-in-requires c κs = search needs
+
+-- src/part.rt:33:5
+within-requires : tie.Need-within-requires
+within-requires c κs = search needs
+
+-- src/part.rt:28:1
+returns : tie.Need-returns
+returns c =
+    let a = c .before .before .before .args in
+    (c .within .ensures .0, λ z. c .within .ensures .1 (a .s .now) refl ∙ sym (c .before .part-in .ensures z (a .s .now)))
+
+pub name-in-spec : {M : Type 1} → statement M
+name-in-spec = tie.close (tie.spec part-in-requires within-requires returns)
