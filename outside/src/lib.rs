@@ -4,6 +4,7 @@
 #[allow(unsafe_code)]
 #[cfg(feature = "linked")]
 pub mod ffi;
+pub mod coverage;
 pub mod generate;
 pub mod plain;
 pub mod text;

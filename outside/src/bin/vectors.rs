@@ -8,6 +8,7 @@ fn main() {
         Ok(all) => {
             for v in all {
                 let hex: String = v.job.iter().map(|b| format!("{b:02x}")).collect();
+                let hex = if hex.is_empty() { "-".into() } else { hex };
                 let w = v.want;
                 println!(
                     "{} {} {} {} {} {} {} {} {hex}",
