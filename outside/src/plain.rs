@@ -34,16 +34,16 @@ pub struct Verdict {
     pub performed: u32,
 }
 
-/// A refusal: its code, the byte it points at, and the byte inside a motif if one is meant.
+/// A refusal: its code, the byte it points at, and the byte inside a motif or NO_INNER.
 #[derive(Debug, Clone, Copy, PartialEq, Eq)]
 struct Fault {
     code: u32,
-    at: usize,
-    inner: Option<usize>,
+    at: u32,
+    inner: u32,
 }
 
 fn fault<T>(code: u32, at: usize) -> Result<T, Fault> {
-    Err(Fault { code, at, inner: None })
+    Err(Fault { code, at: at as u32, inner: NO_INNER })
 }
 
 /// Judges one job; `work` holds motifs meanwhile and is left zero, `list` gets the records.
@@ -57,14 +57,14 @@ pub fn check(job: &[u8], work: &mut [u8], list: &mut [u8]) -> Verdict {
     }
     let store = &mut work[..STORE];
     let mut arm = Arm::new(store, list);
-    let (code, at, inner) = match arm.job(job) {
-        Ok(()) => (0, job.len(), None),
-        Err(f) => (f.code, f.at, f.inner),
+    let end = match arm.job(job) {
+        Ok(()) => Fault { code: 0, at: job.len() as u32, inner: NO_INNER },
+        Err(fault) => fault,
     };
     let verdict = Verdict {
-        code,
-        position: at as u32,
-        inner: inner.map_or(NO_INNER, |i| i as u32),
+        code: end.code,
+        position: end.at,
+        inner: end.inner,
         records: arm.records as u32,
         performed: arm.performed as u32,
     };
@@ -229,43 +229,37 @@ impl<'a> Reader<'a> {
     /// Reads pairs up to an operator tag; false at the end of the bytes with nothing waiting.
     fn operator(&mut self, op: &mut Operator) -> Result<bool, Fault> {
         op.given = 0;
-        let mut waiting: Option<Attribute> = None;
+        // Whether room[given] has a value that waits for its number.
+        let mut waiting = false;
         loop {
             self.skip_space();
             let at = self.at;
             let Some(&tag) = self.bytes.get(at) else {
-                if waiting.is_some() || op.given > 0 {
-                    return fault(27, at);
-                }
-                return Ok(false);
+                return if waiting || op.given > 0 { fault(27, at) } else { Ok(false) };
             };
             match tag {
-                0xc0..=0xc5 | 0xc8..=0xcd | 0xd0..=0xd5 | 0xe0..=0xe5 => {
-                    if waiting.is_some() {
-                        return fault(6, at);
-                    }
-                    if op.given == ATTRIBUTES_MAX {
-                        return fault(7, at);
-                    }
-                    waiting = Some(self.value(tag)?);
-                }
-                0xf8 | 0xf9 => {
-                    let Some(value) = waiting.take() else {
-                        return fault(6, at);
-                    };
-                    let size = usize::from(tag - 0xf7);
-                    let Some(number) = self.number(at + 1, size) else {
-                        return fault(5, at);
-                    };
-                    op.room[op.given] = Attribute { number: number as u16, ..value };
-                    op.given += 1;
-                    self.at += 1 + size;
-                }
-                0x41..=0xbf if waiting.is_none() => {
+                0x41..=0xbf if !waiting => {
                     op.tag = tag;
                     op.at = at;
                     self.at += 1;
                     return Ok(true);
+                }
+                0xc0..=0xc5 | 0xc8..=0xcd | 0xd0..=0xd5 | 0xe0..=0xe5 if !waiting => {
+                    if op.given == ATTRIBUTES_MAX {
+                        return fault(7, at);
+                    }
+                    op.room[op.given] = self.value(tag)?;
+                    waiting = true;
+                }
+                0xf8 | 0xf9 if waiting => {
+                    let size = usize::from(tag - 0xf7);
+                    let Some(number) = self.number(at + 1, size) else {
+                        return fault(5, at);
+                    };
+                    op.room[op.given].number = number as u16;
+                    op.given += 1;
+                    waiting = false;
+                    self.at += 1 + size;
                 }
                 _ => return fault(6, at),
             }
@@ -387,6 +381,11 @@ fn in_table(tag: u8) -> bool {
     )
 }
 
+/// Operators without attributes.
+fn takes_none(tag: u8) -> bool {
+    matches!(tag, 0x42 | 0x49 | 0x5d | 0x60 | 0x61 | 0x84..=0x86 | 0xb2)
+}
+
 /// Attributes an operator must have.
 fn required(tag: u8) -> &'static [u16] {
     match tag {
@@ -407,6 +406,9 @@ fn required(tag: u8) -> &'static [u16] {
 
 /// Judges 11, 12, 15 and 16 attribute by attribute, then 13, then clashes of 14.
 fn judge_attributes(reader: &Reader, op: &Operator) -> Result<(), Fault> {
+    if op.given == 0 && takes_none(op.tag) {
+        return Ok(());
+    }
     for (index, a) in op.attributes().iter().enumerate() {
         let Some(rule) = rule(op.tag, a.number) else {
             return fault(11, a.at);
@@ -852,8 +854,8 @@ impl<'b> Arm<'b> {
             0x5d => {
                 let bytes = &self.store[self.held_bytes..self.read_bytes];
                 match judge_motif(self.stream_name.clone(), bytes, &self.held) {
-                    Ok(judged) => motif = Some(judged),
-                    Err(f) => return Err(Fault { code: f.code, at: op.at, inner: Some(f.at) }),
+                    Ok(judged) => motif = Some(Box::new(judged)),
+                    Err(f) => return Err(Fault { code: f.code, at: op.at as u32, inner: f.at }),
                 }
             }
             0x5e => {
@@ -932,7 +934,7 @@ impl<'b> Arm<'b> {
     }
 
     /// The effect of an accepted operator on order, source, motifs, saves and images.
-    fn effect(&mut self, reader: &Reader, op: &Operator, data: (usize, usize), motif: Option<Motif>) {
+    fn effect(&mut self, reader: &Reader, op: &Operator, data: (usize, usize), motif: Option<Box<Motif>>) {
         match op.tag {
             0x41 => self.place = Place::Session,
             0x42 => {
@@ -960,7 +962,7 @@ impl<'b> Arm<'b> {
             }
             0x5d => {
                 self.place = Place::Session;
-                self.held.extend(motif);
+                self.held.extend(motif.map(|m| *m));
                 self.held_bytes = self.read_bytes;
             }
             0x60 => {
@@ -983,6 +985,231 @@ impl<'b> Arm<'b> {
                 self.image = None;
             }
             _ => {}
+        }
+    }
+}
+
+#[cfg(test)]
+mod tests {
+    use super::*;
+    use crate::generate::{self, Rng};
+    use crate::text::{self, Piece, Statement};
+
+    fn judge(job: &[u8]) -> Verdict {
+        check(job, &mut vec![1; STORE], &mut vec![1; 16 * (job.len() + 1)])
+    }
+
+    #[test]
+    fn rows_are_filled_to_four_bytes() {
+        assert_eq!([row_bytes(32, 0), row_bytes(33, 0), row_bytes(33, 1), row_bytes(33, 2)], [4, 8, 20, 36]);
+        assert_eq!([row_bytes(1, 0), row_bytes(8, 1), row_bytes(65_535, 2)], [4, 4, 65_536]);
+    }
+
+    #[test]
+    fn headers() {
+        assert_eq!(header(b"( HP-PCL XL;1;1\nx"), Ok((true, 16)));
+        assert_eq!(header(b") HP-PCL XL;1;1;abc\n"), Ok((false, 20)));
+        for cut in 0..15 {
+            assert_eq!(header(&b") HP-PCL XL;1;1\n"[..cut]), fault(2, cut));
+        }
+    }
+
+    #[test]
+    fn numbers_follow_the_byte_order() {
+        let bytes = [1, 2, 3, 4];
+        for (high_first, want) in [(true, [0x1, 0x102, 0x0102_0304]), (false, [0x1, 0x201, 0x0403_0201])] {
+            let reader = Reader { bytes: &bytes, at: 0, high_first };
+            assert_eq!([1, 2, 4].map(|n| reader.number(0, n)), want.map(Some));
+            assert_eq!(reader.number(1, 4), None);
+        }
+    }
+
+    /// A motif of random steps that never pops below its start.
+    fn random_steps(rng: &mut Rng, held: usize) -> Vec<Step> {
+        let mut steps = Vec::new();
+        let mut saved = 0;
+        for _ in 0..rng.below(8) {
+            steps.push(match rng.below(8) {
+                0 => {
+                    saved += 1;
+                    Step::Save
+                }
+                1 if saved > 0 => {
+                    saved -= 1;
+                    Step::Restore
+                }
+                2 => Step::Cursor(rng.one_in(2)),
+                3 => Step::Gray(rng.one_in(2)),
+                4 => Step::NeedCursor,
+                5 => Step::NeedGray(rng.one_in(2)),
+                6 if held > 0 => Step::Call(rng.below(held)),
+                _ => Step::Other,
+            });
+        }
+        steps.extend(vec![Step::Restore; saved]);
+        steps
+    }
+
+    #[test]
+    fn remembered_facts_are_those_of_the_walk() {
+        for seed in 0..400 {
+            let mut rng = Rng::new(seed, 4);
+            let mut held: Vec<Motif> = Vec::new();
+            for i in 0..10 {
+                let steps = random_steps(&mut rng, i);
+                held.push(Motif { name: vec![i as u8], steps, deep: 1, count: 0, reads: false });
+            }
+            for (index, n) in (0..held.len()).flat_map(|i| (0..4).map(move |n| (i, n))) {
+                let look = Look { cursor: n & 1 == 1, gray: n & 2 == 2 };
+                let mut found = Walk { look, saved: 0, cursor_broken: false, gray_broken: false };
+                walk(&held, index, &mut Vec::new(), &mut found);
+                let known = Facts::new(&held).of(index, look);
+                assert_eq!(
+                    (known.look, known.saved, known.cursor_broken, known.gray_broken),
+                    (found.look, found.saved, found.cursor_broken, found.gray_broken)
+                );
+            }
+        }
+    }
+
+    /// The arm of demand 3: performs each operator, calls unfolded, and stops where a rule of the state breaks.
+    #[derive(Default)]
+    struct Slow {
+        held: Vec<(Vec<u8>, Vec<u8>)>,
+        open: bool,
+        cursor: bool,
+        gray: bool,
+        saved: Vec<(bool, bool)>,
+        count: u64,
+    }
+
+    fn given(s: &Statement) -> Vec<(u16, &text::Value)> {
+        s.pieces
+            .iter()
+            .filter_map(|(_, p)| if let Piece::Number { number, .. } = p { Some(*number) } else { None })
+            .zip(s.pieces.iter().filter_map(|(_, p)| if let Piece::Value(v) = p { Some(v) } else { None }))
+            .collect()
+    }
+
+    impl Slow {
+        fn perform(&mut self, bytes: &[u8]) -> bool {
+            let Some((_, high, mut at)) = text::read_header(bytes) else { return false };
+            let mut stream = (Vec::new(), Vec::new());
+            while let Some(s) = text::read_statement(bytes, at, high) {
+                at = s.to;
+                self.count += 1;
+                let pairs = given(&s);
+                let has = |n: u16| pairs.iter().any(|p| p.0 == n);
+                let name = || pairs[0].1.numbers.iter().map(|&n| n as u8).collect::<Vec<u8>>();
+                let kept = match s.tag {
+                    0x42 => {
+                        self.held.clear();
+                        true
+                    }
+                    0x43 => {
+                        (self.cursor, self.gray) = (false, false);
+                        true
+                    }
+                    0x48 | 0x49 => {
+                        self.open = s.tag == 0x48;
+                        true
+                    }
+                    0x5b => {
+                        stream = (name(), Vec::new());
+                        true
+                    }
+                    0x5c => {
+                        stream.1.extend(s.data.as_ref().map_or(&[][..], |d| &d.2));
+                        self.open
+                    }
+                    0x5d => {
+                        self.held.push(std::mem::take(&mut stream));
+                        true
+                    }
+                    0x5e => match self.held.iter().find(|h| h.0 == name()).map(|h| h.1.clone()) {
+                        Some(body) => self.perform(&body),
+                        None => false,
+                    },
+                    0x60 => {
+                        let back = self.saved.pop();
+                        (self.cursor, self.gray) = back.unwrap_or_default();
+                        back.is_some()
+                    }
+                    0x61 => {
+                        self.saved.push((self.cursor, self.gray));
+                        self.saved.len() <= 24
+                    }
+                    0x6a => {
+                        self.gray = pairs[0].1.numbers[0] == 1;
+                        true
+                    }
+                    0x6b | 0x85 => {
+                        self.cursor = s.tag == 0x6b;
+                        true
+                    }
+                    0x63 | 0x79 => !(has(9) && !self.gray || has(11) && self.gray),
+                    0x6c => self.cursor,
+                    0x9b | 0x9d => self.cursor && (!has(77) || self.open),
+                    0xb0 => self.cursor && self.gray,
+                    0xb1 => self.open,
+                    _ => true,
+                };
+                if !kept || self.count > 1_000_000 {
+                    return false;
+                }
+            }
+            true
+        }
+    }
+
+    #[test]
+    fn passes_exactly_if_the_slow_arm_comes_to_the_end() {
+        let mut seen = [0; 30];
+        let jobs = (0..1500u64).map(|i| generate::write(&generate::rich(&mut Rng::new(i, 5))));
+        let limits = (0..160u64).map(|i| generate::limit(&mut Rng::new(i, 6), i as usize));
+        for job in jobs.chain(limits) {
+            let v = judge(&job);
+            seen[v.code as usize] += 1;
+            match v.code {
+                0 => {
+                    let mut slow = Slow::default();
+                    assert!(slow.perform(&job), "{v:?}\n{}", text::list(&job));
+                    assert_eq!(slow.count, v.performed.into());
+                }
+                17 | 23..=26 => assert!(!Slow::default().perform(&job), "{v:?}\n{}", text::list(&job)),
+                _ => {}
+            }
+        }
+        assert!([0, 17, 23, 24, 25, 26].iter().all(|&c| seen[c] > 0), "{seen:?}");
+    }
+
+    #[test]
+    fn lists_read_back_to_the_same_job() {
+        // Each record points at its tag, and the records of a passing job are its operators in order.
+        for index in 0..300 {
+            let job = generate::write(&generate::valid(&mut Rng::new(index, 8)));
+            let mut list = vec![0; 16 * (job.len() + 1)];
+            let v = check(&job, &mut vec![0; STORE], &mut list);
+            let (_, high, mut at) = text::read_header(&job).unwrap();
+            let mut records = list.chunks(16).take(v.records as usize);
+            let word = |r: &[u8], i: usize| u32::from_le_bytes(r[i..i + 4].try_into().unwrap()) as usize;
+            while let Some(s) = text::read_statement(&job, at, high) {
+                at = s.to;
+                let pairs = given(&s);
+                for (number, value) in &pairs {
+                    let r = records.next().unwrap();
+                    assert_eq!(r[..4], [1, *number as u8, value.kind, 0]);
+                    assert_eq!((job[word(r, 4)], word(r, 8)), (value.kind, value.numbers.len()));
+                    let length = if value.kind < 0xc8 || value.kind >= 0xd0 { 0 } else { 2 + usize::from(value.wide) };
+                    assert_eq!(word(r, 12), word(r, 4) + 1 + length);
+                }
+                let r = records.next().unwrap();
+                assert_eq!((r[0], r[1], r[2], r[3]), (2, s.tag, pairs.len() as u8, 0));
+                assert_eq!(word(r, 4), s.tag_at);
+                let data = s.data.as_ref().map_or((0, 0), |d| (d.2.len(), s.to - d.2.len()));
+                assert_eq!((word(r, 8), word(r, 12)), data);
+            }
+            assert!(records.next().is_none());
         }
     }
 }

@@ -1,4 +1,5 @@
 //! Speed of the linked checker beside the plain one and a bare loop in C, best of many runs.
+//! `bench WORD` runs only the kinds whose name has the word.
 
 use outside::plain::{self, Verdict};
 use outside::text::assemble;
@@ -82,7 +83,11 @@ fn main() {
     let mut list = vec![0u8; 16 * (LONG + 1)];
     println!("{:<22} {:>10} {:>10} {:>10} {:>9} {:>9} {:>9}", "kind (61,440 bytes)", "linked us", "plain us", "bare us", "/ plain", "/ bare", "growth");
     let mut faulty = false;
+    let word = std::env::args().nth(1).unwrap_or_default();
     for ((name, long), (_, short)) in kinds(LONG).into_iter().zip(kinds(SHORT)) {
+        if !name.contains(&word) {
+            continue;
+        }
         for job in long.iter().take(1).chain(short.iter().take(1)) {
             let want = plain::check(job, &mut work, &mut list);
             let got = ffi::check(job, &mut work, &mut list);
