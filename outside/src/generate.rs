@@ -213,8 +213,15 @@ fn any_type(rng: &mut Rng) -> u8 {
 
 /// A value of a type the shape does not take.
 fn bad_type(rng: &mut Rng, shape: Shape) -> Value {
+    // Half of them of the right family, where a mistake is easiest.
+    let family = match shape {
+        E(..) | N(_) => 0xc0,
+        Sizes => 0xd0,
+        Several(family) => family,
+        A(..) => 0xc8,
+    };
     loop {
-        let kind = any_type(rng);
+        let kind = if rng.one_in(2) { family + rng.below(6) as u8 } else { any_type(rng) };
         if !takes_type(shape, kind) {
             return any_value(rng, kind);
         }
@@ -226,7 +233,7 @@ fn bad_range(rng: &mut Rng, shape: Shape) -> Option<Value> {
     Some(match shape {
         E(0, 255, ..) | N(0) | Several(_) | A(0, _) => return None,
         E(a, b, c, d) => loop {
-            let n = if rng.one_in(2) { rng.pick(&[b.wrapping_add(1), d.wrapping_add(1), a.wrapping_sub(1)]) } else { rng.next() as u8 };
+            let n = if rng.one_in(2) { rng.pick(&[b.wrapping_add(1), b.wrapping_add(1), d.wrapping_add(1), a.wrapping_sub(1)]) } else { rng.next() as u8 };
             if !(a..=b).contains(&n) && !(c..=d).contains(&n) {
                 break number(0xc0, n.into());
             }
@@ -857,7 +864,12 @@ pub fn broken(rng: &mut Rng, rule: Broken, inside: bool) -> Job {
             before.push(op(0x6a).with(3, number(0xc0, 1)).node());
             let mut image = m.image();
             let end = image.len() - 1;
-            let stop = if rule.tag == 0xb2 { end } else { 1 + m.rng.below(end - 1) };
+            let stop = match rule {
+                Broken { tag: 0xb2, .. } => end,
+                // The last block, so that one row more is one too many.
+                Broken { number: 99, code: 14, .. } => end - 1,
+                _ => 1 + m.rng.below(end - 1),
+            };
             made = image[stop].clone();
             image.truncate(stop);
             before.extend(image.into_iter().map(Op::node));
@@ -937,7 +949,7 @@ fn break_op(rng: &mut Rng, made: &mut Op, rule: Broken) {
         }
         14 => {
             if let Some(p) = made.pairs.iter_mut().find(|p| p.number == 99) {
-                p.value.numbers[0] = rng.pick(&[6, 7, 255]);
+                p.value.numbers[0] = if rng.one_in(2) { p.value.numbers[0] + 1 } else { rng.pick(&[6, 7, 255]) };
             }
         }
         15 | 16 => {
@@ -1149,7 +1161,7 @@ fn page_start(rng: &mut Rng) -> Vec<Node> {
 }
 
 /// How many limit jobs there are.
-pub const LIMITS: usize = 16;
+pub const LIMITS: usize = 18;
 
 /// A job at the edge of a limit, or one past it.
 pub fn limit(rng: &mut Rng, which: usize) -> Vec<u8> {
@@ -1209,6 +1221,10 @@ pub fn limit(rng: &mut Rng, which: usize) -> Vec<u8> {
                     body.push(call_of(&[i as u8 - 1]));
                 }
                 body.extend(small_body(rng));
+                if i > 1 && rng.one_in(4) {
+                    // A call of a flatter motif, which changes nothing about how deep this one is.
+                    body.push(call_of(&[rng.below(i - 1) as u8]));
+                }
                 nodes.push(motif_of(&[i as u8], body));
             }
             nodes.push(begin_page());
@@ -1370,12 +1386,15 @@ pub fn limit(rng: &mut Rng, which: usize) -> Vec<u8> {
             nodes.push(motif_of(&[0], body));
             for i in 1..levels {
                 let mut body = Vec::new();
+                let saves = if rng.one_in(2) { 1 + rng.below(2) } else { 0 };
+                body.extend(times(op(0x61).node(), saves));
                 for _ in 0..1 + rng.below(5) {
                     body.push(call_of(&[i as u8 - 1]));
                     if rng.one_in(6) && !tame {
                         body.extend(small_body(rng));
                     }
                 }
+                body.extend(times(op(0x60).node(), saves));
                 nodes.push(motif_of(&[i as u8], body));
             }
             let shut = rng.one_in(3);
@@ -1389,6 +1408,52 @@ pub fn limit(rng: &mut Rng, which: usize) -> Vec<u8> {
             nodes.push(call_of(&[levels as u8 - 1]));
             nodes.extend(times(op(0x60).node(), saved));
             nodes.extend(ends());
+        }
+        // Counts of exactly 2 to the 32nd or 64th and a little more: calling level k counts 8 to the k.
+        15 => {
+            let (levels, rounds) = rng.pick(&[(10, 3), (21, 1)]);
+            let lower = |k: u8| {
+                let mut round: Vec<Node> = (1..k).map(|j| call_of(&[j])).collect();
+                round.push(op(0x86).node());
+                round.into_iter().cycle().take(7 * usize::from(k))
+            };
+            for k in 1..=levels {
+                nodes.push(motif_of(&[k], lower(k).collect()));
+            }
+            let mut body = times(call_of(&[levels]), rounds);
+            body.extend(lower(levels));
+            nodes.push(motif_of(b"q", body));
+            let mut body = small_body(rng);
+            body.push(call_of(b"q"));
+            nodes.push(motif_of(b"r", body));
+            nodes.push(begin_page());
+            nodes.extend(page_start(rng));
+            nodes.push(call_of(rng.pick(&[b"q", b"r"])));
+            nodes.extend(ends());
+        }
+        // Motifs that do not end well: an image open, rows unread, saves, data or attributes left.
+        16 => {
+            let mut maker = Maker::new(rng.clone());
+            rng.next();
+            let mut body = small_body(rng);
+            match rng.below(5) {
+                0 | 1 => {
+                    let mut image = maker.image();
+                    let left = image.len() - 1 - rng.below(image.len());
+                    image.truncate(left.max(1));
+                    body.extend(image.into_iter().map(Op::node));
+                }
+                2 => body.push(op(0x61).node()),
+                3 => {
+                    let mut line = maker.points(0x9b);
+                    line.data = None;
+                    body.push(line.node());
+                }
+                _ => body.push(Node::Raw(vec![0xc0, 0x00, 0xf8, 0x4b][..2 + 2 * rng.below(2)].to_vec())),
+            }
+            nodes.push(motif_of(b"a", body));
+            nodes.push(op(0x49).node());
+            nodes.push(op(0x42).node());
         }
         // Many sessions, motifs of one name, a call of a dropped one.
         _ => {
@@ -1578,7 +1643,7 @@ mod tests {
         }
         let want: [&[u32]; LIMITS] = [
             &[19, 21], &[0, 19], &[22], &[0, 23], &[0, 23], &[23], &[0, 26], &[0, 26], &[7, 12], &[0, 8], &[0, 2],
-            &[0, 1], &[1], &[26, 24], &[26], &[0, 21],
+            &[0, 1], &[1], &[26, 24], &[26, 23], &[26], &[27], &[0, 21],
         ];
         for (which, want) in want.iter().enumerate() {
             assert!(want.iter().all(|c| codes[which].contains(c)), "limit {which}: {:?}", codes[which]);
