@@ -27,3 +27,24 @@ pub fn bare(job: &[u8], list: &mut [u8]) -> usize {
     // As above; the loop stops before the end of the list.
     unsafe { bare_loop(job.as_ptr(), job.len(), list.as_mut_ptr(), list.len()) }
 }
+
+#[cfg(test)]
+mod tests {
+    use crate::vectors;
+    use std::path::Path;
+
+    #[test]
+    fn linked_checker_holds() {
+        let all = vectors::read_folder(&Path::new(env!("CARGO_MANIFEST_DIR")).join("vectors")).unwrap();
+        let faults: Vec<String> = all.iter().filter_map(|v| vectors::hold(v, super::check).err()).collect();
+        assert!(faults.is_empty(), "{} of {}:\n{}", faults.len(), all.len(), faults.join("\n"));
+    }
+
+    #[test]
+    fn bare_loop_counts_operators_and_keeps_to_the_list() {
+        let mut list = [0; 40];
+        assert_eq!(super::bare(&[0x41, 0x20, 0x42], &mut list), 2);
+        assert_eq!(list[..8], [2, 0x41, 0, 0, 0, 0, 0, 0]);
+        assert_eq!(super::bare(&[0x41; 9], &mut list), 2);
+    }
+}

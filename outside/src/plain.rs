@@ -373,6 +373,7 @@ impl Rule {
     }
 }
 
+#[inline(always)]
 fn in_table(tag: u8) -> bool {
     matches!(
         tag,
@@ -382,6 +383,7 @@ fn in_table(tag: u8) -> bool {
 }
 
 /// Operators without attributes.
+#[inline(always)]
 fn takes_none(tag: u8) -> bool {
     matches!(tag, 0x42 | 0x49 | 0x5d | 0x60 | 0x61 | 0x84..=0x86 | 0xb2)
 }
@@ -482,6 +484,7 @@ impl Image {
 }
 
 /// Length of the embedded data an operator reads, if it reads any.
+#[inline(always)]
 fn data_due(reader: &Reader, op: &Operator, image: Option<&Image>) -> Option<u64> {
     match op.tag {
         0x5c => Some(reader.scalar(op, 140).into()),
@@ -519,6 +522,7 @@ enum Step {
 }
 
 /// The meaning of an operator of a page, calls apart.
+#[inline(always)]
 fn step(reader: &Reader, op: &Operator) -> Step {
     match op.tag {
         0x61 => Step::Save,
