@@ -905,7 +905,12 @@ fn break_op(rng: &mut Rng, made: &mut Op, rule: Broken) {
         11 => {
             let own: Vec<u16> = shapes_of(rule.tag).map(|s| s.0).collect();
             let foreign = loop {
-                let n = if rng.one_in(3) { rng.next() as u16 } else { SHAPES[rng.below(SHAPES.len())].1 };
+                let n = match rng.below(4) {
+                    0 => rng.next() as u16,
+                    // A neighbour of an own attribute.
+                    1 if !own.is_empty() => rng.pick(&own) - 1 + rng.pick(&[0, 2]),
+                    _ => SHAPES[rng.below(SHAPES.len())].1,
+                };
                 if !own.contains(&n) {
                     break n;
                 }
@@ -1161,7 +1166,7 @@ fn page_start(rng: &mut Rng) -> Vec<Node> {
 }
 
 /// How many limit jobs there are.
-pub const LIMITS: usize = 18;
+pub const LIMITS: usize = 19;
 
 /// A job at the edge of a limit, or one past it.
 pub fn limit(rng: &mut Rng, which: usize) -> Vec<u8> {
@@ -1455,6 +1460,40 @@ pub fn limit(rng: &mut Rng, which: usize) -> Vec<u8> {
             nodes.push(op(0x49).node());
             nodes.push(op(0x42).node());
         }
+        // Images whose operators do not come in order, in the page or in a motif.
+        17 => {
+            let mut maker = Maker::new(rng.clone());
+            rng.next();
+            let mut image: Vec<Node> = maker.image().into_iter().map(Op::node).collect();
+            let at = 1 + rng.below(image.len() - 1);
+            match rng.below(4) {
+                0 => {
+                    image.remove(at);
+                }
+                1 => {
+                    let last = image.len() - 1;
+                    image.swap(at, last);
+                }
+                2 => {
+                    let copy = image[at].clone();
+                    image.insert(at, copy);
+                }
+                _ => {
+                    let tag = rng.pick(&TAGS);
+                    let made = if tag == 0x5e { call_of(b"a") } else { maker.op(tag, 0).node() };
+                    image.insert(at, made);
+                }
+            }
+            let mut body = vec![point(0x6b, 76), op(0x6a).with(3, number(0xc0, 1)).node()];
+            body.extend(image);
+            if rng.one_in(2) {
+                nodes.push(motif_of(b"a", body));
+                body = vec![call_of(b"a")];
+            }
+            nodes.push(begin_page());
+            nodes.extend(body);
+            nodes.extend(ends());
+        }
         // Many sessions, motifs of one name, a call of a dropped one.
         _ => {
             nodes.clear();
@@ -1485,6 +1524,12 @@ pub fn limit(rng: &mut Rng, which: usize) -> Vec<u8> {
 
 /// A header and tags as they come.
 pub fn tags(rng: &mut Rng) -> Vec<u8> {
+    if rng.one_in(30) {
+        // Hardly any bytes at all.
+        let mut few = vec![rng.pick(&[0x26, 0x27, 0x28, 0x29])];
+        few.extend_from_slice(&b" HP"[..rng.below(4)]);
+        return few;
+    }
     let mut out = if rng.one_in(6) { rng.bytes(17) } else { header_bytes(rng.one_in(2), &None) };
     if rng.one_in(2) {
         let high = out[0] == 0x28;
@@ -1643,7 +1688,7 @@ mod tests {
         }
         let want: [&[u32]; LIMITS] = [
             &[19, 21], &[0, 19], &[22], &[0, 23], &[0, 23], &[23], &[0, 26], &[0, 26], &[7, 12], &[0, 8], &[0, 2],
-            &[0, 1], &[1], &[26, 24], &[26, 23], &[26], &[27], &[0, 21],
+            &[0, 1], &[1], &[26, 24], &[26, 23], &[26], &[27], &[10, 14], &[0, 21],
         ];
         for (which, want) in want.iter().enumerate() {
             assert!(want.iter().all(|c| codes[which].contains(c)), "limit {which}: {:?}", codes[which]);
