@@ -138,7 +138,12 @@ impl Coverage {
         for code in 0..30 {
             let _ = writeln!(out, "{code:>4} {:>8} {:>12}", self.outside[code], self.inside[code]);
         }
-        let _ = writeln!(out, "attribute rules broken: {} of {}", self.rules.len().min(all_rules().len()), all_rules().len());
+        let _ = writeln!(
+            out,
+            "attribute rules broken: {} of {}",
+            self.rules.len().min(all_rules().len()),
+            all_rules().len()
+        );
         for rule in all_rules() {
             let [o, i] = self.rules.get(&rule).copied().unwrap_or_default();
             let _ = writeln!(out, "{:<36} {o:>8} {i:>8}", rule_name(&rule));

@@ -17,9 +17,7 @@ extern "C" {
 /// Judges a job by the linked checker.
 pub fn check(job: &[u8], work: &mut [u8], list: &mut [u8]) -> Verdict {
     // Each pointer and length is of one lent slice; the two lent for writing are apart by the borrow rules.
-    unsafe {
-        dieuvakhop_check(job.as_ptr(), job.len(), work.as_mut_ptr(), work.len(), list.as_mut_ptr(), list.len())
-    }
+    unsafe { dieuvakhop_check(job.as_ptr(), job.len(), work.as_mut_ptr(), work.len(), list.as_mut_ptr(), list.len()) }
 }
 
 /// Classifies each byte and writes a record for each that could be an operator; the number of records.

@@ -12,11 +12,11 @@ pub struct Rng(u64);
 impl Rng {
     pub fn new(seed: u64, index: u64) -> Rng {
         let mut rng = Rng(seed ^ index.wrapping_mul(0xd1b5_4a32_d192_ed03));
-        rng.next();
+        rng.draw();
         rng
     }
 
-    pub fn next(&mut self) -> u64 {
+    pub fn draw(&mut self) -> u64 {
         self.0 = self.0.wrapping_add(0x9e37_79b9_7f4a_7c15);
         let mut z = self.0;
         z = (z ^ (z >> 30)).wrapping_mul(0xbf58_476d_1ce4_e5b9);
@@ -29,7 +29,7 @@ impl Rng {
         if n == 0 {
             0
         } else {
-            (self.next() >> 11) as usize % n
+            (self.draw() >> 11) as usize % n
         }
     }
 
@@ -45,7 +45,7 @@ impl Rng {
     fn bytes(&mut self, n: usize) -> Vec<u8> {
         let mut out = Vec::with_capacity(n + 8);
         while out.len() < n {
-            out.extend(self.next().to_le_bytes());
+            out.extend(self.draw().to_le_bytes());
         }
         out.truncate(n);
         out
@@ -124,8 +124,8 @@ pub const SHAPES: [(u8, u16, Shape, Need); 38] = [
 
 /// Tags of the operator table.
 pub const TAGS: [u8; 28] = [
-    0x41, 0x42, 0x43, 0x44, 0x47, 0x48, 0x49, 0x5b, 0x5c, 0x5d, 0x5e, 0x60, 0x61, 0x63, 0x6a, 0x6b, 0x6c, 0x79,
-    0x7a, 0x84, 0x85, 0x86, 0x9b, 0x9d, 0xa0, 0xb0, 0xb1, 0xb2,
+    0x41, 0x42, 0x43, 0x44, 0x47, 0x48, 0x49, 0x5b, 0x5c, 0x5d, 0x5e, 0x60, 0x61, 0x63, 0x6a, 0x6b, 0x6c, 0x79, 0x7a,
+    0x84, 0x85, 0x86, 0x9b, 0x9d, 0xa0, 0xb0, 0xb1, 0xb2,
 ];
 
 /// The attributes of one operator.
@@ -170,7 +170,7 @@ fn good_value(rng: &mut Rng, shape: Shape) -> Value {
         Several(family) => {
             let kind = family + rng.pick(&[0u8, 1, 3]);
             let count = if family == 0xd0 { 2 } else { 4 };
-            let numbers = (0..count).map(|_| rng.next() as u32).collect();
+            let numbers = (0..count).map(|_| rng.draw() as u32).collect();
             Value { kind, numbers, wide: false }
         }
         A(from, to) => {
@@ -203,7 +203,7 @@ fn any_value(rng: &mut Rng, kind: u8) -> Value {
         0xe0..=0xe5 => 4,
         _ => rng.pick(&[0, 1, 3, 4]),
     };
-    let numbers = (0..count).map(|_| if rng.one_in(2) { rng.below(4) as u32 } else { rng.next() as u32 }).collect();
+    let numbers = (0..count).map(|_| if rng.one_in(2) { rng.below(4) as u32 } else { rng.draw() as u32 }).collect();
     Value { kind, numbers, wide: rng.one_in(3) }
 }
 
@@ -233,7 +233,11 @@ fn bad_range(rng: &mut Rng, shape: Shape) -> Option<Value> {
     Some(match shape {
         E(0, 255, ..) | N(0) | Several(_) | A(0, _) => return None,
         E(a, b, c, d) => loop {
-            let n = if rng.one_in(2) { rng.pick(&[b.wrapping_add(1), b.wrapping_add(1), d.wrapping_add(1), a.wrapping_sub(1)]) } else { rng.next() as u8 };
+            let n = if rng.one_in(2) {
+                rng.pick(&[b.wrapping_add(1), b.wrapping_add(1), d.wrapping_add(1), a.wrapping_sub(1)])
+            } else {
+                rng.draw() as u8
+            };
             if !(a..=b).contains(&n) && !(c..=d).contains(&n) {
                 break number(0xc0, n.into());
             }
@@ -372,7 +376,7 @@ impl Writer {
             out: header_bytes(motif.high_first, &motif.header),
             high_first: motif.high_first,
             space: self.space,
-            rng: Rng::new(self.rng.next(), 1),
+            rng: Rng::new(self.rng.draw(), 1),
         };
         inside.nodes(&motif.body);
         inside.gap();
@@ -411,14 +415,15 @@ pub fn write(job: &Job) -> Vec<u8> {
 fn spoil(rng: &mut Rng, bytes: &mut Vec<u8>) {
     if bytes.len() > 15 && rng.one_in(12) {
         // A fault of the header, often one that leaves it well formed.
-        let (at, byte) = rng.pick(&[(0, 0x27), (0, 0x28), (0, 0x29), (12, b'2'), (14, b'0'), (14, b'2'), (15, b';'), (15, b'\r')]);
+        let (at, byte) =
+            rng.pick(&[(0, 0x27), (0, 0x28), (0, 0x29), (12, b'2'), (14, b'0'), (14, b'2'), (15, b';'), (15, b'\r')]);
         bytes[at] = byte;
         return;
     }
     // Faults behind the header are the more telling ones.
     let from = if bytes.len() > 16 && !rng.one_in(8) { 16 } else { 0 };
     let at = from + rng.below(bytes.len() - from);
-    let byte = if rng.one_in(2) { rng.next() as u8 } else { any_tag(rng) };
+    let byte = if rng.one_in(2) { rng.draw() as u8 } else { any_tag(rng) };
     match rng.below(6) {
         0 | 1 if at < bytes.len() => bytes[at] = byte,
         2 if at < bytes.len() => {
@@ -435,7 +440,9 @@ fn any_tag(rng: &mut Rng) -> u8 {
         0 | 1 => rng.pick(&TAGS),
         2 => any_type(rng),
         3 => rng.pick(&[0xf8, 0xf9, 0xfa, 0xfb]),
-        _ => rng.pick(&[0x00, 0x20, 0x0a, 0x27, 0x28, 0x29, 0x40, 0x45, 0xbf, 0xc6, 0xc7, 0xce, 0xd6, 0xe6, 0xfc, 0xff]),
+        _ => {
+            rng.pick(&[0x00, 0x20, 0x0a, 0x27, 0x28, 0x29, 0x40, 0x45, 0xbf, 0xc6, 0xc7, 0xce, 0xd6, 0xe6, 0xfc, 0xff])
+        }
     }
 }
 
@@ -471,8 +478,7 @@ struct Maker {
     wild: usize,
 }
 
-const FRESH: Page =
-    Page { cursor: false, gray: false, saved: Vec::new(), most: 0, reads: false, count: 0, deep: 1 };
+const FRESH: Page = Page { cursor: false, gray: false, saved: Vec::new(), most: 0, reads: false, count: 0, deep: 1 };
 
 impl Maker {
     fn new(rng: Rng) -> Maker {
@@ -731,14 +737,14 @@ impl Maker {
             self.rng.bytes(n).into_iter().filter(|&b| b != b'\n').collect()
         });
         let high_first = self.rng.one_in(2);
-        Job { high_first, header, nodes: self.nodes, space, space_seed: self.rng.next() }
+        Job { high_first, header, nodes: self.nodes, space, space_seed: self.rng.draw() }
     }
 }
 
 /// A job that passes, given room for its list.
 pub fn valid(rng: &mut Rng) -> Job {
     let mut maker = Maker::new(rng.clone());
-    rng.next();
+    rng.draw();
     let sessions = if rng.one_in(3) { 1 + rng.below(4) } else { 1 };
     for _ in 0..sessions {
         let (motifs, pages, size) = (rng.below(6), rng.below(4), 3 + rng.below(20));
@@ -751,7 +757,7 @@ pub fn valid(rng: &mut Rng) -> Job {
 /// A job rich in cursor, colour, saves and calls that keeps the layout rules but not always the state's.
 pub fn rich(rng: &mut Rng) -> Job {
     let mut maker = Maker::new(rng.clone());
-    rng.next();
+    rng.draw();
     maker.wild = rng.pick(&[2, 4, 8, 20, 60]);
     let (motifs, pages, size) = (1 + rng.below(12), 1 + rng.below(3), 3 + rng.below(12));
     maker.session(motifs, pages, size);
@@ -804,7 +810,7 @@ fn page_tag(tag: u8) -> bool {
 pub fn broken(rng: &mut Rng, rule: Broken, inside: bool) -> Job {
     let inside = inside && page_tag(rule.tag);
     let mut m = Maker::new(rng.clone());
-    rng.next();
+    rng.draw();
     if rng.one_in(3) {
         m.session(1, 1, 5);
     }
@@ -906,7 +912,7 @@ fn break_op(rng: &mut Rng, made: &mut Op, rule: Broken) {
             let own: Vec<u16> = shapes_of(rule.tag).map(|s| s.0).collect();
             let foreign = loop {
                 let n = match rng.below(4) {
-                    0 => rng.next() as u16,
+                    0 => rng.draw() as u16,
                     // A neighbour of an own attribute.
                     1 if !own.is_empty() => rng.pick(&own) - 1 + rng.pick(&[0, 2]),
                     _ => SHAPES[rng.below(SHAPES.len())].1,
@@ -979,7 +985,7 @@ pub fn mutant(rng: &mut Rng) -> Vec<u8> {
     for _ in 0..faults {
         match rng.below(8) {
             0 | 1 => in_bytes += 1,
-            2 | 3 | 4 => {
+            2..=4 => {
                 let motifs: Vec<usize> =
                     (0..job.nodes.len()).filter(|&i| matches!(job.nodes[i], Node::Motif(_))).collect();
                 if motifs.is_empty() {
@@ -988,7 +994,7 @@ pub fn mutant(rng: &mut Rng) -> Vec<u8> {
                     match rng.below(12) {
                         0 => m.name = b"a".to_vec(),
                         1 => m.header = Some(rng.bytes(5)),
-                        2 | 3 => m.spoil = Some(rng.next()),
+                        2 | 3 => m.spoil = Some(rng.draw()),
                         _ => mutate(rng, &mut m.body),
                     }
                 }
@@ -1029,7 +1035,7 @@ fn mutate(rng: &mut Rng, nodes: &mut Vec<Node>) {
         }
         4 | 5 => {
             let mut maker = Maker::new(rng.clone());
-            rng.next();
+            rng.draw();
             let tag = rng.pick(&TAGS);
             let choice = rng.below(3);
             let made = match (tag, rng.one_in(2)) {
@@ -1439,7 +1445,7 @@ pub fn limit(rng: &mut Rng, which: usize) -> Vec<u8> {
         // Motifs that do not end well: an image open, rows unread, saves, data or attributes left.
         16 => {
             let mut maker = Maker::new(rng.clone());
-            rng.next();
+            rng.draw();
             let mut body = small_body(rng);
             match rng.below(5) {
                 0 | 1 => {
@@ -1463,7 +1469,7 @@ pub fn limit(rng: &mut Rng, which: usize) -> Vec<u8> {
         // Images whose operators do not come in order, in the page or in a motif.
         17 => {
             let mut maker = Maker::new(rng.clone());
-            rng.next();
+            rng.draw();
             let mut image: Vec<Node> = maker.image().into_iter().map(Op::node).collect();
             let at = 1 + rng.below(image.len() - 1);
             match rng.below(4) {
@@ -1509,7 +1515,7 @@ pub fn limit(rng: &mut Rng, which: usize) -> Vec<u8> {
             }
         }
     }
-    let job = Job { high_first: rng.one_in(2), header, nodes, space: 0, space_seed: rng.next() };
+    let job = Job { high_first: rng.one_in(2), header, nodes, space: 0, space_seed: rng.draw() };
     let mut bytes = write(&job);
     if let Some((length, byte)) = fill {
         // Before the last three operators, so that the job may still end well.
@@ -1590,7 +1596,7 @@ pub fn case(seed: u64, index: u64) -> Case {
         2 | 3 => ("mutant", mutant(&mut rng)),
         4 | 5 => ("rich", write(&rich(&mut rng))),
         // The longer limit jobs come less often.
-        6 if turn % 4 == 0 => ("limit", limit(&mut rng, (turn / 4) as usize)),
+        6 if turn.is_multiple_of(4) => ("limit", limit(&mut rng, (turn / 4) as usize)),
         6 => ("tags", tags(&mut rng)),
         _ => {
             let mut base = Rng::new(seed, turn / CUT);
@@ -1682,13 +1688,30 @@ mod tests {
     fn limits_fall_on_both_sides() {
         let mut codes = vec![std::collections::BTreeSet::new(); LIMITS];
         for round in 0..30 {
-            for which in 0..LIMITS {
-                codes[which].insert(judge(&limit(&mut Rng::new(round, which as u64), which)).code);
+            for (which, seen) in codes.iter_mut().enumerate() {
+                seen.insert(judge(&limit(&mut Rng::new(round, which as u64), which)).code);
             }
         }
         let want: [&[u32]; LIMITS] = [
-            &[19, 21], &[0, 19], &[22], &[0, 23], &[0, 23], &[23], &[0, 26], &[0, 26], &[7, 12], &[0, 8], &[0, 2],
-            &[0, 1], &[1], &[26, 24], &[26, 23], &[26], &[27], &[10, 14], &[0, 21],
+            &[19, 21],
+            &[0, 19],
+            &[22],
+            &[0, 23],
+            &[0, 23],
+            &[23],
+            &[0, 26],
+            &[0, 26],
+            &[7, 12],
+            &[0, 8],
+            &[0, 2],
+            &[0, 1],
+            &[1],
+            &[26, 24],
+            &[26, 23],
+            &[26],
+            &[27],
+            &[10, 14],
+            &[0, 21],
         ];
         for (which, want) in want.iter().enumerate() {
             assert!(want.iter().all(|c| codes[which].contains(c)), "limit {which}: {:?}", codes[which]);

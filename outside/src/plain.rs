@@ -466,11 +466,7 @@ pub fn row_bytes(width: u32, depth: u32) -> u64 {
 
 impl Image {
     fn begin(reader: &Reader, op: &Operator) -> Image {
-        Image {
-            row: row_bytes(reader.scalar(op, 108), reader.scalar(op, 98)),
-            height: reader.scalar(op, 107),
-            rows: 0,
-        }
+        Image { row: row_bytes(reader.scalar(op, 108), reader.scalar(op, 98)), height: reader.scalar(op, 107), rows: 0 }
     }
 
     fn done(&self) -> bool {

@@ -139,9 +139,11 @@ fn tokens(text: &str) -> Result<Vec<Token>, String> {
                 all.push(Token::Close);
                 chars.next();
             }
-            '#' => while chars.peek().is_some_and(|&c| c != '\n') {
-                chars.next();
-            },
+            '#' => {
+                while chars.peek().is_some_and(|&c| c != '\n') {
+                    chars.next();
+                }
+            }
             c if c.is_whitespace() => {
                 chars.next();
             }
@@ -429,7 +431,7 @@ fn parse_bytes(text: &str) -> Result<Vec<u8>, String> {
             Some((d, k)) => (d, k.parse::<usize>().map_err(|_| format!("no count: {part}"))?),
             None => (part, 1),
         };
-        if digits.len() % 2 != 0 || !digits.is_ascii() {
+        if !digits.len().is_multiple_of(2) || !digits.is_ascii() {
             return Err(format!("no bytes: {part}"));
         }
         let once: Result<Vec<u8>, _> =
@@ -630,11 +632,8 @@ impl Assembler<'_> {
     /// An operator; its tag stands at `|`, else before the data, else last.
     fn operator(&mut self, marked: bool, tag: u8, words: &[String]) -> Result<(), String> {
         let is_data = |w: &String| w.trim_start_matches('^').starts_with("data");
-        let place = words
-            .iter()
-            .position(|w| w == "|")
-            .or_else(|| words.iter().position(is_data))
-            .unwrap_or(words.len());
+        let place =
+            words.iter().position(|w| w == "|").or_else(|| words.iter().position(is_data)).unwrap_or(words.len());
         words[..place].iter().try_for_each(|w| self.item(w))?;
         if marked {
             self.mark();
@@ -653,12 +652,8 @@ impl Assembler<'_> {
                 split.push(size.parse::<usize>().map_err(|_| format!("no size: {size}"))?);
             }
         }
-        let mut inside = Assembler {
-            macros: self.macros,
-            out: Assembled::default(),
-            high_first: self.high_first,
-            inside: true,
-        };
+        let mut inside =
+            Assembler { macros: self.macros, out: Assembled::default(), high_first: self.high_first, inside: true };
         inside.all(block)?;
         self.out.inner_marks.extend(inside.out.inner_marks);
         let body = inside.out.bytes;
@@ -981,20 +976,23 @@ mod tests {
         let listed = list(&bytes);
         assert!(listed.contains("motif \"ab\" split=5,10 {"), "{listed}");
         // A motif whose stream is not written as a block would be stays as it is.
-        let odd = stable("header low; BeginStream StreamName=\"q\" ~20; ReadStream StreamDataLength=1 data=00; EndStream");
+        let odd =
+            stable("header low; BeginStream StreamName=\"q\" ~20; ReadStream StreamDataLength=1 data=00; EndStream");
         assert!(list(&odd).contains("ReadStream"));
     }
 
     #[test]
     fn data_and_places() {
-        let bytes = stable("header low; LinePath NumberOfPoints=1 PointType=0 ~20 | ~09 data/4=0102; ReadStream data=00*300");
+        let bytes =
+            stable("header low; LinePath NumberOfPoints=1 PointType=0 ~20 | ~09 data/4=0102; ReadStream data=00*300");
         assert_eq!(bytes[16..34], [0xc0, 1, 0xf8, 77, 0xc0, 0, 0xf8, 80, 0x20, 0x9b, 9, 0xfa, 2, 0, 0, 0, 1, 2]);
     }
 
     #[test]
     fn marks_and_macros() {
         let macros = Macros::from([("X".to_string(), "ExecStream StreamName=$1".to_string())]);
-        let a = assemble_with("hex 00 ^01; X \"a\"; ^motif \"a\" { hex 05 06; ^PushGS }; repeat 2 { hex 07 }; ^", &macros);
+        let a =
+            assemble_with("hex 00 ^01; X \"a\"; ^motif \"a\" { hex 05 06; ^PushGS }; repeat 2 { hex 07 }; ^", &macros);
         let a = a.unwrap();
         assert_eq!(a.marks, [1, a.bytes.len() - 3, a.bytes.len()]);
         assert_eq!(a.inner_marks, [2]);
@@ -1003,7 +1001,9 @@ mod tests {
 
     #[test]
     fn every_string_of_bytes_reads_back() {
-        let base = assemble("header low; BeginSession Measure=0; motif \"a\" { header high; PushGS }; LinePath data=01").unwrap();
+        let base =
+            assemble("header low; BeginSession Measure=0; motif \"a\" { header high; PushGS }; LinePath data=01")
+                .unwrap();
         for cut in 0..=base.len() {
             assert_eq!(assemble(&list(&base[..cut])).unwrap(), &base[..cut]);
         }
@@ -1018,7 +1018,16 @@ mod tests {
 
     #[test]
     fn faults_of_the_notation_are_told() {
-        for text in ["PushGS {", "}", "Nothing", "SetPenWidth Foo=1", "hex 0", "SetPenWidth PenWidth=x", "hex \"", "Comment CommentData=1:odd"] {
+        for text in [
+            "PushGS {",
+            "}",
+            "Nothing",
+            "SetPenWidth Foo=1",
+            "hex 0",
+            "SetPenWidth PenWidth=x",
+            "hex \"",
+            "Comment CommentData=1:odd",
+        ] {
             assert!(assemble(text).is_err(), "{text}");
         }
     }

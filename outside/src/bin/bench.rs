@@ -13,7 +13,8 @@ const SHORT: usize = JOB_MAX / 10;
 /// One kind of work: its name and its jobs, all bytes together about `length`.
 fn kinds(length: usize) -> Vec<(&'static str, Vec<Vec<u8>>)> {
     let session = "BeginSession Measure=0 UnitsPerMeasure=(600,600)";
-    let page = format!("header low; {session}; OpenDataSource SourceType=0 DataOrg=1; BeginPage Orientation=0 MediaSize=0");
+    let page =
+        format!("header low; {session}; OpenDataSource SourceType=0 DataOrg=1; BeginPage Orientation=0 MediaSize=0");
     let cursor = format!("{page}; SetCursor Point=(1,1)");
     let motif = "motif \"a\" { header low; SetCursor Point=(1,1); repeat 9 { LinePath EndPoint=(1,1) }; PushGS; NewPath; PopGS }";
     let called = page.replace("; BeginPage", &format!("; {motif}; BeginPage"));
@@ -66,7 +67,12 @@ fn best(mut run: impl FnMut()) -> Duration {
     best
 }
 
-fn judged(jobs: &[Vec<u8>], work: &mut [u8], list: &mut [u8], check: fn(&[u8], &mut [u8], &mut [u8]) -> Verdict) -> Duration {
+fn judged(
+    jobs: &[Vec<u8>],
+    work: &mut [u8],
+    list: &mut [u8],
+    check: fn(&[u8], &mut [u8], &mut [u8]) -> Verdict,
+) -> Duration {
     best(|| {
         for job in jobs {
             black_box(check(black_box(job), work, list));
@@ -81,7 +87,10 @@ fn micros(d: Duration) -> f64 {
 fn main() {
     let mut work = vec![0u8; plain::STORE];
     let mut list = vec![0u8; 16 * (LONG + 1)];
-    println!("{:<22} {:>10} {:>10} {:>10} {:>9} {:>9} {:>9}", "kind (61,440 bytes)", "linked us", "plain us", "bare us", "/ plain", "/ bare", "growth");
+    println!(
+        "{:<22} {:>10} {:>10} {:>10} {:>9} {:>9} {:>9}",
+        "kind (61,440 bytes)", "linked us", "plain us", "bare us", "/ plain", "/ bare", "growth"
+    );
     let mut faulty = false;
     let word = std::env::args().nth(1).unwrap_or_default();
     for ((name, long), (_, short)) in kinds(LONG).into_iter().zip(kinds(SHORT)) {
@@ -107,25 +116,39 @@ fn main() {
         let ratio = |a: Duration, b: Duration| micros(a) / micros(b).max(1e-3);
         println!(
             "{name:<22} {:>10.1} {:>10.1} {:>10.1} {:>9.2} {:>9.2} {:>9.2}",
-            micros(linked), micros(own), micros(bare), ratio(linked, own), ratio(linked, bare), ratio(linked, small)
+            micros(linked),
+            micros(own),
+            micros(bare),
+            ratio(linked, own),
+            ratio(linked, bare),
+            ratio(linked, small)
         );
     }
     println!("growth is the time for 61,440 bytes by that for 6,144; 10 is in proportion");
 
     // 32 motifs, each of four calls of the one before: 4 to the 32nd, 2 to the 64th operators.
-    let mut tower = String::from("header low; BeginSession Measure=0 UnitsPerMeasure=(600,600); OpenDataSource SourceType=0 DataOrg=1\n");
+    let mut tower = String::from(
+        "header low; BeginSession Measure=0 UnitsPerMeasure=(600,600); OpenDataSource SourceType=0 DataOrg=1\n",
+    );
     tower.push_str("motif [1] { header low; repeat 4 { PaintPath } }\n");
     for k in 2..=32 {
         tower.push_str(&format!("motif [{k}] {{ header low; repeat 4 {{ ExecStream StreamName=[{}] }} }}\n", k - 1));
     }
-    tower.push_str("BeginPage Orientation=0 MediaSize=0; ExecStream StreamName=[32]; EndPage; CloseDataSource; EndSession\n");
+    tower.push_str(
+        "BeginPage Orientation=0 MediaSize=0; ExecStream StreamName=[32]; EndPage; CloseDataSource; EndSession\n",
+    );
     let tower = vec![assemble(&tower).expect("a tower")];
     let want = plain::check(&tower[0], &mut work, &mut list);
     let got = ffi::check(&tower[0], &mut work, &mut list);
     faulty |= want.code != 26 || got != want;
     let linked = judged(&tower, &mut work, &mut list, ffi::check);
     let own = judged(&tower, &mut work, &mut list, plain::check);
-    println!("tower of 2^64 operators: code {}, linked {:.1} us, plain {:.1} us", got.code, micros(linked), micros(own));
+    println!(
+        "tower of 2^64 operators: code {}, linked {:.1} us, plain {:.1} us",
+        got.code,
+        micros(linked),
+        micros(own)
+    );
     if faulty {
         std::process::exit(1);
     }
