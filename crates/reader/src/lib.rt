@@ -5,10 +5,10 @@ mod order;
 mod reading;
 
 pub use due::row_of;
-pub use order::may_come;
 pub use order::Image;
 pub use order::Phase;
-pub use reading::operator_at;
+pub use order::may_come;
 pub use reading::Context;
 pub use reading::Operator;
 pub use reading::Read;
+pub use reading::operator_at;

@@ -11,14 +11,14 @@ ghost use Rattle.scope.specs.Table.{table, lineIn};
 ghost use Rattle.scope.specs.Data.{reads};
 ghost use Rattle.reader.specs.Views.{phaseAs, imageAs, dueAs, foundAs, Placed};
 ghost use Rattle.reader.specs.Reads.{contextAs, readAs, Within};
-use crate::data::block_at;
 use crate::data::Found;
+use crate::data::block_at;
+use crate::due::Due;
 use crate::due::due_of;
 use crate::due::rows_fit;
-use crate::due::Due;
-use crate::order::may_come;
 use crate::order::Image;
 use crate::order::Phase;
+use crate::order::may_come;
 use rules::Fault;
 use wire::Scan;
 

@@ -18,12 +18,12 @@ ghost use Rattle.motif.specs.Held.{Keeps};
 ghost use Rattle.motif.specs.Pictures.{pictureAs, imageIn};
 ghost use Rattle.stream.specs.Judging.{Follows, Turns, Judges, Ahead, Lands, called};
 use arm::both::Both;
+use motif::Picture;
+use motif::Where;
 use motif::act_of;
 use motif::find;
-use motif::Where;
 use motif::name_in;
 use motif::picture_after;
-use motif::Picture;
 use reader::Context;
 use reader::Operator;
 use reader::Phase;
@@ -105,7 +105,16 @@ fn enter(o: Operator, inside: Inside, depth: usize, sum: u64) -> Turn
 }
 
 // A call: only of a motif already held.
-fn call(s: &[u8], o: Operator, attrs: &[usize; 80], inside: Inside, job: &[u8], rows: &[usize; 192], sums: &[u64; 64], held: usize) -> Turn
+fn call(
+    s: &[u8],
+    o: Operator,
+    attrs: &[usize; 80],
+    inside: Inside,
+    job: &[u8],
+    rows: &[usize; 192],
+    sums: &[u64; 64],
+    held: usize,
+) -> Turn
     ensures { λ r. ⌜ Lands (o .next) (inside .saved) r ⌝ }
     ensures { λ r. ⌜ ((ms : List Motif) (w : scope.Inside) → Sized (now (attrs .entry)) (o .count) → held ≤ 64 → Keeps (now (job .entry)) (now (rows .entry)) (now (sums .entry)) held ms
         → Follows ms inside w → Turns ms r (called ms (now (s .entry)) (operatorAs o (now (attrs .entry))) w)) ⌝ }
@@ -167,7 +176,16 @@ fn balanced(len: usize, saved: usize, depth: usize, both: Both) -> Judged
 }
 
 // One operator of a motif.
-fn advance(s: &[u8], high: bool, inside: Inside, job: &[u8], rows: &[usize; 192], sums: &[u64; 64], held: usize, attrs: &mut [usize; 80]) -> Turn
+fn advance(
+    s: &[u8],
+    high: bool,
+    inside: Inside,
+    job: &[u8],
+    rows: &[usize; 192],
+    sums: &[u64; 64],
+    held: usize,
+    attrs: &mut [usize; 80],
+) -> Turn
     requires { ⌜ (inside .at ≤ length (now s)) × (inside .saved ≤ inside .at) ⌝ }
     ensures { λ _. ⌜ length (now (attrs .exit)) ≡ length (now (attrs .entry)) ⌝ }
     ensures { λ r. ⌜ Ahead (length (now (s .entry))) (inside .at) r ⌝ }
@@ -194,7 +212,16 @@ fn advance(s: &[u8], high: bool, inside: Inside, job: &[u8], rows: &[usize; 192]
 }
 
 // The operators of a motif whose header ends at `next`.
-fn operators(s: &[u8], high: bool, next: usize, job: &[u8], rows: &[usize; 192], sums: &[u64; 64], held: usize, attrs: &mut [usize; 80]) -> Judged
+fn operators(
+    s: &[u8],
+    high: bool,
+    next: usize,
+    job: &[u8],
+    rows: &[usize; 192],
+    sums: &[u64; 64],
+    held: usize,
+    attrs: &mut [usize; 80],
+) -> Judged
     requires { ⌜ next ≤ length (now s) ⌝ }
     ensures { λ _. ⌜ length (now (attrs .exit)) ≡ length (now (attrs .entry)) ⌝ }
     ensures { λ r. ⌜ ((ms : List Motif) → length (now (attrs .entry)) ≡ 80 → held ≤ 64 → Keeps (now (job .entry)) (now (rows .entry)) (now (sums .entry)) held ms
@@ -220,7 +247,14 @@ fn operators(s: &[u8], high: bool, next: usize, job: &[u8], rows: &[usize; 192],
 }
 
 // A motif, where these are held: `rows` and `sums` keep them, and names lie in the job.
-pub fn judge_motif(s: &[u8], job: &[u8], rows: &[usize; 192], sums: &[u64; 64], held: usize, attrs: &mut [usize; 80]) -> Judged
+pub fn judge_motif(
+    s: &[u8],
+    job: &[u8],
+    rows: &[usize; 192],
+    sums: &[u64; 64],
+    held: usize,
+    attrs: &mut [usize; 80],
+) -> Judged
     ensures { λ _. ⌜ length (now (attrs .exit)) ≡ length (now (attrs .entry)) ⌝ }
     ensures { λ r. ⌜ ((ms : List Motif) → length (now (attrs .entry)) ≡ 80 → held ≤ 64 → Keeps (now (job .entry)) (now (rows .entry)) (now (sums .entry)) held ms
         → Judges ms r (motifOf ms (now (s .entry)))) ⌝ }

@@ -1,5 +1,5 @@
 // A motif judged when EndStream holds it, and what it comes to, so that its calls are judged without drawing it.
 mod judging;
 
-pub use judging::judge_motif;
 pub use judging::Judged;
+pub use judging::judge_motif;

@@ -41,29 +41,40 @@ unfolding operatorAt scanned
 returns c =
     let f = c .before .before .before .before .before in
     let a = f .before .before .before .args in
-    let w = rw (c .before .before .before .tag .given .1) at (f .scan-at .ensures .1 .1) in
-    (f .scan-at .ensures .0, (
-    (λ z. let y : Sized _ _ = record { long = f .scan-at .ensures .0 ∙ z; few = w .2 } in
-        c .with-line .ensures .0 y ∙ ap (scanned (contextAs (a .c)) (a .s .now)) (rw (c .before .before .before .tag .given .1) at (f .scan-at .ensures .1 .0 z))),
-    within-from (length (a .s .now)) (a .start) _ (c .with-line .result) (w .0) (c .with-line .ensures .1)))
+    let w = rw (c .before .before .before .tag .given .1) at (f .scan-at .ensures .1 .1) in (
+      f .scan-at .ensures .0,
+      (
+        (λ z. let y : Sized _ _ = record { long = f .scan-at .ensures .0 ∙ z; few = w .2 } in
+            c .with-line .ensures .0 y ∙ ap (scanned (contextAs (a .c)) (a .s .now)) (rw (c .before .before .before .tag .given .1) at (f .scan-at .ensures .1 .0 z))),
+        within-from (length (a .s .now)) (a .start) _ (c .with-line .result) (w .0) (c .with-line .ensures .1),
+      ),
+    )
 
 -- src/reading.rt:156:1
 returns-2 : tie.Need-returns-2
 unfolding operatorAt scanned
 returns-2 c =
     let f = c .before .before in
-    let a = f .before .before .before .args in
-    (f .scan-at .ensures .0, (
-    (λ z. ap (scanned (contextAs (a .c)) (a .s .now)) (rw (c .enum-told .given .1) at (f .scan-at .ensures .1 .0 z))), tt))
+    let a = f .before .before .before .args in (
+      f .scan-at .ensures .0,
+      (
+        (λ z. ap (scanned (contextAs (a .c)) (a .s .now)) (rw (c .enum-told .given .1) at (f .scan-at .ensures .1 .0 z))),
+        tt,
+      ),
+    )
 
 -- src/reading.rt:156:1
 returns-3 : tie.Need-returns-3
 unfolding operatorAt scanned
 returns-3 c =
     let f = c .before .before .before in
-    let a = f .before .before .before .args in
-    (f .scan-at .ensures .0, (
-    (λ z. ap (scanned (contextAs (a .c)) (a .s .now)) (rw (c .before .code .given .1) at (f .scan-at .ensures .1 .0 z))), tt))
+    let a = f .before .before .before .args in (
+      f .scan-at .ensures .0,
+      (
+        (λ z. ap (scanned (contextAs (a .c)) (a .s .now)) (rw (c .before .code .given .1) at (f .scan-at .ensures .1 .0 z))),
+        tt,
+      ),
+    )
 
 pub operator-at-spec : {M : Type 1} → statement M
 operator-at-spec =

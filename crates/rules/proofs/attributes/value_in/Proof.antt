@@ -48,16 +48,20 @@ returns : tie.Need-returns
 unfolding firstOf rowAt
 returns c =
     let e = c .before .before .before .before in
-    let a = e .before .before .args in
-    (λ z. sym (value-at (a .number) (a .attrs .now) (a .n) (e .place-of .result) (z .few) (e .place-of .ensures .1 z) (a .high) (a .s .now)
-    ∙ rw (lt-ltb _ _ (c .before .before .before .if1 .taken)) (sym (c .first-of .ensures .0))), c .first-of .ensures .1)
+    let a = e .before .before .args in (
+      λ z. sym (value-at (a .number) (a .attrs .now) (a .n) (e .place-of .result) (z .few) (e .place-of .ensures .1 z) (a .high) (a .s .now)
+          ∙ rw (lt-ltb _ _ (c .before .before .before .if1 .taken)) (sym (c .first-of .ensures .0))),
+      c .first-of .ensures .1,
+    )
 
 returns-2 : tie.Need-returns-2
 returns-2 c =
     let e = c .before in
-    let a = e .before .before .args in
-    (λ z. sym (value-at (a .number) (a .attrs .now) (a .n) (e .place-of .result) (z .few) (e .place-of .ensures .1 z) (a .high) (a .s .now)
-    ∙ rw (le-ltb _ _ (c .if1 .left))), lit< tt)
+    let a = e .before .before .args in (
+      λ z. sym (value-at (a .number) (a .attrs .now) (a .n) (e .place-of .result) (z .few) (e .place-of .ensures .1 z) (a .high) (a .s .now)
+          ∙ rw (le-ltb _ _ (c .if1 .left))),
+      lit< tt,
+    )
 
 pub value-in-spec : {M : Type 1} → statement M
 value-in-spec =

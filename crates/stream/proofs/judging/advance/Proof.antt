@@ -66,10 +66,14 @@ returns c =
     let a = st .args in
     let e = c .before .before .before .before .before .o .given .1 in
     let o = c .before .before .before .before .before .o .given .0 .0 in
-    let v = rw e at (f .operator-at .ensures .1 .1) in
-    (f .operator-at .ensures .0, (ahead-lands (length (a .s .now)) (a .inside .at) (o .next) (a .inside .saved) (c .call .result) (omega arith) (v .2) (st .pre .1) (c .call .ensures .0),
-      λ ms w l h k g. step-call ms (a .high) (a .s .now) w _ _ (read-is f ms w l g ∙ rw e) (c .before .before .if1 .taken)
-      (c .call .ensures .1 ms w (record { long = f .operator-at .ensures .0 ∙ l; few = v .4 }) h k g)))
+    let v = rw e at (f .operator-at .ensures .1 .1) in (
+      f .operator-at .ensures .0,
+      (
+        ahead-lands (length (a .s .now)) (a .inside .at) (o .next) (a .inside .saved) (c .call .result) (omega arith) (v .2) (st .pre .1) (c .call .ensures .0),
+        λ ms w l h k g. step-call ms (a .high) (a .s .now) w _ _ (read-is f ms w l g ∙ rw e) (c .before .before .if1 .taken)
+            (c .call .ensures .1 ms w (record { long = f .operator-at .ensures .0 ∙ l; few = v .4 }) h k g),
+      ),
+    )
 
 -- src/judging.rt:191:13
 deed-requires : tie.Need-deed-requires
@@ -86,9 +90,14 @@ returns-2 c =
 returns-3 : tie.Need-returns-3
 returns-3 c =
     let f = c .before .before .before in
-    let a = f .before .before .before .before .before .args in
-    (f .operator-at .ensures .0, (tt, λ ms w l h k g. step-ended ms (a .high) (a .s .now) w _ (read-is f ms w l g ∙ rw (c .before .enum-told .given .1))
-      (c .ended .ensures ms w (a .s .now) refl (keeps-balanced k) g)))
+    let a = f .before .before .before .before .before .args in (
+      f .operator-at .ensures .0,
+      (
+        tt,
+        λ ms w l h k g. step-ended ms (a .high) (a .s .now) w _ (read-is f ms w l g ∙ rw (c .before .enum-told .given .1))
+            (c .ended .ensures ms w (a .s .now) refl (keeps-balanced k) g),
+      ),
+    )
 
 -- src/judging.rt:170:1
 returns-4 : tie.Need-returns-4
@@ -98,13 +107,17 @@ returns-4 c =
     let a = st .args in
     let e = c .before .before .before .before .before .o .given .1 in
     let o = c .before .before .before .before .before .o .given .0 .0 in
-    let v = rw e at (f .operator-at .ensures .1 .1) in
-    (f .operator-at .ensures .0, (ahead-lands (length (a .s .now)) (a .inside .at) (o .next) (a .inside .saved) (c .deed .result) (omega arith) (v .2) (st .pre .1) (c .deed .ensures .0),
-      λ ms w l h k g.
-        let q = rw e at (read-is f ms w l g) in
-        step-deed ms (a .high) (a .s .now) w _ _ q (c .before .before .if1 .left)
-        (c .deed .ensures .1 ms w (record { long = f .operator-at .ensures .0 ∙ l; few = v .4 }) g
-        (rows-read (a .high) (a .s .now) w _ q) (pop-read (a .high) (a .s .now) w _ q))))
+    let v = rw e at (f .operator-at .ensures .1 .1) in (
+      f .operator-at .ensures .0,
+      (
+        ahead-lands (length (a .s .now)) (a .inside .at) (o .next) (a .inside .saved) (c .deed .result) (omega arith) (v .2) (st .pre .1) (c .deed .ensures .0),
+        λ ms w l h k g.
+            let q = rw e at (read-is f ms w l g) in
+            step-deed ms (a .high) (a .s .now) w _ _ q (c .before .before .if1 .left)
+            (c .deed .ensures .1 ms w (record { long = f .operator-at .ensures .0 ∙ l; few = v .4 }) g
+            (rows-read (a .high) (a .s .now) w _ q) (pop-read (a .high) (a .s .now) w _ q)),
+      ),
+    )
 
 pub advance-spec : {M : Type 1} → statement M
 advance-spec =

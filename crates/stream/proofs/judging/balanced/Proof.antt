@@ -27,8 +27,8 @@ returns-2 : tie.Need-returns-2
 returns-2 c =
     let a = c .before .before .before .args in
     λ ms ops b r l. rw (eq-eqb _ 0 (c .before .before .if1 .left))
-      (ended-even ms ops _ (a .depth) b (rw (c .before .before .if1 .left) at l)
-      (λ row e k q. c .packed .ensures row (c .before .summary .ensures row (rw q (r k)) e)))
+    (ended-even ms ops _ (a .depth) b (rw (c .before .before .if1 .left) at l)
+    (λ row e k q. c .packed .ensures row (c .before .summary .ensures row (rw q (r k)) e)))
 
 pub balanced-spec : {M : Type 1} → statement M
 balanced-spec = tie.close (tie.spec returns summary-requires packed-requires returns-2)

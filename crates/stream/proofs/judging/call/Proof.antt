@@ -76,9 +76,11 @@ returns-2 : tie.Need-returns-2
 returns-2 c =
     let f = c .before .before .before .before .before .before in
     let n = f .before in
-    let a = n .before .before .before .args in
-    (c .enter .ensures .0, λ ms w z h k g. called-at ms (a .s .now) (operatorAs (a .o) (a .attrs .now)) w _ (n .name-in .ensures .1 z) _ _ (c .before .before .before .before .i .given .1) (f .find .ensures .1 _ ms h k (n .name-in .ensures .0))
-      (λ m d u. c .enter .ensures .1 ms w m _ (a .attrs .now) g d u))
+    let a = n .before .before .before .args in (
+      c .enter .ensures .0,
+      λ ms w z h k g. called-at ms (a .s .now) (operatorAs (a .o) (a .attrs .now)) w _ (n .name-in .ensures .1 z) _ _ (c .before .before .before .before .i .given .1) (f .find .ensures .1 _ ms h k (n .name-in .ensures .0))
+          (λ m d u. c .enter .ensures .1 ms w m _ (a .attrs .now) g d u),
+    )
 
 pub call-spec : {M : Type 1} → statement M
 call-spec =

@@ -39,11 +39,13 @@ deeper-requires c κs = search needs
 returns-2 : tie.Need-returns-2
 returns-2 c =
     let b = c .before .before .before .before .before in
-    let a = b .args in
-    ((refl, omega arith), λ ms w m name attrs f e u.
-      let h : m .depth < 32 = rw e at (c .before .before .before .before .if1 .left) in
-      enter-on ms (operatorAs (a .o) attrs) name w m (a .inside) _ f h refl refl refl (c .deeper .ensures ∙ rw e)
-      (λ row x r i. c .before .call .ensures row _ x r i (c .before .before .unpacked .ensures _ u)))
+    let a = b .args in (
+      (refl, omega arith),
+      λ ms w m name attrs f e u.
+          let h : m .depth < 32 = rw e at (c .before .before .before .before .if1 .left) in
+          enter-on ms (operatorAs (a .o) attrs) name w m (a .inside) _ f h refl refl refl (c .deeper .ensures ∙ rw e)
+          (λ row x r i. c .before .call .ensures row _ x r i (c .before .before .unpacked .ensures _ u)),
+    )
 
 pub enter-spec : {M : Type 1} → statement M
 enter-spec =

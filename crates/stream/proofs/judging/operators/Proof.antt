@@ -58,10 +58,14 @@ loop-again c =
     let l = d .before .before .loop in
     let a = d .before .before .before .before .before .before .args in
     let e = c .before .on .given .1 in
-    let p = rw e at (d .advance .ensures .1 .0) in
-    (d .advance .ensures .0 ∙ l .inv .0, p .1, p .2, λ ms z h k.
-      let v = l .inv .3 ms z h k in
-      turned-go ms (a .high) (a .s .now) _ _ (v .0) (v .1 .1) (rw e at (d .advance .ensures .1 .1 ms (v .0) (l .inv .0 ∙ z) h k (v .1 .0))))
+    let p = rw e at (d .advance .ensures .1 .0) in (
+      d .advance .ensures .0 ∙ l .inv .0,
+      p .1,
+      p .2,
+      λ ms z h k.
+          let v = l .inv .3 ms z h k in
+          turned-go ms (a .high) (a .s .now) _ _ (v .0) (v .1 .1) (rw e at (d .advance .ensures .1 .1 ms (v .0) (l .inv .0 ∙ z) h k (v .1 .0))),
+    )
 
 -- src/judging.rt:215:24
 enum-known-judged : tie.Need-enum-known-judged Inv-loop μ-loop
@@ -73,10 +77,12 @@ returns c =
     let d = c .before .before .before in
     let l = d .before .before .loop in
     let a = d .before .before .before .before .before .before .args in
-    let e = c .before .judged .given .1 in
-    (d .advance .ensures .0 ∙ l .inv .0, λ ms z h k.
-      let v = l .inv .3 ms z h k in
-      turned-stop ms (a .high) (a .s .now) _ _ (v .0) (v .1 .1) (rw e at (d .advance .ensures .1 .1 ms (v .0) (l .inv .0 ∙ z) h k (v .1 .0))))
+    let e = c .before .judged .given .1 in (
+      d .advance .ensures .0 ∙ l .inv .0,
+      λ ms z h k.
+          let v = l .inv .3 ms z h k in
+          turned-stop ms (a .high) (a .s .now) _ _ (v .0) (v .1 .1) (rw e at (d .advance .ensures .1 .1 ms (v .0) (l .inv .0 ∙ z) h k (v .1 .0))),
+    )
 
 pub operators-spec : {M : Type 1} → statement M
 operators-spec =
