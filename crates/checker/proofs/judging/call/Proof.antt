@@ -1,0 +1,42 @@
+use mathlib.Core.Path.{refl, sym, _∙_}
+use Rattle.scope.specs.Session.{sessionOf}
+use Rattle.checker.proofs.Ruling.{call-judged}
+use borrow.Author.Needs.{needs}
+use Rattle.checker.proofs.judging.call.Statement.{statement}
+use Rattle.checker.proofs.judging.call.Tie as tie
+use Rattle.checker.proofs.judging.call.Reads as reads
+use Rattle.checker.proofs.judging.call.Lts as lts
+use Rattle.arm.proofs.page.Page.call.Reads as call-reads
+use Rattle.arm.proofs.summary.unpacked.Reads as unpacked-reads
+use Rattle.session.proofs.opened_in.Reads as opened-in-reads
+use Rattle.session.proofs.page_in.Reads as page-in-reads
+
+-- src/judging.rt:52:9
+page-in-requires : tie.Need-page-in-requires
+page-in-requires c κs = search needs
+
+-- src/judging.rt:53:9
+opened-in-requires : tie.Need-opened-in-requires
+opened-in-requires c κs = search needs
+
+-- src/judging.rt:54:15
+unpacked-requires : tie.Need-unpacked-requires
+unpacked-requires c κs = search needs
+
+-- src/judging.rt:54:5
+call-requires : tie.Need-call-requires
+call-requires c κs = search needs
+
+-- src/judging.rt:48:1
+returns : tie.Need-returns
+returns c =
+    let a = c .before .before .before .before .args in
+    λ q st job rows sums work high o h e f.
+    call-judged high job st (sessionOf q) o (c .before .before .opened-in .result) (a .performed) (c .call .result)
+    (c .before .before .opened-in .ensures q job rows sums work h) e (a .sum) f
+    (λ row k. c .call .ensures _ _ row (c .before .before .before .page-in .ensures q job rows sums work h) refl (c .before .unpacked .ensures row k))
+
+pub call-spec : {M : Type 1} → statement M
+call-spec =
+    tie.close
+    (tie.spec page-in-requires opened-in-requires unpacked-requires call-requires returns)

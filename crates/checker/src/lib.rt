@@ -1,0 +1,6 @@
+// The checker: one call judges one job.
+mod judging;
+mod stepping;
+mod verdict;
+
+pub use verdict::Verdict;

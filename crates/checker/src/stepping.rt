@@ -1,0 +1,122 @@
+// A job, operator by operator.
+ghost use mathlib.Core.Path.{_≡_};
+ghost use mathlib.Core.Bool.{Bool};
+ghost use mathlib.Core.List.{List};
+ghost use Prim.Native.Nat.{ℕ, suc, _+_, _*_, _≤_, _<_};
+ghost use lib.ListN.{length, drop};
+ghost use Rattle.scope.specs.Choice.{pick};
+ghost use Rattle.wire.specs.Rows.{Sized};
+ghost use Rattle.scope.specs.Reading.{operatorAt, operator};
+ghost use Rattle.scope.specs.Session as session;
+ghost use Rattle.scope.specs.Judge as scope;
+ghost use Rattle.scope.specs.Judge.{contextOf, onRead, jobStep, judgedFrom};
+ghost use Rattle.scope.specs.Verdict as verdict;
+ghost use Rattle.scope.specs.Verdict.{every};
+ghost use Rattle.reader.specs.Reads.{operatorAs};
+ghost use Rattle.session.specs.Places.{PlaceHolds};
+ghost use Rattle.checker.specs.Views.{verdictAs};
+ghost use Rattle.checker.specs.Standing.{Stands, Listed, Comes, Steps, Goes, Lasts, endCode};
+use crate::verdict::OUTER;
+use crate::verdict::Verdict;
+use crate::verdict::told;
+use arm::page::Page;
+use reader::Operator;
+use session::Early;
+use session::Place;
+
+// Where the judging of a job stands.
+pub struct State {
+    pub at: usize,
+    pub place: Place,
+    pub performed: u32,
+    pub records: usize,
+}
+
+// The judging goes on, or ends with a verdict.
+pub enum Step {
+    Go(State),
+    Stop(Verdict),
+}
+
+// A refusal, or the pass, where the judging stands.
+fn stop(st: State, code: u32, position: usize, inner: u32) -> Verdict
+    ensures { λ r. ⌜ ((d : scope.State) → position < 4_294_967_296 → st .records < 4_294_967_296 → st .records ≡ d .records → st .performed ≡ d .performed
+        → verdictAs r ≡ verdict.told (scope.refusedAt code position inner d)) ⌝ }
+{
+    told(code, position, inner, st.records, st.performed)
+}
+
+fn pass_after(one: bool) -> u32
+    ensures { λ r. ⌜ r ≡ pick one 0 27 ⌝ }
+{
+    if one { 0 } else { 27 }
+}
+
+// The code at the end of the job: pass between sessions, after one at least; else 27.
+fn end_code(place: Place) -> u32
+    ensures { λ r. ⌜ ((q : session.Place) (job rows sums work : List ℕ) → PlaceHolds job rows sums work place q → r ≡ endCode q) ⌝ }
+{
+    match place {
+        Place::Outside(after_one) => pass_after(after_one),
+        Place::Inside(_, _, _, _) => 27,
+    }
+}
+
+// An operator that breaks no rule but perhaps that of the room: its records, and where the job stands after it.
+fn go_on(
+    job: &[u8],
+    high: bool,
+    gray: bool,
+    work: &mut [u8],
+    list: &mut [u8],
+    rows: &mut [usize; 192],
+    sums: &mut [u64; 64],
+    attrs: &[usize; 80],
+    st: State,
+    o: Operator,
+    early: Early,
+    page: Page,
+    performed: u32,
+) -> Step
+    requires { ⌜ (length (now job) ≤ 61440) × (16384 ≤ length (now work)) × (st .at ≤ o .at) × (o .at < o .next) × (o .next ≤ length (now job)) × (o .count ≤ 16) × (st .records ≤ st .at * 17) ⌝ }
+    ensures { λ _. ⌜ Lasts (now (work .entry)) (now (list .entry)) (now (work .exit)) (now (list .exit)) ⌝ }
+    ensures { λ r. ⌜ Goes (length (now (job .entry))) (st .at) r ⌝ }
+    ensures { λ r. ⌜ ((d : scope.State) (list₀ : List ℕ) → length list₀ ≡ length (now (list .entry)) → Sized (now (attrs .entry)) (o .count) → o .first + o .length ≤ length (now (job .entry))
+        → Stands (now (job .entry)) list₀ (record { rows = now (rows .entry); sums = now (sums .entry); work = now (work .entry); list = now (list .entry) }) st d
+        → Comes (now (job .entry)) list₀ (record { high = high; gray = gray }) d (operatorAs o (now (attrs .entry))) early page performed
+        → Steps (now (job .entry)) list₀ (record { rows = now (rows .exit); sums = now (sums .exit); work = now (work .exit); list = now (list .exit) }) r
+        (onRead every (record { high = high; gray = gray }) (now (job .entry)) (length list₀) d (operator (operatorAs o (now (attrs .entry)))))) ⌝ }
+{
+    let place = st.place;
+    if !buffer::list_operator(
+        list,
+        st.records,
+        attrs,
+        o.count,
+        o.tag,
+        o.at,
+        o.length,
+        o.first,
+    ) {
+        return Step::Stop(stop(st, 28, o.at, OUTER));
+    }
+    let next = session::place_after(
+        job,
+        high,
+        gray,
+        o,
+        attrs,
+        early,
+        page,
+        place,
+        work,
+        rows,
+        sums,
+    );
+    Step::Go(State {
+        at: o.next,
+        place: next,
+        performed,
+        records: st.records + o.count + 1,
+    })
+}
