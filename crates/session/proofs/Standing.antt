@@ -1,0 +1,74 @@
+-- What the place that the code keeps says of the place of the definitions: phase, source, page.
+-- Assumes nothing.
+use Prim.Native.Nat.{ℕ}
+use mathlib.Core.Path.{_≡_, refl, sym, ap, _∙_}
+use mathlib.Core.Bool.{Bool, true, false}
+use mathlib.Core.List.{List}
+use lib.ListN.{length}
+use Rattle.scope.specs.Order as order
+use Rattle.scope.specs.Motif as motif
+use Rattle.scope.specs.Arm.{blank}
+use Rattle.scope.specs.Session as scope
+use Rattle.scope.specs.Session.{phaseDrawing, phaseBusy, phaseOf, pageOf, sessionOf}
+use Rattle.reader.specs.Views.{phaseAs, imageAs}
+use Rattle.reader.specs.declared.order.Image.{Image}
+use Rattle.reader.specs.declared.order.Phase.{Phase}
+use Rattle.arm.specs.Holds.{PageHolds}
+use Rattle.arm.specs.declared.page.Page.{Page}
+use Rattle.arm.proofs.Stacks.{depth-saved}
+use Rattle.motif.specs.declared.picture.Picture.the-variants.{Nothing, Being}
+use Rattle.motif.specs.declared.picture.Picture.{Picture}
+use Rattle.session.specs.Places.{BusyHolds, resting-holds, reading-holds, drawing-holds, PlaceHolds, outside-holds, inside-holds}
+use Rattle.session.specs.declared.place.Busy.{Busy}
+use Rattle.session.specs.declared.place.Busy.the-variants.{Resting, Reading, Drawing}
+use Rattle.session.specs.declared.place.Place.the-variants.{Outside, Inside}
+
+module _ {job work : List ℕ} {used : ℕ} where
+  pub page-phase : {p : Page} {q : scope.Busy} → BusyHolds job work used (Drawing p Nothing) q → order.in-page (p .depth) ≡ phaseBusy q
+  unfolding phaseBusy phaseDrawing
+  page-phase {p} (drawing-holds {q = q} {v = v} h e) = rw (← e) (ap order.in-page (depth-saved p q (h .same)))
+
+  pub image-phase : {p : Page} {i : Image} {q : scope.Busy} → BusyHolds job work used (Drawing p (Being i)) q → order.in-image (imageAs i) ≡ phaseBusy q
+  unfolding phaseBusy phaseDrawing
+  image-phase (drawing-holds h e) = rw (← e)
+
+  pub rest-phase : {q : scope.Busy} → BusyHolds job work used Resting q → order.in-session ≡ phaseBusy q
+  unfolding phaseBusy
+  rest-phase resting-holds = refl
+
+  pub stream-phase : {a l j : ℕ} {q : scope.Busy} → BusyHolds job work used (Reading a l j) q → order.in-stream ≡ phaseBusy q
+  unfolding phaseBusy
+  stream-phase (reading-holds n j t u) = refl
+
+  pub rest-page : {p : Page} {q : scope.Busy} → PageHolds p (blank false) → BusyHolds job work used Resting q → PageHolds p (pageOf q)
+  rest-page h resting-holds = h
+
+  pub stream-page : {p : Page} {a l j : ℕ} {q : scope.Busy} → PageHolds p (blank false) → BusyHolds job work used (Reading a l j) q → PageHolds p (pageOf q)
+  stream-page h (reading-holds n j t u) = h
+
+  pub drawn-page : {p : Page} {i : Picture} {q : scope.Busy} → BusyHolds job work used (Drawing p i) q → PageHolds p (pageOf q)
+  drawn-page (drawing-holds h e) = h
+
+module _ {job rows sums work : List ℕ} where
+  pub outer-phase : {b : Bool} {q : scope.Place} → PlaceHolds job rows sums work (Outside b) q → order.between-sessions ≡ phaseOf q
+  unfolding phaseOf
+  outer-phase outside-holds = refl
+
+  pub outer-opened : {b : Bool} {q : scope.Place} → PlaceHolds job rows sums work (Outside b) q → false ≡ sessionOf q .opened
+  outer-opened outside-holds = refl
+
+  pub outer-page : {p : Page} {b : Bool} {q : scope.Place} → PageHolds p (blank false) → PlaceHolds job rows sums work (Outside b) q → PageHolds p (pageOf (sessionOf q .busy))
+  outer-page h outside-holds = h
+
+  module _ {o : Bool} {n used : ℕ} {b : Busy} where
+    pub inner-phase : {q : scope.Place} (r : Phase) → ((x : scope.Busy) (job work : List ℕ) (used : ℕ) → BusyHolds job work used b x → phaseAs r ≡ phaseBusy x)
+        → PlaceHolds job rows sums work (Inside o n used b) q → phaseAs r ≡ phaseOf q
+    unfolding phaseOf
+    inner-phase r f (inside-holds {x = x} e h u w k y) = f (x .busy) job work used y
+
+    pub inner-opened : {q : scope.Place} → PlaceHolds job rows sums work (Inside o n used b) q → o ≡ sessionOf q .opened
+    inner-opened (inside-holds e h u w k y) = e
+
+    pub inner-page : {q : scope.Place} (r : Page) → ((x : scope.Busy) (job work : List ℕ) (used : ℕ) → BusyHolds job work used b x → PageHolds r (pageOf x))
+        → PlaceHolds job rows sums work (Inside o n used b) q → PageHolds r (pageOf (sessionOf q .busy))
+    inner-page r f (inside-holds {x = x} e h u w k y) = f (x .busy) job work used y
