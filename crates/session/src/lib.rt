@@ -1,6 +1,9 @@
 // A job's sessions: what each holds, the rules that an operator is judged by after reading, and where the job stands after it. The list plays no part here.
+mod early;
 mod place;
+mod standin;
 
+pub use early::Early;
 pub use place::opened_in;
 pub use place::page_in;
 pub use place::phase_of;

@@ -1,0 +1,199 @@
+-- The rules of codes 19 to 21 and of a motif at EndStream, by the operator's tag.
+-- Assumes nothing.
+use Prim.Native.Nat.{ℕ, _+_, _≤_, _<_}
+use mathlib.Core.Path.{_≡_, refl, sym, ap, _∙_}
+use mathlib.Core.Bool.{Bool, true, false, not, _&&_, _||_}
+use mathlib.Core.List.{List, [], _∷_}
+use native.Mathlib.Omega.{arith}
+use lib.ListN.{length, getD}
+use lib.Dec.{eqb, leb, ltb}
+use borrow.Author.Tests.{eq-eqb, ne-eqb, le-leb, lt-leb, lt-ltb, le-ltb}
+use Rattle.scope.specs.Choice.{pick}
+use Rattle.scope.specs.Motif.{Motif, Held, heldAs, isHeld, bytesHeld, unfolded, Judged, valid, faulty, motifOf}
+use Rattle.scope.specs.Session.{Session, joinedOf}
+use Rattle.scope.specs.Judge.{State, Case, caseOf, judgedAt, Rule, rule, motifs-own, Refusal, refused, firstBroken, ownOr, outer, tooMuch, nameHeld, nameMissing}
+use Rattle.scope.specs.Attributes.{bytesIn}
+use Rattle.wire.specs.Rows.{rowsOf}
+use Rattle.reader.specs.Reads.{operatorAs}
+use Rattle.reader.specs.declared.reading.Operator.{Operator}
+use Rattle.motif.specs.Held.{Finds, finds-at, finds-none}
+use Rattle.motif.specs.declared.names.Where.the-variants.{At, Nowhere}
+use Rattle.scope.specs.Verdict.{every}
+use Rattle.session.specs.Earlier.{before, Unbroken, Earlies, EarliesIn, early-fine, early-call, early-held, early-no}
+use Rattle.session.specs.declared.early.Early.the-variants.{Fine, Call, No}
+use Rattle.session.specs.declared.early.Early.the-variants as early
+use Rattle.arm.specs.Sums.{SumsAs}
+
+-- where none of these rules is broken, the first broken is the first of the others
+pub unbroken-first : {c : Case} → Unbroken c → (rest : List Rule) → firstBroken every c (before rest) ≡ firstBroken every c rest
+unfolding firstBroken
+unbroken-first u rest = rw (u .room, u .new, u .known) (u .sound _)
+
+module _ (c : Case) where
+  no-19 : tooMuch c ≡ true → Earlies c (No 19 outer)
+  unfolding firstBroken
+  no-19 e = early-no {code = 19} {inner = outer} (λ rest. rw e)
+
+  no-20 : tooMuch c ≡ false → nameHeld c ≡ true → Earlies c (No 20 outer)
+  unfolding firstBroken
+  no-20 a e = early-no {code = 20} {inner = outer} (λ rest. rw (a, e))
+
+  no-21 : tooMuch c ≡ false → nameHeld c ≡ false → nameMissing c ≡ true → Earlies c (No 21 outer)
+  unfolding firstBroken
+  no-21 a b e = early-no {code = 21} {inner = outer} (λ rest. rw (a, b, e))
+
+  no-own : {code inner : ℕ} → tooMuch c ≡ false → nameHeld c ≡ false → nameMissing c ≡ false → c .made ≡ faulty code inner → Earlies c (No code inner)
+  unfolding firstBroken
+  no-own {code} {inner} a b d e = early-no {code = code} {inner = inner} (λ rest. rw (a, b, d, e))
+
+  much : (k : Bool) (l : Bool) → eqb (c .op .tag) 0x5b ≡ k → eqb (c .op .tag) 0x5c ≡ l
+      → tooMuch c ≡ (k && leb 64 (length (c .session .held))) || (l && ltb 16384 (bytesHeld (c .session .held) + (length (joinedOf (c .session .busy)) + c .op .length)))
+  unfolding tooMuch
+  much k l e f = rw (e, f)
+
+  known : (k : Bool) (h : Held) → eqb (c .op .tag) 0x5b ≡ k → heldAs (c .name) (c .session .held) ≡ h → nameHeld c ≡ (k && isHeld h)
+  unfolding nameHeld
+  known k h e f = rw (e, f)
+
+  missing : (k : Bool) (h : Held) → eqb (c .op .tag) 0x5e ≡ k → heldAs (c .name) (c .session .held) ≡ h → nameMissing c ≡ (k && not (isHeld h))
+  unfolding nameMissing
+  missing k h e f = rw (e, f)
+
+  not-known : eqb (c .op .tag) 0x5b ≡ false → nameHeld c ≡ false
+  not-known e = known false (heldAs (c .name) (c .session .held)) e refl
+
+  not-missing : eqb (c .op .tag) 0x5e ≡ false → nameMissing c ≡ false
+  not-missing e = missing false (heldAs (c .name) (c .session .held)) e refl
+
+  pub sound-valid : c .made ≡ valid [] 1 → (r : Refusal) → ownOr (c .made) r ≡ r
+  sound-valid e r = rw e
+
+  -- an operator that these rules do not speak of
+  pub other-fine : (c .op .tag ≡ 0x5b → ⊥) → (c .op .tag ≡ 0x5c → ⊥) → (c .op .tag ≡ 0x5d → ⊥) → (c .op .tag ≡ 0x5e → ⊥) → c .made ≡ valid [] 1
+      → Earlies c Fine
+  other-fine b r d e m =
+      let tb = ne-eqb (c .op .tag) 0x5b b in
+      let te = ne-eqb (c .op .tag) 0x5e e in
+      early-fine te (ne-eqb (c .op .tag) 0x5d d)
+      (record { room = much false false tb (ne-eqb (c .op .tag) 0x5c r); new = not-known tb; known = not-missing te; sound = sound-valid m })
+
+-- the same of an operator with these attributes in a session
+module _ (job attrs : List ℕ) (x : Session) (o : Operator) where
+  -- nothing is judged but at EndStream
+  made-other : (st : State) (high : Bool) → (o .tag ≡ 0x5d → ⊥) → caseOf high job st x (operatorAs o attrs) .made ≡ valid [] 1
+  unfolding caseOf judgedAt
+  made-other st high h = rw (ne-eqb (o .tag) 0x5d h)
+
+  pub fine-in : (o .tag ≡ 0x5b → ⊥) → (o .tag ≡ 0x5c → ⊥) → (o .tag ≡ 0x5d → ⊥) → (o .tag ≡ 0x5e → ⊥) → EarliesIn job attrs x o Fine
+  unfolding EarliesIn caseOf
+  fine-in b r d e = λ st high. other-fine (caseOf high job st x (operatorAs o attrs)) b r d e (made-other st high d)
+
+  module _ (b : o .tag ≡ 0x5b) where
+    pub begin-much : {n : ℕ} → length (x .held) ≡ n → 64 ≤ n → EarliesIn job attrs x o (No 19 outer)
+    unfolding EarliesIn caseOf
+    begin-much l h =
+        let k : 64 ≤ length (x .held) = rw l h in
+        let nr : o .tag ≡ 0x5c → ⊥ = λ y. omega arith in
+        λ st high. no-19 (caseOf high job st x (operatorAs o attrs))
+        (much (caseOf high job st x (operatorAs o attrs)) true false (eq-eqb (o .tag) 0x5b b) (ne-eqb (o .tag) 0x5c nr) ∙ rw (le-leb 64 (length (x .held)) k))
+
+    begin-room : (st : State) (high : Bool) → length (x .held) < 64 → tooMuch (caseOf high job st x (operatorAs o attrs)) ≡ false
+    unfolding caseOf
+    begin-room st high h =
+        let nr : o .tag ≡ 0x5c → ⊥ = λ y. omega arith in
+        much (caseOf high job st x (operatorAs o attrs)) true false (eq-eqb (o .tag) 0x5b b) (ne-eqb (o .tag) 0x5c nr) ∙ rw (lt-leb 64 (length (x .held)) h)
+
+    begin-held : (m : Motif) → length (x .held) < 64 → heldAs (bytesIn job (rowsOf attrs (o .count)) 139) (x .held) ≡ Held.is m → EarliesIn job attrs x o (No 20 outer)
+    unfolding EarliesIn caseOf isHeld
+    begin-held m h e = λ st high. no-20 (caseOf high job st x (operatorAs o attrs)) (begin-room st high h)
+        (known (caseOf high job st x (operatorAs o attrs)) true (Held.is m) (eq-eqb (o .tag) 0x5b b) e)
+
+    begin-new : length (x .held) < 64 → heldAs (bytesIn job (rowsOf attrs (o .count)) 139) (x .held) ≡ Held.none → EarliesIn job attrs x o Fine
+    unfolding EarliesIn caseOf isHeld
+    begin-new h e =
+        let ne : o .tag ≡ 0x5e → ⊥ = λ y. omega arith in
+        let nd : o .tag ≡ 0x5d → ⊥ = λ y. omega arith in
+        λ st high. early-fine (ne-eqb (o .tag) 0x5e ne) (ne-eqb (o .tag) 0x5d nd)
+        (record {
+          room = begin-room st high h;
+          new = known (caseOf high job st x (operatorAs o attrs)) true Held.none (eq-eqb (o .tag) 0x5b b) e;
+          known = not-missing (caseOf high job st x (operatorAs o attrs)) (ne-eqb (o .tag) 0x5e ne);
+          sound = sound-valid (caseOf high job st x (operatorAs o attrs)) (made-other st high nd);
+        })
+
+    -- BeginStream by what a search for its name finds
+    pub begin-at : {rows sums name : List ℕ} {n i : ℕ} → length (x .held) ≡ n → n < 64 → name ≡ bytesIn job (rowsOf attrs (o .count)) 139
+        → Finds rows sums (x .held) name (At i) → EarliesIn job attrs x o (No 20 outer)
+    begin-at l h e (finds-at {m = m} f d s) = begin-held m (rw l h) (rw e at f)
+
+    pub begin-nowhere : {rows sums name : List ℕ} {n : ℕ} → length (x .held) ≡ n → n < 64 → name ≡ bytesIn job (rowsOf attrs (o .count)) 139
+        → Finds rows sums (x .held) name Nowhere → EarliesIn job attrs x o Fine
+    begin-nowhere l h e (finds-none f) = begin-new (rw l h) (rw e at f)
+
+  module _ (b : o .tag ≡ 0x5c) where
+    much-read : (st : State) (high : Bool) → tooMuch (caseOf high job st x (operatorAs o attrs))
+        ≡ ltb 16384 (bytesHeld (x .held) + (length (joinedOf (x .busy)) + o .length))
+    unfolding caseOf
+    much-read st high =
+        let nb : o .tag ≡ 0x5b → ⊥ = λ y. omega arith in
+        much (caseOf high job st x (operatorAs o attrs)) false true (ne-eqb (o .tag) 0x5b nb) (eq-eqb (o .tag) 0x5c b)
+
+    -- ReadStream
+    pub read-past : 16384 < bytesHeld (x .held) + (length (joinedOf (x .busy)) + o .length) → EarliesIn job attrs x o (No 19 outer)
+    unfolding EarliesIn
+    read-past h = λ st high. no-19 (caseOf high job st x (operatorAs o attrs)) (much-read st high ∙ lt-ltb _ _ h)
+
+    pub read-room : bytesHeld (x .held) + (length (joinedOf (x .busy)) + o .length) ≤ 16384 → EarliesIn job attrs x o Fine
+    unfolding EarliesIn caseOf
+    read-room h =
+        let nb : o .tag ≡ 0x5b → ⊥ = λ y. omega arith in
+        let ne : o .tag ≡ 0x5e → ⊥ = λ y. omega arith in
+        let nd : o .tag ≡ 0x5d → ⊥ = λ y. omega arith in
+        λ st high. early-fine (ne-eqb (o .tag) 0x5e ne) (ne-eqb (o .tag) 0x5d nd)
+        (record {
+          room = much-read st high ∙ le-ltb _ _ h;
+          new = not-known (caseOf high job st x (operatorAs o attrs)) (ne-eqb (o .tag) 0x5b nb);
+          known = not-missing (caseOf high job st x (operatorAs o attrs)) (ne-eqb (o .tag) 0x5e ne);
+          sound = sound-valid (caseOf high job st x (operatorAs o attrs)) (made-other st high nd);
+        })
+
+  module _ (b : o .tag ≡ 0x5e) where
+    not-much : (st : State) (high : Bool) → tooMuch (caseOf high job st x (operatorAs o attrs)) ≡ false
+    unfolding caseOf
+    not-much st high =
+        let nb : o .tag ≡ 0x5b → ⊥ = λ y. omega arith in
+        let nr : o .tag ≡ 0x5c → ⊥ = λ y. omega arith in
+        much (caseOf high job st x (operatorAs o attrs)) false false (ne-eqb (o .tag) 0x5b nb) (ne-eqb (o .tag) 0x5c nr)
+
+    not-new : (st : State) (high : Bool) → nameHeld (caseOf high job st x (operatorAs o attrs)) ≡ false
+    unfolding caseOf
+    not-new st high =
+        let nb : o .tag ≡ 0x5b → ⊥ = λ y. omega arith in
+        not-known (caseOf high job st x (operatorAs o attrs)) (ne-eqb (o .tag) 0x5b nb)
+
+    exec-held : (m : Motif) (v : ℕ) → heldAs (bytesIn job (rowsOf attrs (o .count)) 139) (x .held) ≡ Held.is m
+        → SumsAs v (unfolded (x .held) (bytesIn job (rowsOf attrs (o .count)) 139)) → EarliesIn job attrs x o (Call v)
+    unfolding EarliesIn caseOf isHeld
+    exec-held m v e s =
+        let nd : o .tag ≡ 0x5d → ⊥ = λ y. omega arith in
+        λ st high. early-call (eq-eqb (o .tag) 0x5e b) s
+        (record {
+          room = not-much st high;
+          new = not-new st high;
+          known = missing (caseOf high job st x (operatorAs o attrs)) true (Held.is m) (eq-eqb (o .tag) 0x5e b) e;
+          sound = sound-valid (caseOf high job st x (operatorAs o attrs)) (made-other st high nd);
+        })
+
+    exec-not : heldAs (bytesIn job (rowsOf attrs (o .count)) 139) (x .held) ≡ Held.none → EarliesIn job attrs x o (No 21 outer)
+    unfolding EarliesIn caseOf isHeld
+    exec-not e = λ st high. no-21 (caseOf high job st x (operatorAs o attrs)) (not-much st high) (not-new st high)
+        (missing (caseOf high job st x (operatorAs o attrs)) true Held.none (eq-eqb (o .tag) 0x5e b) e)
+
+    -- ExecStream by what a search for its name finds
+    pub exec-at : {rows sums name : List ℕ} {i : ℕ} → name ≡ bytesIn job (rowsOf attrs (o .count)) 139
+        → Finds rows sums (x .held) name (At i) → EarliesIn job attrs x o (Call (getD sums i 0))
+    exec-at {sums = sums} {i = i} e (finds-at {m = m} f d s) = exec-held m (getD sums i 0) (rw e at f) (rw e at s)
+
+    pub exec-nowhere : {rows sums name : List ℕ} → name ≡ bytesIn job (rowsOf attrs (o .count)) 139
+        → Finds rows sums (x .held) name Nowhere → EarliesIn job attrs x o (No 21 outer)
+    exec-nowhere e (finds-none f) = exec-not (rw e at f)

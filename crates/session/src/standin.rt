@@ -1,0 +1,5 @@
+// Stand-in.
+pub enum Judged {
+    Valid(usize, u64),
+    Faulty(u32, usize),
+}
