@@ -7,7 +7,7 @@ use mathlib.Core.List.{List, [], _∷_}
 use native.Mathlib.Omega.{arith}
 use lib.ListN.{length, getD}
 use lib.Dec.{eqb, leb, ltb}
-use borrow.Author.Tests.{eq-eqb, ne-eqb, le-leb, lt-leb, lt-ltb, le-ltb}
+use borrow.Author.Tests.{eq-eqb, ne-eqb, le-leb, lt-leb, leb-false, lt-ltb, le-ltb, ltb-false}
 use Rattle.scope.specs.Choice.{pick}
 use Rattle.scope.specs.Motif.{Motif, Held, heldAs, isHeld, bytesHeld, unfolded, Judged, valid, faulty, motifOf}
 use Rattle.scope.specs.Session.{Session, joinedOf}
@@ -21,13 +21,25 @@ use Rattle.motif.specs.declared.names.Where.the-variants.{At, Nowhere}
 use Rattle.scope.specs.Verdict.{every}
 use Rattle.session.specs.Earlier.{before, Unbroken, Earlies, EarliesIn, early-fine, early-call, early-held, early-no}
 use Rattle.session.specs.declared.early.Early.the-variants.{Fine, Call, No}
-use Rattle.session.specs.declared.early.Early.the-variants as early
+use Rattle.session.specs.Afterwards.{Passes}
+use Rattle.session.specs.declared.early.Early.{Early}
 use Rattle.arm.specs.Sums.{SumsAs}
 
 -- where none of these rules is broken, the first broken is the first of the others
 pub unbroken-first : {c : Case} → Unbroken c → (rest : List Rule) → firstBroken every c (before rest) ≡ firstBroken every c rest
 unfolding firstBroken
 unbroken-first u rest = rw (u .room, u .new, u .known) (u .sound _)
+
+-- what passes is not broken
+pub passes-unbroken : {c : Case} {e : Early} → Earlies c e → Passes e → Unbroken c
+passes-unbroken (early-fine a b u) p = u
+passes-unbroken (early-call a b u) p = u
+passes-unbroken (early-held a b u) p = u
+passes-unbroken (early-no f) p = absurd p
+
+first-not : (t : Bool) → t || false ≡ false → t ≡ false
+first-not true e = e
+first-not false e = refl
 
 module _ (c : Case) where
   no-19 : tooMuch c ≡ true → Earlies c (No 19 outer)
@@ -121,6 +133,14 @@ module _ (job attrs : List ℕ) (x : Session) (o : Operator) where
           sound = sound-valid (caseOf high job st x (operatorAs o attrs)) (made-other st high nd);
         })
 
+    -- BeginStream that is not refused by 19
+    pub begin-few : (st : State) (high : Bool) → tooMuch (caseOf high job st x (operatorAs o attrs)) ≡ false → length (x .held) < 64
+    unfolding caseOf
+    begin-few st high f =
+        let nr : o .tag ≡ 0x5c → ⊥ = λ y. omega arith in
+        leb-false 64 (length (x .held))
+        (first-not _ (sym (much (caseOf high job st x (operatorAs o attrs)) true false (eq-eqb (o .tag) 0x5b b) (ne-eqb (o .tag) 0x5c nr)) ∙ f))
+
     -- BeginStream by what a search for its name finds
     pub begin-at : {rows sums name : List ℕ} {n i : ℕ} → length (x .held) ≡ n → n < 64 → name ≡ bytesIn job (rowsOf attrs (o .count)) 139
         → Finds rows sums (x .held) name (At i) → EarliesIn job attrs x o (No 20 outer)
@@ -137,6 +157,11 @@ module _ (job attrs : List ℕ) (x : Session) (o : Operator) where
     much-read st high =
         let nb : o .tag ≡ 0x5b → ⊥ = λ y. omega arith in
         much (caseOf high job st x (operatorAs o attrs)) false true (ne-eqb (o .tag) 0x5b nb) (eq-eqb (o .tag) 0x5c b)
+
+    -- ReadStream that is not refused by 19
+    pub read-few : (st : State) (high : Bool) → tooMuch (caseOf high job st x (operatorAs o attrs)) ≡ false
+        → bytesHeld (x .held) + (length (joinedOf (x .busy)) + o .length) ≤ 16384
+    read-few st high f = ltb-false _ _ (sym (much-read st high) ∙ f)
 
     -- ReadStream
     pub read-past : 16384 < bytesHeld (x .held) + (length (joinedOf (x .busy)) + o .length) → EarliesIn job attrs x o (No 19 outer)

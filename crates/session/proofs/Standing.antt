@@ -23,30 +23,30 @@ use Rattle.session.specs.declared.place.Busy.{Busy}
 use Rattle.session.specs.declared.place.Busy.the-variants.{Resting, Reading, Drawing}
 use Rattle.session.specs.declared.place.Place.the-variants.{Outside, Inside}
 
-module _ {job work : List ℕ} {used : ℕ} where
-  pub page-phase : {p : Page} {q : scope.Busy} → BusyHolds job work used (Drawing p Nothing) q → order.in-page (p .depth) ≡ phaseBusy q
+module _ {job work : List ℕ} {n used : ℕ} where
+  pub page-phase : {p : Page} {q : scope.Busy} → BusyHolds job work n used (Drawing p Nothing) q → order.in-page (p .depth) ≡ phaseBusy q
   unfolding phaseBusy phaseDrawing
   page-phase {p} (drawing-holds {q = q} {v = v} h e) = rw (← e) (ap order.in-page (depth-saved p q (h .same)))
 
-  pub image-phase : {p : Page} {i : Image} {q : scope.Busy} → BusyHolds job work used (Drawing p (Being i)) q → order.in-image (imageAs i) ≡ phaseBusy q
+  pub image-phase : {p : Page} {i : Image} {q : scope.Busy} → BusyHolds job work n used (Drawing p (Being i)) q → order.in-image (imageAs i) ≡ phaseBusy q
   unfolding phaseBusy phaseDrawing
   image-phase (drawing-holds h e) = rw (← e)
 
-  pub rest-phase : {q : scope.Busy} → BusyHolds job work used Resting q → order.in-session ≡ phaseBusy q
+  pub rest-phase : {q : scope.Busy} → BusyHolds job work n used Resting q → order.in-session ≡ phaseBusy q
   unfolding phaseBusy
   rest-phase resting-holds = refl
 
-  pub stream-phase : {a l j : ℕ} {q : scope.Busy} → BusyHolds job work used (Reading a l j) q → order.in-stream ≡ phaseBusy q
+  pub stream-phase : {a l j : ℕ} {q : scope.Busy} → BusyHolds job work n used (Reading a l j) q → order.in-stream ≡ phaseBusy q
   unfolding phaseBusy
-  stream-phase (reading-holds n j t u) = refl
+  stream-phase (reading-holds m j t u r) = refl
 
-  pub rest-page : {p : Page} {q : scope.Busy} → PageHolds p (blank false) → BusyHolds job work used Resting q → PageHolds p (pageOf q)
+  pub rest-page : {p : Page} {q : scope.Busy} → PageHolds p (blank false) → BusyHolds job work n used Resting q → PageHolds p (pageOf q)
   rest-page h resting-holds = h
 
-  pub stream-page : {p : Page} {a l j : ℕ} {q : scope.Busy} → PageHolds p (blank false) → BusyHolds job work used (Reading a l j) q → PageHolds p (pageOf q)
-  stream-page h (reading-holds n j t u) = h
+  pub stream-page : {p : Page} {a l j : ℕ} {q : scope.Busy} → PageHolds p (blank false) → BusyHolds job work n used (Reading a l j) q → PageHolds p (pageOf q)
+  stream-page h (reading-holds m j t u r) = h
 
-  pub drawn-page : {p : Page} {i : Picture} {q : scope.Busy} → BusyHolds job work used (Drawing p i) q → PageHolds p (pageOf q)
+  pub drawn-page : {p : Page} {i : Picture} {q : scope.Busy} → BusyHolds job work n used (Drawing p i) q → PageHolds p (pageOf q)
   drawn-page (drawing-holds h e) = h
 
 module _ {job rows sums work : List ℕ} where
@@ -61,14 +61,14 @@ module _ {job rows sums work : List ℕ} where
   outer-page h outside-holds = h
 
   module _ {o : Bool} {n used : ℕ} {b : Busy} where
-    pub inner-phase : {q : scope.Place} (r : Phase) → ((x : scope.Busy) (job work : List ℕ) (used : ℕ) → BusyHolds job work used b x → phaseAs r ≡ phaseBusy x)
+    pub inner-phase : {q : scope.Place} (r : Phase) → ((x : scope.Busy) (job work : List ℕ) (n used : ℕ) → BusyHolds job work n used b x → phaseAs r ≡ phaseBusy x)
         → PlaceHolds job rows sums work (Inside o n used b) q → phaseAs r ≡ phaseOf q
     unfolding phaseOf
-    inner-phase r f (inside-holds {x = x} e h u w k y) = f (x .busy) job work used y
+    inner-phase r f (inside-holds {x = x} e h u w k y) = f (x .busy) job work n used y
 
     pub inner-opened : {q : scope.Place} → PlaceHolds job rows sums work (Inside o n used b) q → o ≡ sessionOf q .opened
     inner-opened (inside-holds e h u w k y) = e
 
-    pub inner-page : {q : scope.Place} (r : Page) → ((x : scope.Busy) (job work : List ℕ) (used : ℕ) → BusyHolds job work used b x → PageHolds r (pageOf x))
+    pub inner-page : {q : scope.Place} (r : Page) → ((x : scope.Busy) (job work : List ℕ) (n used : ℕ) → BusyHolds job work n used b x → PageHolds r (pageOf x))
         → PlaceHolds job rows sums work (Inside o n used b) q → PageHolds r (pageOf (sessionOf q .busy))
-    inner-page r f (inside-holds {x = x} e h u w k y) = f (x .busy) job work used y
+    inner-page r f (inside-holds {x = x} e h u w k y) = f (x .busy) job work n used y

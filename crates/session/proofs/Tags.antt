@@ -91,3 +91,11 @@ module _ (b : Bool) where
   pub image-not-end : (i : Image) → mayCome (in-image i) b 0x5d ≡ false
   unfolding mayCome
   image-not-end i = refl
+
+  pub page-not-over : (n : ℕ) → mayCome (in-page n) b 0x42 ≡ false
+  unfolding mayCome drawn among
+  page-not-over n = refl
+
+  pub image-not-over : (i : Image) → mayCome (in-image i) b 0x42 ≡ false
+  unfolding mayCome
+  image-not-over i = refl

@@ -1,3 +1,4 @@
 pub mod Places
 pub mod Standin
 pub mod Earlier
+pub mod Afterwards

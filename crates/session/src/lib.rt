@@ -1,7 +1,10 @@
 // A job's sessions: what each holds, the rules that an operator is judged by after reading, and where the job stands after it. The list plays no part here.
+mod after;
 mod early;
 mod place;
 mod standin;
+
+pub use after::place_after;
 
 pub use early::Early;
 pub use place::opened_in;

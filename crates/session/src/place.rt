@@ -26,7 +26,7 @@ pub enum Place {
 }
 
 fn phase_drawing(page: Page, picture: Picture) -> Phase
-    ensures { λ r. ⌜ ((q : scope.Busy) (job work : List ℕ) (used : ℕ) → BusyHolds job work used (Drawing page picture) q → phaseAs r ≡ phaseBusy q) ⌝ }
+    ensures { λ r. ⌜ ((q : scope.Busy) (job work : List ℕ) (n used : ℕ) → BusyHolds job work n used (Drawing page picture) q → phaseAs r ≡ phaseBusy q) ⌝ }
 {
     match picture {
         Picture::Nothing => Phase::InPage(page.depth as usize),
@@ -35,7 +35,7 @@ fn phase_drawing(page: Page, picture: Picture) -> Phase
 }
 
 fn phase_busy(busy: Busy) -> Phase
-    ensures { λ r. ⌜ ((q : scope.Busy) (job work : List ℕ) (used : ℕ) → BusyHolds job work used busy q → phaseAs r ≡ phaseBusy q) ⌝ }
+    ensures { λ r. ⌜ ((q : scope.Busy) (job work : List ℕ) (n used : ℕ) → BusyHolds job work n used busy q → phaseAs r ≡ phaseBusy q) ⌝ }
 {
     match busy {
         Busy::Resting => Phase::InSession,
@@ -65,7 +65,7 @@ pub fn opened_in(place: Place) -> bool
 }
 
 fn page_busy(busy: Busy) -> Page
-    ensures { λ r. ⌜ ((q : scope.Busy) (job work : List ℕ) (used : ℕ) → BusyHolds job work used busy q → PageHolds r (pageOf q)) ⌝ }
+    ensures { λ r. ⌜ ((q : scope.Busy) (job work : List ℕ) (n used : ℕ) → BusyHolds job work n used busy q → PageHolds r (pageOf q)) ⌝ }
 {
     match busy {
         Busy::Resting => arm::page::blank(false),

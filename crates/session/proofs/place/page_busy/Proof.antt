@@ -28,15 +28,15 @@ enum-known-busy c = search needs
 
 -- src/place.rt:67:1
 returns : tie.Need-returns
-returns c = rw (c .before .enum-told .given .1) (λ q job work used h. rest-page (c .blank .ensures) h)
+returns c = rw (c .before .enum-told .given .1) (λ q job work n used h. rest-page (c .blank .ensures) h)
 
 -- src/place.rt:67:1
 returns-2 : tie.Need-returns-2
-returns-2 c = rw (c .before .enum-told2 .given .1) (λ q job work used h. stream-page (c .blank2 .ensures) h)
+returns-2 c = rw (c .before .enum-told2 .given .1) (λ q job work n used h. stream-page (c .blank2 .ensures) h)
 
 -- src/place.rt:67:1
 returns-3 : tie.Need-returns-3
-returns-3 c = rw (c .before .busy .given .1) (λ q job work used h. drawn-page h)
+returns-3 c = rw (c .before .busy .given .1) (λ q job work n used h. drawn-page h)
 
 pub page-busy-spec : {M : Type 1} → statement M
 page-busy-spec =

@@ -24,11 +24,11 @@ phase-drawing-requires c κs = search needs
 
 -- src/place.rt:37:1
 returns : tie.Need-returns
-returns c = rw (c .enum-told .given .1) (λ q job work used h. rest-phase h)
+returns c = rw (c .enum-told .given .1) (λ q job work n used h. rest-phase h)
 
 -- src/place.rt:37:1
 returns-2 : tie.Need-returns-2
-returns-2 c = rw (c .enum-told2 .given .1) (λ q job work used h. stream-phase h)
+returns-2 c = rw (c .enum-told2 .given .1) (λ q job work n used h. stream-phase h)
 
 -- src/place.rt:37:1
 returns-3 : tie.Need-returns-3

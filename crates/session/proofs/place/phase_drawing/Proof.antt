@@ -19,11 +19,11 @@ enum-known-picture c = search needs
 
 -- src/place.rt:28:1
 returns : tie.Need-returns
-returns c = rw (c .before .enum-told .given .1) (λ q job work used h. page-phase h)
+returns c = rw (c .before .enum-told .given .1) (λ q job work n used h. page-phase h)
 
 -- src/place.rt:28:1
 returns-2 : tie.Need-returns-2
-returns-2 c = rw (c .before .picture .given .1) (λ q job work used h. image-phase h)
+returns-2 c = rw (c .before .picture .given .1) (λ q job work n used h. image-phase h)
 
 pub phase-drawing-spec : {M : Type 1} → statement M
 phase-drawing-spec = tie.close (tie.spec enum-told cast-t5 enum-known-picture returns returns-2)
