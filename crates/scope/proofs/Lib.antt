@@ -1,6 +1,7 @@
 pub mod Ends
 pub mod Falls
 pub mod Taken
+pub mod Placed
 pub mod Asks
 pub mod Rows
 pub mod Codes

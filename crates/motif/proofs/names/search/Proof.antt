@@ -2,7 +2,7 @@
 -- Assumes nothing.
 use mathlib.Core.Path.{_≡_, sym, _∙_}
 use native.Mathlib.Omega.{arith}
-use Prim.Native.Nat.{_≤_}
+use Prim.Native.Nat.{_≤_, _<_}
 use lib.ListN.{take, drop}
 use Rattle.motif.specs.Search.{findIn}
 use Rattle.motif.proofs.Matches.{find-down, find-none}
@@ -53,7 +53,8 @@ is-name-requires c κs = search needs
 returns : tie.Need-returns Inv-loop μ-loop
 returns c = let l = c .before .before .before .before .before in
     let a = l .before .before .before .args in
-    let k = find-down (a .job .now) (a .rows .now) (take (a .count) (drop (a .first) (a .s .now))) (l .loop .i) (c .before .before .before .before .loop-test .taken) in
+    let h : 0 < l .loop .i = omega arith in
+    let k = find-down (a .job .now) (a .rows .now) (take (a .count) (drop (a .first) (a .s .now))) (l .loop .i) h in
     sym (sym (l .loop .inv .1) ∙ k ∙ rw (sym (c .before .is-name .ensures) ∙ c .if1 .taken))
 
 loop-less : tie.Need-loop-less Inv-loop μ-loop
@@ -62,7 +63,8 @@ loop-less c = search needs
 loop-again : tie.Need-loop-again Inv-loop μ-loop
 loop-again c = let l = c .before .before .before .before .before in
     let a = l .before .before .before .args in
-    let k = find-down (a .job .now) (a .rows .now) (take (a .count) (drop (a .first) (a .s .now))) (l .loop .i) (c .before .before .before .before .loop-test .taken) in
+    let h : 0 < l .loop .i = omega arith in
+    let k = find-down (a .job .now) (a .rows .now) (take (a .count) (drop (a .first) (a .s .now))) (l .loop .i) h in
     (omega arith, sym (k ∙ rw (sym (c .before .is-name .ensures) ∙ c .if1 .left)) ∙ l .loop .inv .1)
 
 returns-2 : tie.Need-returns-2 Inv-loop μ-loop

@@ -1,0 +1,124 @@
+use lib.ListN.{length}
+use mathlib.Core.List.{List}
+use mathlib.Core.Path.{refl, sym, ap, _∙_, _≡_}
+use native.Mathlib.Omega.{arith}
+use Rattle.wire.specs.Rows.{Sized}
+use Rattle.motif.proofs.Keeping.{keeps-balanced}
+use Rattle.scope.specs.Reading.{operatorAt}
+use Rattle.scope.specs.Motif as scope
+use Rattle.scope.specs.Motif.{Motif, contextIn}
+use Rattle.reader.specs.Views.{phaseAs}
+use Rattle.reader.specs.Reads.{operatorAs, readAs, contextAs}
+use Rattle.stream.specs.Judging.{Follows}
+use Rattle.stream.proofs.Turning.{context-is, rows-read, pop-read, step-no, step-ended, step-call, step-deed, ahead-lands}
+use borrow.Author.Needs.{needs}
+use Rattle.stream.proofs.judging.advance.Statement.{statement}
+use Rattle.stream.proofs.judging.advance.Tie as tie
+use Rattle.stream.proofs.judging.advance.Reads as reads
+use Rattle.stream.proofs.judging.advance.Lts as lts
+use Rattle.reader.proofs.operator_at.Reads as operator-at-reads
+use Rattle.stream.proofs.judging.call.Reads as call-reads
+use Rattle.stream.proofs.judging.deed.Reads as deed-reads
+use Rattle.stream.proofs.judging.ended.Reads as ended-reads
+use Rattle.stream.proofs.judging.phase_in.Reads as phase-in-reads
+
+-- what was read is what the definition reads where it stands
+read-is : (c : tie.After-operator-at) (ms : List Motif) (w : scope.Inside) → length (c .before .before .before .before .before .args .attrs .now) ≡ 80
+    → Follows ms (c .before .before .before .before .before .args .inside) w
+    → operatorAt (contextIn (c .before .before .before .before .before .args .high) w) (c .before .before .before .before .before .args .s .now) (w .at) ≡ readAs (c .operator-at .result) (c .operator-at .last .1 .1 .1 .0)
+read-is c ms w l g =
+    let a = c .before .before .before .before .before .args in
+    sym (context-is ms (a .high) (a .s .now) (a .inside) w (phaseAs (c .before .before .phase-in .result)) g (c .before .before .phase-in .ensures)) ∙ sym (c .operator-at .ensures .1 .0 l)
+
+-- src/judging.rt:180:16
+phase-in-requires : tie.Need-phase-in-requires
+phase-in-requires c κs = search needs
+
+-- src/judging.rt:184:11
+operator-at-requires : tie.Need-operator-at-requires
+operator-at-requires c κs = search needs
+
+-- src/judging.rt:185:18
+enum-known-code : tie.Need-enum-known-code
+enum-known-code c = search needs
+
+-- src/judging.rt:186:41
+enum-told : tie.Need-enum-told
+enum-told c = search needs
+
+-- src/judging.rt:186:35
+ended-requires : tie.Need-ended-requires
+ended-requires c κs = search needs
+
+-- src/judging.rt:187:24
+enum-known-o : tie.Need-enum-known-o
+enum-known-o c = search needs
+
+-- src/judging.rt:189:17
+call-requires : tie.Need-call-requires
+call-requires c κs = search needs
+
+-- src/judging.rt:189:17
+returns : tie.Need-returns
+returns c =
+    let f = c .before .before .before .before .before .before .before in
+    let st = f .before .before .before .before .before in
+    let a = st .args in
+    let e = c .before .before .before .before .before .o .given .1 in
+    let o = c .before .before .before .before .before .o .given .0 .0 in
+    let v = rw e at (f .operator-at .ensures .1 .1) in
+    (f .operator-at .ensures .0, (ahead-lands (length (a .s .now)) (a .inside .at) (o .next) (a .inside .saved) (c .call .result) (omega arith) (v .2) (st .pre .1) (c .call .ensures .0),
+      λ ms w l h k g. step-call ms (a .high) (a .s .now) w _ _ (read-is f ms w l g ∙ rw e) (c .before .before .if1 .taken)
+      (c .call .ensures .1 ms w (record { long = f .operator-at .ensures .0 ∙ l; few = v .4 }) h k g)))
+
+-- src/judging.rt:191:13
+deed-requires : tie.Need-deed-requires
+deed-requires c κs = search needs
+
+-- src/judging.rt:170:1
+returns-2 : tie.Need-returns-2
+returns-2 c =
+    let f = c .before .before .before in
+    let a = f .before .before .before .before .before .args in
+    (f .operator-at .ensures .0, (tt, λ ms w l h k g. step-no ms (a .high) (a .s .now) w _ _ (read-is f ms w l g ∙ rw (c .before .code .given .1))))
+
+-- src/judging.rt:170:1
+returns-3 : tie.Need-returns-3
+returns-3 c =
+    let f = c .before .before .before in
+    let a = f .before .before .before .before .before .args in
+    (f .operator-at .ensures .0, (tt, λ ms w l h k g. step-ended ms (a .high) (a .s .now) w _ (read-is f ms w l g ∙ rw (c .before .enum-told .given .1))
+      (c .ended .ensures ms w (a .s .now) refl (keeps-balanced k) g)))
+
+-- src/judging.rt:170:1
+returns-4 : tie.Need-returns-4
+returns-4 c =
+    let f = c .before .before .before .before .before .before .before in
+    let st = f .before .before .before .before .before in
+    let a = st .args in
+    let e = c .before .before .before .before .before .o .given .1 in
+    let o = c .before .before .before .before .before .o .given .0 .0 in
+    let v = rw e at (f .operator-at .ensures .1 .1) in
+    (f .operator-at .ensures .0, (ahead-lands (length (a .s .now)) (a .inside .at) (o .next) (a .inside .saved) (c .deed .result) (omega arith) (v .2) (st .pre .1) (c .deed .ensures .0),
+      λ ms w l h k g.
+        let q = rw e at (read-is f ms w l g) in
+        step-deed ms (a .high) (a .s .now) w _ _ q (c .before .before .if1 .left)
+        (c .deed .ensures .1 ms w (record { long = f .operator-at .ensures .0 ∙ l; few = v .4 }) g
+        (rows-read (a .high) (a .s .now) w _ q) (pop-read (a .high) (a .s .now) w _ q))))
+
+pub advance-spec : {M : Type 1} → statement M
+advance-spec =
+    tie.close
+    (tie.spec
+    phase-in-requires
+    operator-at-requires
+    enum-known-code
+    enum-told
+    ended-requires
+    enum-known-o
+    call-requires
+    returns
+    deed-requires
+    returns-2
+    returns-3
+    returns-4)

@@ -1,0 +1,36 @@
+use Rattle.reader.specs.Views.{imageAs}
+use mathlib.Core.Path.{refl, sym, _∙_}
+use Rattle.stream.proofs.Turning.{ended-open, ended-closed}
+use borrow.Author.Needs.{needs}
+use Rattle.stream.proofs.judging.ended.Statement.{statement}
+use Rattle.stream.proofs.judging.ended.Tie as tie
+use Rattle.stream.proofs.judging.ended.Reads as reads
+use Rattle.stream.proofs.judging.ended.Lts as lts
+use Rattle.stream.proofs.judging.balanced.Reads as balanced-reads
+
+-- src/judging.rt:152:30
+enum-told : tie.Need-enum-told
+enum-told c = search needs
+
+-- src/judging.rt:153:29
+enum-told-2 : tie.Need-enum-told-2
+enum-told-2 c = search needs
+
+-- src/judging.rt:153:29
+balanced-requires : tie.Need-balanced-requires
+balanced-requires c κs = search needs
+
+-- src/judging.rt:145:1
+returns : tie.Need-returns
+returns c =
+    let a = c .before .before .before .args in
+    λ ms w s e b f. ended-open ms s w (a .len) e (imageAs (c .enum-told .given .0 .0)) (sym (f .picture) ∙ rw (c .enum-told .given .1))
+
+-- src/judging.rt:145:1
+returns-2 : tie.Need-returns-2
+returns-2 c =
+    let a = c .before .before .before .before .args in
+    λ ms w s e b f. ended-closed ms s w (a .len) e _ (sym (f .picture) ∙ rw (c .before .enum-told2 .given .1)) (f .saved) (f .depth) (c .balanced .ensures ms (w .ops) b (f .runs) (rw (f .saved) (f .level)))
+
+pub ended-spec : {M : Type 1} → statement M
+ended-spec = tie.close (tie.spec enum-told enum-told-2 balanced-requires returns returns-2)

@@ -1,0 +1,51 @@
+use mathlib.Core.Path.{refl, sym, _∙_}
+use Rattle.stream.specs.Judging.{judges-faulty}
+use Rattle.scope.specs.Motif.{motifOf, motifFrom}
+use borrow.Author.Needs.{needs}
+use Rattle.stream.proofs.judging.judge_motif.Statement.{statement}
+use Rattle.stream.proofs.judging.judge_motif.Tie as tie
+use Rattle.stream.proofs.judging.judge_motif.Reads as reads
+use Rattle.stream.proofs.judging.judge_motif.Lts as lts
+use Rattle.stream.proofs.judging.operators.Reads as operators-reads
+use Rattle.wire.proofs.header_of.Reads as header-of-reads
+
+-- src/judging.rt:228:11
+header-of-requires : tie.Need-header-of-requires
+header-of-requires c κs = search needs
+
+-- src/judging.rt:229:20
+enum-known-code : tie.Need-enum-known-code
+enum-known-code c = search needs
+
+-- src/judging.rt:230:20
+enum-known-high : tie.Need-enum-known-high
+enum-known-high c = search needs
+
+-- src/judging.rt:230:35
+operators-requires : tie.Need-operators-requires
+operators-requires c κs = rw (c .before .before .high .given .1) at (c .before .before .before .before .header-of .ensures .1)
+
+-- src/judging.rt:223:1
+returns : tie.Need-returns
+unfolding motifOf motifFrom
+returns c =
+    let h = rw (c .before .code .given .1) at (c .before .before .before .header-of .ensures .0) in
+    (refl, λ ms l k q. rw (← h) judges-faulty)
+
+-- src/judging.rt:223:1
+returns-2 : tie.Need-returns-2
+unfolding motifOf motifFrom
+returns-2 c =
+    let h = rw (c .before .before .before .high .given .1) at (c .before .before .before .before .before .header-of .ensures .0) in
+    (c .operators .ensures .0, λ ms l k q. rw (← h) (c .operators .ensures .1 ms l k q))
+
+pub judge-motif-spec : {M : Type 1} → statement M
+judge-motif-spec =
+    tie.close
+    (tie.spec
+    header-of-requires
+    enum-known-code
+    enum-known-high
+    operators-requires
+    returns
+    returns-2)

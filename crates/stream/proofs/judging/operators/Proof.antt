@@ -1,0 +1,94 @@
+-- The invariant: the definition stands somewhere that the code follows, and judging from there is judging from the start.
+-- Assumes nothing.
+use Prim.Native.Nat.{_-_, _≤_}
+use mathlib.Core.Path.{_≡_, refl, sym, _∙_}
+use mathlib.Core.List.{List}
+use native.Mathlib.Omega.{arith}
+use lib.ListN.{length}
+use Rattle.scope.specs.Motif as scope
+use Rattle.scope.specs.Motif.{Motif, judgedInside}
+use Rattle.motif.specs.Held.{Keeps}
+use Rattle.stream.specs.Judging.{Follows}
+use Rattle.stream.proofs.Turning.{starting, starts, turned-go, turned-stop}
+use borrow.Author.Needs.{needs}
+use Rattle.stream.proofs.judging.operators.Statement.{statement}
+use Rattle.stream.proofs.judging.operators.Tie as tie
+use Rattle.stream.proofs.judging.operators.Reads as reads
+use Rattle.stream.proofs.judging.operators.Lts as lts
+use Rattle.arm.proofs.both.Both.fresh.Reads as fresh-reads
+use Rattle.stream.proofs.judging.advance.Reads as advance-reads
+
+abbrev Inv-loop : tie.InvT-loop
+Inv-loop s high next job rows sums held attrs₀ inside₀ attrs inside =
+    (length attrs ≡ length attrs₀) × (inside .at ≤ length s) × (inside .saved ≤ inside .at)
+    × ((ms : List Motif) → length attrs₀ ≡ 80 → held ≤ 64 → Keeps job rows sums held ms
+    → (w : scope.Inside) × (Follows ms inside w × (judgedInside ms high s w ≡ judgedInside ms high s (starting next))))
+
+abbrev μ-loop : tie.MeasureT-loop
+μ-loop s high next job rows sums held attrs₀ inside₀ attrs inside = length s - inside .at
+
+-- src/judging.rt:208:15
+fresh-requires : tie.Need-fresh-requires Inv-loop μ-loop
+fresh-requires c κs = search needs
+
+-- src/judging.rt:210:5
+loop-holds : tie.Need-loop-holds Inv-loop μ-loop
+loop-holds c =
+    (refl, c .before .before .before .pre, omega arith, λ ms l h k. (starting _, (starts ms _ refl refl refl (c .fresh .ensures), refl)))
+
+-- src/judging.rt:211:15
+advance-requires : tie.Need-advance-requires Inv-loop μ-loop
+advance-requires c κs =
+    (c .before .loop .inv .1, c .before .loop .inv .2)
+
+-- src/judging.rt:212:22
+enum-known-on : tie.Need-enum-known-on Inv-loop μ-loop
+enum-known-on c = search needs
+
+-- src/judging.rt:210:5
+loop-less : tie.Need-loop-less Inv-loop μ-loop
+loop-less c =
+    let p = rw (c .before .on .given .1) at (c .before .before .before .advance .ensures .1 .0) in
+    omega (arith, p)
+
+-- src/judging.rt:210:5
+loop-again : tie.Need-loop-again Inv-loop μ-loop
+loop-again c =
+    let d = c .before .before .before in
+    let l = d .before .before .loop in
+    let a = d .before .before .before .before .before .before .args in
+    let e = c .before .on .given .1 in
+    let p = rw e at (d .advance .ensures .1 .0) in
+    (d .advance .ensures .0 ∙ l .inv .0, p .1, p .2, λ ms z h k.
+      let v = l .inv .3 ms z h k in
+      turned-go ms (a .high) (a .s .now) _ _ (v .0) (v .1 .1) (rw e at (d .advance .ensures .1 .1 ms (v .0) (l .inv .0 ∙ z) h k (v .1 .0))))
+
+-- src/judging.rt:215:24
+enum-known-judged : tie.Need-enum-known-judged Inv-loop μ-loop
+enum-known-judged c = search needs
+
+-- src/judging.rt:216:17
+returns : tie.Need-returns Inv-loop μ-loop
+returns c =
+    let d = c .before .before .before in
+    let l = d .before .before .loop in
+    let a = d .before .before .before .before .before .before .args in
+    let e = c .before .judged .given .1 in
+    (d .advance .ensures .0 ∙ l .inv .0, λ ms z h k.
+      let v = l .inv .3 ms z h k in
+      turned-stop ms (a .high) (a .s .now) _ _ (v .0) (v .1 .1) (rw e at (d .advance .ensures .1 .1 ms (v .0) (l .inv .0 ∙ z) h k (v .1 .0))))
+
+pub operators-spec : {M : Type 1} → statement M
+operators-spec =
+    tie.close
+    (tie.spec
+    Inv-loop
+    μ-loop
+    fresh-requires
+    loop-holds
+    advance-requires
+    enum-known-on
+    loop-less
+    loop-again
+    enum-known-judged
+    returns)

@@ -1,0 +1,155 @@
+//! Speed of the linked checker beside the plain one and a bare loop in C, best of many runs.
+//! `bench WORD` runs only the kinds whose name has the word.
+
+use outside::plain::{self, Verdict};
+use outside::text::assemble;
+use outside::{ffi, plain::JOB_MAX};
+use std::hint::black_box;
+use std::time::{Duration, Instant};
+
+const LONG: usize = JOB_MAX;
+const SHORT: usize = JOB_MAX / 10;
+
+/// One kind of work: its name and its jobs, all bytes together about `length`.
+fn kinds(length: usize) -> Vec<(&'static str, Vec<Vec<u8>>)> {
+    let session = "BeginSession Measure=0 UnitsPerMeasure=(600,600)";
+    let page =
+        format!("header low; {session}; OpenDataSource SourceType=0 DataOrg=1; BeginPage Orientation=0 MediaSize=0");
+    let cursor = format!("{page}; SetCursor Point=(1,1)");
+    let motif = "motif \"a\" { header low; SetCursor Point=(1,1); repeat 9 { LinePath EndPoint=(1,1) }; PushGS; NewPath; PopGS }";
+    let called = page.replace("; BeginPage", &format!("; {motif}; BeginPage"));
+    let header = "header low".to_string();
+    let ended = "EndPage; CloseDataSource; EndSession";
+    let points = "LinePath NumberOfPoints=100 PointType=2 data=00*400";
+    let attributes = "EndPage PageCopies=1; BeginPage Orientation=0 MediaSize=0 MediaSource=0";
+    let saves = "repeat 24 { PushGS }; repeat 24 { PopGS }";
+    let both = format!("{session}; EndSession");
+    let small = assemble(&format!("header low; {session}; EndSession")).expect("a job");
+    vec![
+        ("one-byte operators", vec![filled(length, &page, "PaintPath", ended)]),
+        ("lines by end point", vec![filled(length, &cursor, "LinePath EndPoint=(-1,300)", ended)]),
+        ("lines with point data", vec![filled(length, &cursor, points, ended)]),
+        ("white space", vec![filled(length, &page, "hex 20", ended)]),
+        ("attributes", vec![filled(length, &page, attributes, ended)]),
+        ("saves", vec![filled(length, &page, saves, ended)]),
+        ("motif calls", vec![filled(length, &called, "ExecStream StreamName=\"a\"", ended)]),
+        ("many sessions", vec![filled(length, &header, &both, &both)]),
+        ("many small jobs", vec![small.clone(); length / small.len()]),
+    ]
+}
+
+/// A job of exactly `length` bytes: a start, as many rounds as fit, white space, an end.
+fn filled(length: usize, start: &str, round: &str, end: &str) -> Vec<u8> {
+    let mut job = assemble(start).expect("a start");
+    let round = assemble(round).expect("a round");
+    let end = assemble(end).expect("an end");
+    let left = length - job.len() - end.len();
+    for _ in 0..left / round.len() {
+        job.extend(&round);
+    }
+    job.extend(std::iter::repeat_n(0x20, left % round.len()));
+    job.extend(end);
+    assert_eq!(job.len(), length);
+    job
+}
+
+/// The shortest of many runs.
+fn best(mut run: impl FnMut()) -> Duration {
+    let begun = Instant::now();
+    let mut best = Duration::MAX;
+    let mut runs = 0;
+    while runs < 20 || (runs < 2000 && begun.elapsed() < Duration::from_millis(300)) {
+        let start = Instant::now();
+        run();
+        best = best.min(start.elapsed());
+        runs += 1;
+    }
+    best
+}
+
+fn judged(
+    jobs: &[Vec<u8>],
+    work: &mut [u8],
+    list: &mut [u8],
+    check: fn(&[u8], &mut [u8], &mut [u8]) -> Verdict,
+) -> Duration {
+    best(|| {
+        for job in jobs {
+            black_box(check(black_box(job), work, list));
+        }
+    })
+}
+
+fn micros(d: Duration) -> f64 {
+    d.as_secs_f64() * 1e6
+}
+
+fn main() {
+    let mut work = vec![0u8; plain::STORE];
+    let mut list = vec![0u8; 16 * (LONG + 1)];
+    println!(
+        "{:<22} {:>10} {:>10} {:>10} {:>9} {:>9} {:>9}",
+        "kind (61,440 bytes)", "linked us", "plain us", "bare us", "/ plain", "/ bare", "growth"
+    );
+    let mut faulty = false;
+    let word = std::env::args().nth(1).unwrap_or_default();
+    for ((name, long), (_, short)) in kinds(LONG).into_iter().zip(kinds(SHORT)) {
+        if !name.contains(&word) {
+            continue;
+        }
+        for job in long.iter().take(1).chain(short.iter().take(1)) {
+            let want = plain::check(job, &mut work, &mut list);
+            let got = ffi::check(job, &mut work, &mut list);
+            if want.code != 0 || got != want {
+                println!("{name}: plain {want:?}, linked {got:?}");
+                faulty = true;
+            }
+        }
+        let linked = judged(&long, &mut work, &mut list, ffi::check);
+        let own = judged(&long, &mut work, &mut list, plain::check);
+        let bare = best(|| {
+            for job in &long {
+                black_box(ffi::bare(black_box(job), &mut list));
+            }
+        });
+        let small = judged(&short, &mut work, &mut list, ffi::check);
+        let ratio = |a: Duration, b: Duration| micros(a) / micros(b).max(1e-3);
+        println!(
+            "{name:<22} {:>10.1} {:>10.1} {:>10.1} {:>9.2} {:>9.2} {:>9.2}",
+            micros(linked),
+            micros(own),
+            micros(bare),
+            ratio(linked, own),
+            ratio(linked, bare),
+            ratio(linked, small)
+        );
+    }
+    println!("growth is the time for 61,440 bytes by that for 6,144; 10 is in proportion");
+
+    // 32 motifs, each of four calls of the one before: 4 to the 32nd, 2 to the 64th operators.
+    let mut tower = String::from(
+        "header low; BeginSession Measure=0 UnitsPerMeasure=(600,600); OpenDataSource SourceType=0 DataOrg=1\n",
+    );
+    tower.push_str("motif [1] { header low; repeat 4 { PaintPath } }\n");
+    for k in 2..=32 {
+        tower.push_str(&format!("motif [{k}] {{ header low; repeat 4 {{ ExecStream StreamName=[{}] }} }}\n", k - 1));
+    }
+    tower.push_str(
+        "BeginPage Orientation=0 MediaSize=0; ExecStream StreamName=[32]; EndPage; CloseDataSource; EndSession\n",
+    );
+    let tower = vec![assemble(&tower).expect("a tower")];
+    let want = plain::check(&tower[0], &mut work, &mut list);
+    let got = ffi::check(&tower[0], &mut work, &mut list);
+    faulty |= want.code != 26 || got != want;
+    let linked = judged(&tower, &mut work, &mut list, ffi::check);
+    let own = judged(&tower, &mut work, &mut list, plain::check);
+    println!(
+        "tower of 2^64 operators: code {}, linked {:.1} us, plain {:.1} us",
+        got.code,
+        micros(linked),
+        micros(own)
+    );
+    if faulty {
+        std::process::exit(1);
+    }
+}

@@ -1,0 +1,175 @@
+//! What a run of cases has reached: codes outside and inside motifs, and attribute rules broken.
+
+use crate::generate::{all_rules, shapes_of, Broken, Need};
+use crate::plain::{Verdict, NO_INNER};
+use crate::text::{attribute_name, operator_name, read_header, read_statement, Piece, Statement};
+use std::collections::BTreeMap;
+use std::fmt::Write;
+
+/// Codes no job can give at top level: nesting is judged in motifs only.
+pub const NEVER_OUTSIDE: [u32; 1] = [22];
+/// Codes a motif can have at its EndStream.
+pub const INSIDE: [u32; 19] = [2, 3, 4, 5, 6, 7, 8, 9, 10, 11, 12, 13, 14, 15, 16, 18, 21, 22, 27];
+
+#[derive(Debug, Default, Clone)]
+pub struct Coverage {
+    pub outside: [u64; 30],
+    pub inside: [u64; 30],
+    pub kinds: BTreeMap<&'static str, u64>,
+    pub rules: BTreeMap<Broken, [u64; 2]>,
+}
+
+/// The operators of a string of items, as far as they can be told.
+fn statements(bytes: &[u8]) -> Vec<Statement> {
+    let Some((_, high, mut at)) = read_header(bytes) else {
+        return Vec::new();
+    };
+    let mut all = Vec::new();
+    while let Some(s) = read_statement(bytes, at, high) {
+        at = s.to;
+        all.push(s);
+    }
+    all
+}
+
+/// The data of the ReadStream operators just before the EndStream at `position`, joined.
+fn motif_at(job: &[u8], position: usize) -> Vec<u8> {
+    let all = statements(job);
+    let Some(end) = all.iter().position(|s| s.tag_at == position) else {
+        return Vec::new();
+    };
+    let from = all[..end].iter().rposition(|s| s.tag == 0x5b).map_or(0, |i| i + 1);
+    all[from..end].iter().filter_map(|s| s.data.as_ref()).flat_map(|d| d.2.clone()).collect()
+}
+
+/// The rules a refusal of 11 to 16 shows broken.
+fn rules_of(bytes: &[u8], code: u32, position: usize) -> Vec<Broken> {
+    let all = statements(bytes);
+    let Some(s) = all.iter().find(|s| (s.from..=s.tag_at).contains(&position)) else {
+        return Vec::new();
+    };
+    let numbers: Vec<u16> = s
+        .pieces
+        .iter()
+        .filter_map(|(_, p)| match p {
+            Piece::Number { number, .. } => Some(*number),
+            _ => None,
+        })
+        .collect();
+    let rule = |number| Broken { tag: s.tag, number, code };
+    match code {
+        11 => vec![rule(0)],
+        12 | 15 | 16 => {
+            let after = s.pieces.iter().skip_while(|(at, _)| *at < position);
+            let number = after.clone().find_map(|(_, p)| match p {
+                Piece::Number { number, .. } => Some(*number),
+                _ => None,
+            });
+            number.map(rule).into_iter().collect()
+        }
+        13 => {
+            let missing: Vec<Broken> = shapes_of(s.tag)
+                .filter(|(n, _, need)| *need == Need::Must && !numbers.contains(n))
+                .map(|(n, _, _)| rule(n))
+                .collect();
+            if missing.is_empty() {
+                vec![rule(0)]
+            } else {
+                missing
+            }
+        }
+        // Which of StartLine and rows was wrong is told by the height alone, so both count.
+        14 if s.tag == 0xb1 => vec![rule(109), rule(99)],
+        14 => numbers.into_iter().map(rule).collect(),
+        _ => Vec::new(),
+    }
+}
+
+impl Coverage {
+    pub fn add(&mut self, kind: &'static str, job: &[u8], v: &Verdict) {
+        *self.kinds.entry(kind).or_default() += 1;
+        let inside = v.inner != NO_INNER;
+        let code = v.code as usize;
+        if code < 30 {
+            if inside {
+                self.inside[code] += 1;
+            } else {
+                self.outside[code] += 1;
+            }
+        }
+        if (11..=16).contains(&v.code) {
+            let broken = if inside {
+                rules_of(&motif_at(job, v.position as usize), v.code, v.inner as usize)
+            } else {
+                rules_of(job, v.code, v.position as usize)
+            };
+            for rule in broken {
+                self.rules.entry(rule).or_default()[usize::from(inside)] += 1;
+            }
+        }
+    }
+
+    /// What was never reached though it can be.
+    pub fn gaps(&self) -> Vec<String> {
+        let mut gaps = Vec::new();
+        for code in 0..30u32 {
+            if self.outside[code as usize] == 0 && !NEVER_OUTSIDE.contains(&code) {
+                gaps.push(format!("code {code}"));
+            }
+            if self.inside[code as usize] == 0 && INSIDE.contains(&code) {
+                gaps.push(format!("code {code} in a motif"));
+            }
+        }
+        for rule in all_rules() {
+            let counts = self.rules.get(&rule).copied().unwrap_or_default();
+            if counts[0] + counts[1] == 0 {
+                gaps.push(rule_name(&rule));
+            }
+        }
+        gaps
+    }
+
+    pub fn table(&self) -> String {
+        let mut out = String::from("kind            cases\n");
+        for (kind, n) in &self.kinds {
+            let _ = writeln!(out, "{kind:<12} {n:>8}");
+        }
+        out.push_str("code  outside   in a motif\n");
+        for code in 0..30 {
+            let _ = writeln!(out, "{code:>4} {:>8} {:>12}", self.outside[code], self.inside[code]);
+        }
+        let _ = writeln!(
+            out,
+            "attribute rules broken: {} of {}",
+            self.rules.len().min(all_rules().len()),
+            all_rules().len()
+        );
+        for rule in all_rules() {
+            let [o, i] = self.rules.get(&rule).copied().unwrap_or_default();
+            let _ = writeln!(out, "{:<36} {o:>8} {i:>8}", rule_name(&rule));
+        }
+        out
+    }
+}
+
+fn rule_name(rule: &Broken) -> String {
+    let attribute = if rule.number == 0 { "-".into() } else { attribute_name(rule.number) };
+    format!("{} {} {}", operator_name(rule.tag), attribute, rule.code)
+}
+
+#[cfg(test)]
+mod tests {
+    use super::*;
+    use crate::{generate, plain};
+
+    #[test]
+    fn generated_cases_reach_everything() {
+        let mut c = Coverage::default();
+        for index in 0..12_000 {
+            let mut case = generate::case(1, index);
+            let verdict = plain::check(&case.job, &mut case.work, &mut case.list);
+            c.add(case.kind, &case.job, &verdict);
+        }
+        assert!(c.gaps().is_empty(), "{:?}\n{}", c.gaps(), c.table());
+    }
+}

@@ -1,0 +1,11 @@
+//! The independent side of the checker of pen-arm jobs: another implementation, a notation, jobs and vectors.
+#![deny(unsafe_code)]
+
+pub mod coverage;
+#[allow(unsafe_code)]
+#[cfg(feature = "linked")]
+pub mod ffi;
+pub mod generate;
+pub mod plain;
+pub mod text;
+pub mod vectors;

@@ -1,0 +1,1215 @@
+//! The independent checker: written from the rules alone, plain and safe, judging calls by walking them.
+
+/// Longest job that is judged.
+pub const JOB_MAX: usize = 61_440;
+/// Bytes of motifs a session holds, and least length of the work buffer.
+pub const STORE: usize = 16_384;
+/// Inner position when nothing inside a motif is meant.
+pub const NO_INNER: u32 = u32::MAX;
+/// Most operators one job performs.
+pub const PERFORMED_MAX: u64 = 1_000_000;
+/// Most states saved at a time.
+pub const SAVED_MAX: usize = 24;
+/// Most motifs a session holds.
+pub const MOTIFS_MAX: usize = 64;
+/// Most calls nested.
+pub const NESTING_MAX: u32 = 32;
+/// Most attributes of one operator.
+pub const ATTRIBUTES_MAX: usize = 16;
+/// Most elements of an array.
+pub const ARRAY_MAX: u32 = 1_024;
+/// Longest header with its LF.
+pub const HEADER_MAX: usize = 256;
+/// Calls that unfold to more operators than this are judged by remembered facts, shorter ones by walking.
+const WALK_MAX: u64 = 2_000_000;
+
+/// The answer to one job.
+#[repr(C)]
+#[derive(Debug, Clone, Copy, PartialEq, Eq)]
+pub struct Verdict {
+    pub code: u32,
+    pub position: u32,
+    pub inner: u32,
+    pub records: u32,
+    pub performed: u32,
+}
+
+/// A refusal: its code, the byte it points at, and the byte inside a motif or NO_INNER.
+#[derive(Debug, Clone, Copy, PartialEq, Eq)]
+struct Fault {
+    code: u32,
+    at: u32,
+    inner: u32,
+}
+
+fn fault<T>(code: u32, at: usize) -> Result<T, Fault> {
+    Err(Fault { code, at: at as u32, inner: NO_INNER })
+}
+
+/// Judges one job; `work` holds motifs meanwhile and is left zero, `list` gets the records.
+pub fn check(job: &[u8], work: &mut [u8], list: &mut [u8]) -> Verdict {
+    let early = |code, position| Verdict { code, position, inner: NO_INNER, records: 0, performed: 0 };
+    if work.len() < STORE {
+        return early(29, 0);
+    }
+    if job.len() > JOB_MAX {
+        return early(1, JOB_MAX as u32);
+    }
+    let store = &mut work[..STORE];
+    let mut arm = Arm::new(store, list);
+    let end = match arm.job(job) {
+        Ok(()) => Fault { code: 0, at: job.len() as u32, inner: NO_INNER },
+        Err(fault) => fault,
+    };
+    let verdict = Verdict {
+        code: end.code,
+        position: end.at,
+        inner: end.inner,
+        records: arm.records as u32,
+        performed: arm.performed as u32,
+    };
+    store.fill(0);
+    verdict
+}
+
+// ---------------------------------------------------------------- header
+
+/// Reads a header: whether the high byte comes first, and where the items start.
+fn header(bytes: &[u8]) -> Result<(bool, usize), Fault> {
+    if bytes.first() == Some(&0x27) {
+        return fault(3, 0);
+    }
+    let end = header_end(bytes)?;
+    if bytes[12] != b'1' || bytes[14] != b'1' {
+        return fault(4, 12);
+    }
+    Ok((bytes[0] == 0x28, end))
+}
+
+/// The length of a well formed header, of whatever class.
+fn header_end(bytes: &[u8]) -> Result<usize, Fault> {
+    const FIXED: &[u8] = b" HP-PCL XL;";
+    for at in 0..HEADER_MAX {
+        let Some(&byte) = bytes.get(at) else {
+            return fault(2, at);
+        };
+        let fits = match at {
+            0 => byte == 0x28 || byte == 0x29,
+            1..=11 => byte == FIXED[at - 1],
+            12 | 14 => byte.is_ascii_digit(),
+            13 => byte == b';',
+            15 => byte == b';' || byte == b'\n',
+            _ => at + 1 < HEADER_MAX || byte == b'\n',
+        };
+        if !fits {
+            return fault(2, at);
+        }
+        if at >= 15 && byte == b'\n' {
+            return Ok(at + 1);
+        }
+    }
+    unreachable!("byte 255 is LF or refused")
+}
+
+// ---------------------------------------------------------------- items
+
+/// One attribute as it stands in the bytes.
+#[derive(Debug, Clone, Copy, Default)]
+struct Attribute {
+    number: u16,
+    /// Type tag and its offset.
+    kind: u8,
+    at: usize,
+    /// Count of numbers, and offset of the first.
+    count: u32,
+    body: usize,
+}
+
+/// An operator with its attributes.
+#[derive(Debug, Default)]
+struct Operator {
+    tag: u8,
+    at: usize,
+    room: [Attribute; ATTRIBUTES_MAX],
+    given: usize,
+}
+
+impl Operator {
+    fn attributes(&self) -> &[Attribute] {
+        &self.room[..self.given]
+    }
+
+    fn find(&self, number: u16) -> Option<&Attribute> {
+        self.attributes().iter().find(|a| a.number == number)
+    }
+
+    fn has(&self, number: u16) -> bool {
+        self.find(number).is_some()
+    }
+}
+
+/// Reads items from the left.
+struct Reader<'a> {
+    bytes: &'a [u8],
+    at: usize,
+    high_first: bool,
+}
+
+fn is_space(byte: u8) -> bool {
+    matches!(byte, 0x09..=0x0d | 0x20)
+}
+
+/// Bytes of one number of a value type.
+fn width(kind: u8) -> usize {
+    match kind & 7 {
+        0 => 1,
+        1 | 3 => 2,
+        _ => 4,
+    }
+}
+
+impl<'a> Reader<'a> {
+    fn skip_space(&mut self) {
+        while self.bytes.get(self.at).is_some_and(|&b| is_space(b)) {
+            self.at += 1;
+        }
+    }
+
+    /// The number in `size` bytes at `at`, by the byte order; none if it is cut off.
+    fn number(&self, at: usize, size: usize) -> Option<u32> {
+        let part = self.bytes.get(at..at + size)?;
+        let join = |sum: u32, &byte: &u8| sum << 8 | u32::from(byte);
+        Some(if self.high_first { part.iter().fold(0, join) } else { part.iter().rev().fold(0, join) })
+    }
+
+    /// Number `index` of a value that was read whole.
+    fn element(&self, a: &Attribute, index: usize) -> u32 {
+        let size = width(a.kind);
+        self.number(a.body + index * size, size).unwrap_or(0)
+    }
+
+    /// The only number of attribute `number`, or 0 if it is missing.
+    fn scalar(&self, op: &Operator, number: u16) -> u32 {
+        op.find(number).map_or(0, |a| self.element(a, 0))
+    }
+
+    /// Reads the value whose tag stands at the reader's place.
+    fn value(&mut self, kind: u8) -> Result<Attribute, Fault> {
+        let at = self.at;
+        let mut body = at + 1;
+        let count = match kind {
+            0xc0..=0xc5 => 1,
+            0xd0..=0xd5 => 2,
+            0xe0..=0xe5 => 4,
+            _ => {
+                let size = match self.bytes.get(body) {
+                    None => return fault(5, at),
+                    Some(0xc0) => 1,
+                    Some(0xc1) => 2,
+                    Some(_) => return fault(6, body),
+                };
+                let Some(length) = self.number(body + 1, size) else {
+                    return fault(5, at);
+                };
+                if length > ARRAY_MAX {
+                    return fault(8, at);
+                }
+                body += 1 + size;
+                length
+            }
+        };
+        let end = body + count as usize * width(kind);
+        if end > self.bytes.len() {
+            return fault(5, at);
+        }
+        self.at = end;
+        Ok(Attribute { number: 0, kind, at, count, body })
+    }
+
+    /// Reads pairs up to an operator tag; false at the end of the bytes with nothing waiting.
+    fn operator(&mut self, op: &mut Operator) -> Result<bool, Fault> {
+        op.given = 0;
+        // Whether room[given] has a value that waits for its number.
+        let mut waiting = false;
+        loop {
+            self.skip_space();
+            let at = self.at;
+            let Some(&tag) = self.bytes.get(at) else {
+                return if waiting || op.given > 0 { fault(27, at) } else { Ok(false) };
+            };
+            match tag {
+                0x41..=0xbf if !waiting => {
+                    op.tag = tag;
+                    op.at = at;
+                    self.at += 1;
+                    return Ok(true);
+                }
+                0xc0..=0xc5 | 0xc8..=0xcd | 0xd0..=0xd5 | 0xe0..=0xe5 if !waiting => {
+                    if op.given == ATTRIBUTES_MAX {
+                        return fault(7, at);
+                    }
+                    op.room[op.given] = self.value(tag)?;
+                    waiting = true;
+                }
+                0xf8 | 0xf9 if waiting => {
+                    let size = usize::from(tag - 0xf7);
+                    let Some(number) = self.number(at + 1, size) else {
+                        return fault(5, at);
+                    };
+                    op.room[op.given].number = number as u16;
+                    op.given += 1;
+                    waiting = false;
+                    self.at += 1 + size;
+                }
+                _ => return fault(6, at),
+            }
+        }
+    }
+
+    /// Reads the embedded data due after an operator; its offset.
+    fn data(&mut self, op: &Operator, due: u64) -> Result<usize, Fault> {
+        self.skip_space();
+        let at = self.at;
+        let size = match self.bytes.get(at) {
+            None => return fault(27, at),
+            Some(0xfa) => 4,
+            Some(0xfb) => 1,
+            Some(_) => return fault(18, op.at),
+        };
+        let Some(length) = self.number(at + 1, size) else {
+            return fault(5, at);
+        };
+        if u64::from(length) != due {
+            return fault(18, op.at);
+        }
+        let body = at + 1 + size;
+        if self.bytes.len() - body < length as usize {
+            return fault(5, at);
+        }
+        self.at = body + length as usize;
+        Ok(body)
+    }
+}
+
+// ---------------------------------------------------------------- attribute rules
+
+/// What one attribute of one operator may be.
+#[derive(Debug, Clone, Copy)]
+enum Rule {
+    /// One ubyte from..=to.
+    Enumeration(u32, u32),
+    /// One ubyte 0..=12 or 14..=16.
+    MediaSize,
+    /// One ubyte or uint16, at least this.
+    Number(u32),
+    /// Two uint16, both at least 1.
+    Sizes,
+    /// Two ubyte, uint16 or sint16.
+    Point,
+    /// Four ubyte, uint16 or sint16.
+    Box,
+    /// ubyte array of from..=to elements.
+    Array(u32, u32),
+}
+
+/// The rule of an attribute of an operator; none if it is not this operator's.
+fn rule(tag: u8, number: u16) -> Option<Rule> {
+    use Rule::*;
+    Some(match (tag, number) {
+        (0x41, 134) => Enumeration(0, 2),
+        (0x41, 137) => Sizes,
+        (0x41, 143) => Enumeration(0, 3),
+        (0x43, 40) => Enumeration(0, 3),
+        (0x43, 37) => MediaSize,
+        (0x43, 38) => Enumeration(0, 6),
+        (0x44, 49) => Number(1),
+        (0x47, 129) => Array(0, ARRAY_MAX),
+        (0x48, 136) => Enumeration(0, 0),
+        (0x48, 130) => Enumeration(0, 1),
+        (0x5b | 0x5e, 139) => Array(1, 16),
+        (0x5c, 140) => Number(1),
+        (0x63 | 0x79, 11) => Array(3, 3),
+        (0x63 | 0x79, 9) => Enumeration(0, 255),
+        (0x63, 4) | (0x79, 5) => Enumeration(0, 0),
+        (0x6a, 3) => Enumeration(1, 2),
+        (0x6b | 0x6c, 76) => Point,
+        (0x7a, 75) => Number(0),
+        (0x9b | 0x9d, 69) => Point,
+        (0x9b | 0x9d, 77) => Number(1),
+        (0x9b | 0x9d, 80) => Enumeration(0, 3),
+        (0xa0, 66) => Box,
+        (0xb0, 100) => Enumeration(0, 0),
+        (0xb0, 98) => Enumeration(0, 2),
+        (0xb0, 108 | 107) => Number(1),
+        (0xb0, 103) => Sizes,
+        (0xb1, 109) => Number(0),
+        (0xb1, 99) => Number(1),
+        (0xb1, 101) => Enumeration(0, 0),
+        _ => return None,
+    })
+}
+
+impl Rule {
+    fn takes_type(self, kind: u8) -> bool {
+        match self {
+            Rule::Enumeration(..) | Rule::MediaSize => kind == 0xc0,
+            Rule::Number(_) => matches!(kind, 0xc0 | 0xc1),
+            Rule::Sizes => kind == 0xd1,
+            Rule::Point => matches!(kind, 0xd0 | 0xd1 | 0xd3),
+            Rule::Box => matches!(kind, 0xe0 | 0xe1 | 0xe3),
+            Rule::Array(..) => kind == 0xc8,
+        }
+    }
+
+    fn takes_value(self, reader: &Reader, a: &Attribute) -> bool {
+        match self {
+            Rule::Enumeration(from, to) => (from..=to).contains(&reader.element(a, 0)),
+            Rule::MediaSize => matches!(reader.element(a, 0), 0..=12 | 14..=16),
+            Rule::Number(least) => reader.element(a, 0) >= least,
+            Rule::Sizes => reader.element(a, 0) >= 1 && reader.element(a, 1) >= 1,
+            Rule::Point | Rule::Box => true,
+            Rule::Array(from, to) => (from..=to).contains(&a.count),
+        }
+    }
+}
+
+#[inline(always)]
+fn in_table(tag: u8) -> bool {
+    matches!(
+        tag,
+        0x41..=0x44 | 0x47..=0x49 | 0x5b..=0x5e | 0x60 | 0x61 | 0x63 | 0x6a..=0x6c | 0x79 | 0x7a
+            | 0x84..=0x86 | 0x9b | 0x9d | 0xa0 | 0xb0..=0xb2
+    )
+}
+
+/// Operators without attributes.
+#[inline(always)]
+fn takes_none(tag: u8) -> bool {
+    matches!(tag, 0x42 | 0x49 | 0x5d | 0x60 | 0x61 | 0x84..=0x86 | 0xb2)
+}
+
+/// Attributes an operator must have.
+fn required(tag: u8) -> &'static [u16] {
+    match tag {
+        0x41 => &[134, 137],
+        0x43 => &[40, 37],
+        0x48 => &[136, 130],
+        0x5b | 0x5e => &[139],
+        0x5c => &[140],
+        0x6a => &[3],
+        0x6b | 0x6c => &[76],
+        0x7a => &[75],
+        0xa0 => &[66],
+        0xb0 => &[100, 98, 108, 107, 103],
+        0xb1 => &[109, 99, 101],
+        _ => &[],
+    }
+}
+
+/// Judges 11, 12, 15 and 16 attribute by attribute, then 13, then clashes of 14.
+fn judge_attributes(reader: &Reader, op: &Operator) -> Result<(), Fault> {
+    if op.given == 0 && takes_none(op.tag) {
+        return Ok(());
+    }
+    for (index, a) in op.attributes().iter().enumerate() {
+        let Some(rule) = rule(op.tag, a.number) else {
+            return fault(11, a.at);
+        };
+        if op.room[..index].iter().any(|b| b.number == a.number) {
+            return fault(12, a.at);
+        }
+        if !rule.takes_type(a.kind) {
+            return fault(15, a.at);
+        }
+        if !rule.takes_value(reader, a) {
+            return fault(16, a.at);
+        }
+    }
+    if required(op.tag).iter().any(|&number| !op.has(number)) {
+        return fault(13, op.at);
+    }
+    match op.tag {
+        // Exactly one of a choice, and only the choice is taken.
+        0x63 | 0x79 => match op.given {
+            0 => fault(13, op.at),
+            1 => Ok(()),
+            _ => fault(14, op.at),
+        },
+        0x9b | 0x9d => match (op.has(69), op.has(77), op.has(80)) {
+            (false, false, false) => fault(13, op.at),
+            (true, false, false) | (false, true, true) => Ok(()),
+            _ => fault(14, op.at),
+        },
+        _ => Ok(()),
+    }
+}
+
+// ---------------------------------------------------------------- images and data
+
+/// An image being read.
+#[derive(Debug, Clone, Copy)]
+struct Image {
+    row: u64,
+    height: u32,
+    rows: u32,
+}
+
+/// Bytes of one row: whole bytes, then a multiple of 4.
+pub fn row_bytes(width: u32, depth: u32) -> u64 {
+    let bits = match depth {
+        0 => 1,
+        1 => 4,
+        _ => 8,
+    };
+    (u64::from(width) * bits).div_ceil(8).next_multiple_of(4)
+}
+
+impl Image {
+    fn begin(reader: &Reader, op: &Operator) -> Image {
+        Image { row: row_bytes(reader.scalar(op, 108), reader.scalar(op, 98)), height: reader.scalar(op, 107), rows: 0 }
+    }
+
+    fn done(&self) -> bool {
+        self.rows == self.height
+    }
+
+    /// StartLine is the rows read so far, and the rows never exceed the height.
+    fn takes_block(&self, reader: &Reader, op: &Operator) -> bool {
+        reader.scalar(op, 109) == self.rows && self.rows + reader.scalar(op, 99) <= self.height
+    }
+}
+
+/// Length of the embedded data an operator reads, if it reads any.
+#[inline(always)]
+fn data_due(reader: &Reader, op: &Operator, image: Option<&Image>) -> Option<u64> {
+    match op.tag {
+        0x5c => Some(reader.scalar(op, 140).into()),
+        0x9b | 0x9d if op.has(77) => {
+            let each = if reader.scalar(op, 80) < 2 { 2 } else { 4 };
+            Some(u64::from(reader.scalar(op, 77)) * each)
+        }
+        0xb1 => image.map(|i| i.row * u64::from(reader.scalar(op, 99))),
+        _ => None,
+    }
+}
+
+// ---------------------------------------------------------------- the page
+
+/// State of a page; what PushGS saves is the pair of both.
+#[derive(Debug, Clone, Copy, PartialEq, Eq)]
+struct Look {
+    cursor: bool,
+    gray: bool,
+}
+
+/// What an operator of a page means for the state.
+#[derive(Debug, Clone, Copy, PartialEq, Eq)]
+enum Step {
+    Save,
+    Restore,
+    Cursor(bool),
+    Gray(bool),
+    NeedCursor,
+    NeedGray(bool),
+    /// BeginImage needs the cursor and gray.
+    NeedBoth,
+    Call(usize),
+    Other,
+}
+
+/// The meaning of an operator of a page, calls apart.
+#[inline(always)]
+fn step(reader: &Reader, op: &Operator) -> Step {
+    match op.tag {
+        0x61 => Step::Save,
+        0x60 => Step::Restore,
+        0x6b => Step::Cursor(true),
+        0x85 => Step::Cursor(false),
+        0x6a => Step::Gray(reader.scalar(op, 3) == 1),
+        0x6c | 0x9b | 0x9d => Step::NeedCursor,
+        0x63 | 0x79 if op.has(11) => Step::NeedGray(false),
+        0x63 | 0x79 if op.has(9) => Step::NeedGray(true),
+        0xb0 => Step::NeedBoth,
+        _ => Step::Other,
+    }
+}
+
+impl Step {
+    fn breaks_cursor(self, look: Look) -> bool {
+        matches!(self, Step::NeedCursor | Step::NeedBoth) && !look.cursor
+    }
+
+    fn breaks_gray(self, look: Look) -> bool {
+        match self {
+            Step::NeedGray(gray) => look.gray != gray,
+            Step::NeedBoth => !look.gray,
+            _ => false,
+        }
+    }
+
+    /// The effect on cursor and colour space alone.
+    fn change(self, look: &mut Look) {
+        match self {
+            Step::Cursor(set) => look.cursor = set,
+            Step::Gray(gray) => look.gray = gray,
+            _ => {}
+        }
+    }
+}
+
+/// Order inside a page: every operator that may stand there, EndPage and counts of saves apart.
+fn page_operator(tag: u8) -> bool {
+    matches!(tag, 0x47 | 0x5e | 0x60 | 0x61) || (0x63..=0xb0).contains(&tag)
+}
+
+// ---------------------------------------------------------------- motifs
+
+/// A motif held by the session.
+#[derive(Debug)]
+struct Motif {
+    name: Vec<u8>,
+    steps: Vec<Step>,
+    /// 1 without calls, else one more than the deepest called.
+    deep: u32,
+    /// Operators performed by one walk of it, calls unfolded; stops at the largest u64.
+    count: u64,
+    /// Whether anything in the unfolded motif reads data.
+    reads: bool,
+}
+
+/// What a walk of an unfolded motif finds.
+#[derive(Debug, Clone, Copy)]
+struct Walk {
+    look: Look,
+    /// Most states saved at a time.
+    saved: usize,
+    cursor_broken: bool,
+    gray_broken: bool,
+}
+
+fn name_of<'a>(reader: &Reader<'a>, op: &Operator) -> &'a [u8] {
+    op.find(139).map_or(&[], |a| &reader.bytes[a.body..a.body + a.count as usize])
+}
+
+fn find_motif(held: &[Motif], name: &[u8]) -> Option<usize> {
+    held.iter().position(|m| m.name == name)
+}
+
+/// Judges the bytes of a motif at its EndStream, all but 17 and 23 to 26.
+fn judge_motif(name: Vec<u8>, bytes: &[u8], held: &[Motif]) -> Result<Motif, Fault> {
+    let (high_first, at) = header(bytes)?;
+    let mut reader = Reader { bytes, at, high_first };
+    let mut op = Operator::default();
+    let mut motif = Motif { name, steps: Vec::new(), deep: 1, count: 0, reads: false };
+    let mut image: Option<Image> = None;
+    let mut saved = 0usize;
+    while reader.operator(&mut op)? {
+        if !in_table(op.tag) {
+            return fault(9, op.at);
+        }
+        let in_order = match (&image, op.tag) {
+            (Some(_), 0xb1) => true,
+            (Some(image), 0xb2) => image.done(),
+            (Some(_), _) => false,
+            (None, 0x60) => saved > 0,
+            (None, tag) => page_operator(tag),
+        };
+        if !in_order {
+            return fault(10, op.at);
+        }
+        judge_attributes(&reader, &op)?;
+        if let (Some(image), 0xb1) = (&image, op.tag) {
+            if !image.takes_block(&reader, &op) {
+                return fault(14, op.at);
+            }
+        }
+        if let Some(due) = data_due(&reader, &op, image.as_ref()) {
+            reader.data(&op, due)?;
+            motif.reads = true;
+        }
+        let mut now = step(&reader, &op);
+        motif.count = motif.count.saturating_add(1);
+        match op.tag {
+            0x5e => {
+                let Some(index) = find_motif(held, name_of(&reader, &op)) else {
+                    return fault(21, op.at);
+                };
+                let called = &held[index];
+                if called.deep >= NESTING_MAX {
+                    return fault(22, op.at);
+                }
+                now = Step::Call(index);
+                motif.deep = motif.deep.max(called.deep + 1);
+                motif.count = motif.count.saturating_add(called.count);
+                motif.reads |= called.reads;
+            }
+            0x61 => saved += 1,
+            0x60 => saved -= 1,
+            0xb0 => image = Some(Image::begin(&reader, &op)),
+            0xb1 => {
+                if let Some(image) = &mut image {
+                    image.rows += reader.scalar(&op, 99);
+                }
+            }
+            0xb2 => image = None,
+            _ => {}
+        }
+        motif.steps.push(now);
+    }
+    if image.is_some() || saved > 0 {
+        return fault(27, bytes.len());
+    }
+    Ok(motif)
+}
+
+/// Performs a motif and the calls in it, one operator after the other, on an unlimited stack of saved states.
+fn walk(held: &[Motif], index: usize, stack: &mut Vec<Look>, found: &mut Walk) {
+    for &step in &held[index].steps {
+        found.cursor_broken |= step.breaks_cursor(found.look);
+        found.gray_broken |= step.breaks_gray(found.look);
+        match step {
+            Step::Save => {
+                stack.push(found.look);
+                found.saved = found.saved.max(stack.len());
+            }
+            Step::Restore => {
+                if let Some(look) = stack.pop() {
+                    found.look = look;
+                }
+            }
+            Step::Call(called) => walk(held, called, stack, found),
+            _ => step.change(&mut found.look),
+        }
+    }
+}
+
+/// What a walk of each motif finds from each of the four looks, each made once; saved is counted from 0.
+struct Facts<'a> {
+    held: &'a [Motif],
+    known: Vec<[Option<Walk>; 4]>,
+}
+
+impl<'a> Facts<'a> {
+    fn new(held: &'a [Motif]) -> Self {
+        Facts { held, known: vec![[None; 4]; held.len()] }
+    }
+
+    fn of(&mut self, index: usize, look: Look) -> Walk {
+        let slot = usize::from(look.cursor) * 2 + usize::from(look.gray);
+        if let Some(walk) = self.known[index][slot] {
+            return walk;
+        }
+        let held = self.held;
+        let mut stack = Vec::new();
+        let mut found = Walk { look, saved: 0, cursor_broken: false, gray_broken: false };
+        for &step in &held[index].steps {
+            found.cursor_broken |= step.breaks_cursor(found.look);
+            found.gray_broken |= step.breaks_gray(found.look);
+            match step {
+                Step::Save => {
+                    stack.push(found.look);
+                    found.saved = found.saved.max(stack.len());
+                }
+                Step::Restore => {
+                    if let Some(look) = stack.pop() {
+                        found.look = look;
+                    }
+                }
+                Step::Call(called) => {
+                    let inside = self.of(called, found.look);
+                    found.look = inside.look;
+                    found.saved = found.saved.max(stack.len() + inside.saved);
+                    found.cursor_broken |= inside.cursor_broken;
+                    found.gray_broken |= inside.gray_broken;
+                }
+                _ => step.change(&mut found.look),
+            }
+        }
+        self.known[index][slot] = Some(found);
+        found
+    }
+}
+
+// ---------------------------------------------------------------- the job
+
+/// Where in the order of operators the job stands.
+#[derive(Debug, Clone, Copy, PartialEq, Eq)]
+enum Place {
+    Outside,
+    Session,
+    Stream,
+    Page,
+    Image,
+}
+
+/// The arm while it reads a job.
+struct Arm<'b> {
+    store: &'b mut [u8],
+    list: &'b mut [u8],
+    records: usize,
+    performed: u64,
+    place: Place,
+    source_open: bool,
+    held: Vec<Motif>,
+    /// Bytes of held motifs, and with those of the stream being read.
+    held_bytes: usize,
+    read_bytes: usize,
+    stream_name: Vec<u8>,
+    look: Look,
+    saved: Vec<Look>,
+    image: Option<Image>,
+}
+
+impl<'b> Arm<'b> {
+    fn new(store: &'b mut [u8], list: &'b mut [u8]) -> Self {
+        Arm {
+            store,
+            list,
+            records: 0,
+            performed: 0,
+            place: Place::Outside,
+            source_open: false,
+            held: Vec::new(),
+            held_bytes: 0,
+            read_bytes: 0,
+            stream_name: Vec::new(),
+            look: Look { cursor: false, gray: false },
+            saved: Vec::new(),
+            image: None,
+        }
+    }
+
+    /// Reads the whole job from the left.
+    fn job(&mut self, job: &[u8]) -> Result<(), Fault> {
+        let (high_first, at) = header(job)?;
+        let mut reader = Reader { bytes: job, at, high_first };
+        let mut op = Operator::default();
+        let mut sessions = 0;
+        while reader.operator(&mut op)? {
+            self.perform(&mut reader, &op)?;
+            sessions += usize::from(op.tag == 0x42);
+        }
+        if self.place != Place::Outside || sessions == 0 {
+            return fault(27, job.len());
+        }
+        Ok(())
+    }
+
+    fn in_order(&self, tag: u8) -> bool {
+        match self.place {
+            Place::Outside => tag == 0x41,
+            Place::Session => match tag {
+                0x43 | 0x47 | 0x5b => true,
+                0x42 | 0x48 => !self.source_open,
+                0x49 => self.source_open,
+                _ => false,
+            },
+            Place::Stream => matches!(tag, 0x5c | 0x5d),
+            Place::Page => match tag {
+                0x44 => self.saved.is_empty(),
+                0x60 => !self.saved.is_empty(),
+                _ => page_operator(tag),
+            },
+            Place::Image => match tag {
+                0xb1 => true,
+                0xb2 => self.image.is_some_and(|i| i.done()),
+                _ => false,
+            },
+        }
+    }
+
+    /// Judges one operator of the job, and if it keeps all rules lists and performs it.
+    fn perform(&mut self, reader: &mut Reader, op: &Operator) -> Result<(), Fault> {
+        if !in_table(op.tag) {
+            return fault(9, op.at);
+        }
+        if !self.in_order(op.tag) {
+            return fault(10, op.at);
+        }
+        judge_attributes(reader, op)?;
+        if op.tag == 0xb1 && !self.image.is_some_and(|i| i.takes_block(reader, op)) {
+            return fault(14, op.at);
+        }
+        let mut data = (0, 0);
+        if let Some(due) = data_due(reader, op, self.image.as_ref()) {
+            if !self.source_open {
+                return fault(17, op.at);
+            }
+            data = (due as usize, reader.data(op, due)?);
+        }
+
+        let mut motif = None;
+        let mut look = self.look;
+        let mut count = 1;
+        match op.tag {
+            0x5b => {
+                if self.held.len() == MOTIFS_MAX {
+                    return fault(19, op.at);
+                }
+                if find_motif(&self.held, name_of(reader, op)).is_some() {
+                    return fault(20, op.at);
+                }
+            }
+            0x5c if self.read_bytes + data.0 > STORE => return fault(19, op.at),
+            0x5d => {
+                let bytes = &self.store[self.held_bytes..self.read_bytes];
+                match judge_motif(self.stream_name.clone(), bytes, &self.held) {
+                    Ok(judged) => motif = Some(Box::new(judged)),
+                    Err(f) => return Err(Fault { code: f.code, at: op.at as u32, inner: f.at }),
+                }
+            }
+            0x5e => {
+                let Some(index) = find_motif(&self.held, name_of(reader, op)) else {
+                    return fault(21, op.at);
+                };
+                let found = self.call(index);
+                if self.held[index].reads && !self.source_open {
+                    return fault(17, op.at);
+                }
+                if found.saved > SAVED_MAX {
+                    return fault(23, op.at);
+                }
+                if found.cursor_broken {
+                    return fault(24, op.at);
+                }
+                if found.gray_broken {
+                    return fault(25, op.at);
+                }
+                look = found.look;
+                count = self.held[index].count.saturating_add(1);
+            }
+            0x61 if self.saved.len() == SAVED_MAX => return fault(23, op.at),
+            _ => {
+                let step = step(reader, op);
+                if step.breaks_cursor(look) {
+                    return fault(24, op.at);
+                }
+                if step.breaks_gray(look) {
+                    return fault(25, op.at);
+                }
+                step.change(&mut look);
+            }
+        }
+        if self.performed.saturating_add(count) > PERFORMED_MAX {
+            return fault(26, op.at);
+        }
+        self.write(op, data)?;
+        self.performed += count;
+        self.look = look;
+        self.effect(reader, op, data, motif);
+        Ok(())
+    }
+
+    /// Walks a call from the state of the page; a motif never pops below its start, so its own stack starts empty.
+    fn call(&self, index: usize) -> Walk {
+        let mut found = Walk { look: self.look, saved: 0, cursor_broken: false, gray_broken: false };
+        if self.held[index].count <= WALK_MAX {
+            walk(&self.held, index, &mut Vec::new(), &mut found);
+        } else {
+            found = Facts::new(&self.held).of(index, self.look);
+        }
+        found.saved += self.saved.len();
+        found
+    }
+
+    /// Puts down the records of an operator, or nothing if they do not fit.
+    fn write(&mut self, op: &Operator, data: (usize, usize)) -> Result<(), Fault> {
+        let from = self.records * 16;
+        let Some(room) = self.list.get_mut(from..from + (op.given + 1) * 16) else {
+            return fault(28, op.at);
+        };
+        let (pairs, last) = room.split_at_mut(op.given * 16);
+        for (record, a) in pairs.chunks_exact_mut(16).zip(op.attributes()) {
+            record[..4].copy_from_slice(&[1, a.number as u8, a.kind, 0]);
+            record[4..8].copy_from_slice(&(a.at as u32).to_le_bytes());
+            record[8..12].copy_from_slice(&a.count.to_le_bytes());
+            record[12..].copy_from_slice(&(a.body as u32).to_le_bytes());
+        }
+        last[..4].copy_from_slice(&[2, op.tag, op.given as u8, 0]);
+        last[4..8].copy_from_slice(&(op.at as u32).to_le_bytes());
+        last[8..12].copy_from_slice(&(data.0 as u32).to_le_bytes());
+        last[12..].copy_from_slice(&(data.1 as u32).to_le_bytes());
+        self.records += op.given + 1;
+        Ok(())
+    }
+
+    /// The effect of an accepted operator on order, source, motifs, saves and images.
+    fn effect(&mut self, reader: &Reader, op: &Operator, data: (usize, usize), motif: Option<Box<Motif>>) {
+        match op.tag {
+            0x41 => self.place = Place::Session,
+            0x42 => {
+                self.place = Place::Outside;
+                self.held.clear();
+                self.held_bytes = 0;
+                self.read_bytes = 0;
+            }
+            0x43 => {
+                self.place = Place::Page;
+                self.look = Look { cursor: false, gray: false };
+            }
+            0x44 => self.place = Place::Session,
+            0x48 => self.source_open = true,
+            0x49 => self.source_open = false,
+            0x5b => {
+                self.place = Place::Stream;
+                self.stream_name = name_of(reader, op).to_vec();
+            }
+            0x5c => {
+                let (length, offset) = data;
+                self.store[self.read_bytes..self.read_bytes + length]
+                    .copy_from_slice(&reader.bytes[offset..offset + length]);
+                self.read_bytes += length;
+            }
+            0x5d => {
+                self.place = Place::Session;
+                self.held.extend(motif.map(|m| *m));
+                self.held_bytes = self.read_bytes;
+            }
+            0x60 => {
+                if let Some(look) = self.saved.pop() {
+                    self.look = look;
+                }
+            }
+            0x61 => self.saved.push(self.look),
+            0xb0 => {
+                self.place = Place::Image;
+                self.image = Some(Image::begin(reader, op));
+            }
+            0xb1 => {
+                if let Some(image) = &mut self.image {
+                    image.rows += reader.scalar(op, 99);
+                }
+            }
+            0xb2 => {
+                self.place = Place::Page;
+                self.image = None;
+            }
+            _ => {}
+        }
+    }
+}
+
+#[cfg(test)]
+mod tests {
+    use super::*;
+    use crate::generate::{self, Rng};
+    use crate::text::{self, Piece, Statement};
+
+    fn judge(job: &[u8]) -> Verdict {
+        check(job, &mut vec![1; STORE], &mut vec![1; 16 * (job.len() + 1)])
+    }
+
+    #[test]
+    fn rows_are_filled_to_four_bytes() {
+        assert_eq!([row_bytes(32, 0), row_bytes(33, 0), row_bytes(33, 1), row_bytes(33, 2)], [4, 8, 20, 36]);
+        assert_eq!([row_bytes(1, 0), row_bytes(8, 1), row_bytes(65_535, 2)], [4, 4, 65_536]);
+    }
+
+    #[test]
+    fn headers() {
+        assert_eq!(header(b"( HP-PCL XL;1;1\nx"), Ok((true, 16)));
+        assert_eq!(header(b") HP-PCL XL;1;1;abc\n"), Ok((false, 20)));
+        for cut in 0..15 {
+            assert_eq!(header(&b") HP-PCL XL;1;1\n"[..cut]), fault(2, cut));
+        }
+    }
+
+    #[test]
+    fn numbers_follow_the_byte_order() {
+        let bytes = [1, 2, 3, 4];
+        for (high_first, want) in [(true, [0x1, 0x102, 0x0102_0304]), (false, [0x1, 0x201, 0x0403_0201])] {
+            let reader = Reader { bytes: &bytes, at: 0, high_first };
+            assert_eq!([1, 2, 4].map(|n| reader.number(0, n)), want.map(Some));
+            assert_eq!(reader.number(1, 4), None);
+        }
+    }
+
+    /// A motif of random steps that never pops below its start.
+    fn random_steps(rng: &mut Rng, held: usize) -> Vec<Step> {
+        let mut steps = Vec::new();
+        let mut saved = 0;
+        for _ in 0..rng.below(8) {
+            steps.push(match rng.below(8) {
+                0 => {
+                    saved += 1;
+                    Step::Save
+                }
+                1 if saved > 0 => {
+                    saved -= 1;
+                    Step::Restore
+                }
+                2 => Step::Cursor(rng.one_in(2)),
+                3 => Step::Gray(rng.one_in(2)),
+                4 => Step::NeedCursor,
+                5 => Step::NeedGray(rng.one_in(2)),
+                6 if held > 0 => Step::Call(rng.below(held)),
+                _ => Step::Other,
+            });
+        }
+        steps.extend(vec![Step::Restore; saved]);
+        steps
+    }
+
+    #[test]
+    fn remembered_facts_are_those_of_the_walk() {
+        for seed in 0..400 {
+            let mut rng = Rng::new(seed, 4);
+            let mut held: Vec<Motif> = Vec::new();
+            for i in 0..10 {
+                let steps = random_steps(&mut rng, i);
+                held.push(Motif { name: vec![i as u8], steps, deep: 1, count: 0, reads: false });
+            }
+            for (index, n) in (0..held.len()).flat_map(|i| (0..4).map(move |n| (i, n))) {
+                let look = Look { cursor: n & 1 == 1, gray: n & 2 == 2 };
+                let mut found = Walk { look, saved: 0, cursor_broken: false, gray_broken: false };
+                walk(&held, index, &mut Vec::new(), &mut found);
+                let known = Facts::new(&held).of(index, look);
+                assert_eq!(
+                    (known.look, known.saved, known.cursor_broken, known.gray_broken),
+                    (found.look, found.saved, found.cursor_broken, found.gray_broken)
+                );
+            }
+        }
+    }
+
+    /// The arm of demand 3: performs each operator, calls unfolded, and stops where a rule of the state breaks.
+    #[derive(Default)]
+    struct Slow {
+        held: Vec<(Vec<u8>, Vec<u8>)>,
+        open: bool,
+        cursor: bool,
+        gray: bool,
+        saved: Vec<(bool, bool)>,
+        count: u64,
+    }
+
+    fn given(s: &Statement) -> Vec<(u16, &text::Value)> {
+        s.pieces
+            .iter()
+            .filter_map(|(_, p)| if let Piece::Number { number, .. } = p { Some(*number) } else { None })
+            .zip(s.pieces.iter().filter_map(|(_, p)| if let Piece::Value(v) = p { Some(v) } else { None }))
+            .collect()
+    }
+
+    impl Slow {
+        fn perform(&mut self, bytes: &[u8]) -> bool {
+            let Some((_, high, mut at)) = text::read_header(bytes) else { return false };
+            let mut stream = (Vec::new(), Vec::new());
+            while let Some(s) = text::read_statement(bytes, at, high) {
+                at = s.to;
+                self.count += 1;
+                let pairs = given(&s);
+                let has = |n: u16| pairs.iter().any(|p| p.0 == n);
+                let name = || pairs[0].1.numbers.iter().map(|&n| n as u8).collect::<Vec<u8>>();
+                let kept = match s.tag {
+                    0x42 => {
+                        self.held.clear();
+                        true
+                    }
+                    0x43 => {
+                        (self.cursor, self.gray) = (false, false);
+                        true
+                    }
+                    0x48 | 0x49 => {
+                        self.open = s.tag == 0x48;
+                        true
+                    }
+                    0x5b => {
+                        stream = (name(), Vec::new());
+                        true
+                    }
+                    0x5c => {
+                        stream.1.extend(s.data.as_ref().map_or(&[][..], |d| &d.2));
+                        self.open
+                    }
+                    0x5d => {
+                        self.held.push(std::mem::take(&mut stream));
+                        true
+                    }
+                    0x5e => match self.held.iter().find(|h| h.0 == name()).map(|h| h.1.clone()) {
+                        Some(body) => self.perform(&body),
+                        None => false,
+                    },
+                    0x60 => {
+                        let back = self.saved.pop();
+                        (self.cursor, self.gray) = back.unwrap_or_default();
+                        back.is_some()
+                    }
+                    0x61 => {
+                        self.saved.push((self.cursor, self.gray));
+                        self.saved.len() <= 24
+                    }
+                    0x6a => {
+                        self.gray = pairs[0].1.numbers[0] == 1;
+                        true
+                    }
+                    0x6b | 0x85 => {
+                        self.cursor = s.tag == 0x6b;
+                        true
+                    }
+                    0x63 | 0x79 => !(has(9) && !self.gray || has(11) && self.gray),
+                    0x6c => self.cursor,
+                    0x9b | 0x9d => self.cursor && (!has(77) || self.open),
+                    0xb0 => self.cursor && self.gray,
+                    0xb1 => self.open,
+                    _ => true,
+                };
+                if !kept || self.count > 1_000_000 {
+                    return false;
+                }
+            }
+            true
+        }
+    }
+
+    #[test]
+    fn passes_exactly_if_the_slow_arm_comes_to_the_end() {
+        let mut seen = [0; 30];
+        let jobs = (0..1500u64).map(|i| generate::write(&generate::rich(&mut Rng::new(i, 5))));
+        let limits = (0..160u64).map(|i| generate::limit(&mut Rng::new(i, 6), i as usize));
+        for job in jobs.chain(limits) {
+            let v = judge(&job);
+            seen[v.code as usize] += 1;
+            match v.code {
+                0 => {
+                    let mut slow = Slow::default();
+                    assert!(slow.perform(&job), "{v:?}\n{}", text::list(&job));
+                    assert_eq!(slow.count, v.performed.into());
+                }
+                17 | 23..=26 => assert!(!Slow::default().perform(&job), "{v:?}\n{}", text::list(&job)),
+                _ => {}
+            }
+        }
+        assert!([0, 17, 23, 24, 25, 26].iter().all(|&c| seen[c] > 0), "{seen:?}");
+    }
+
+    #[test]
+    fn lists_read_back_to_the_same_job() {
+        // Each record points at its tag, and the records of a passing job are its operators in order.
+        for index in 0..300 {
+            let job = generate::write(&generate::valid(&mut Rng::new(index, 8)));
+            let mut list = vec![0; 16 * (job.len() + 1)];
+            let v = check(&job, &mut vec![0; STORE], &mut list);
+            let (_, high, mut at) = text::read_header(&job).unwrap();
+            let mut records = list.chunks(16).take(v.records as usize);
+            let word = |r: &[u8], i: usize| u32::from_le_bytes(r[i..i + 4].try_into().unwrap()) as usize;
+            while let Some(s) = text::read_statement(&job, at, high) {
+                at = s.to;
+                let pairs = given(&s);
+                for (number, value) in &pairs {
+                    let r = records.next().unwrap();
+                    assert_eq!(r[..4], [1, *number as u8, value.kind, 0]);
+                    assert_eq!((job[word(r, 4)], word(r, 8)), (value.kind, value.numbers.len()));
+                    let length = if value.kind < 0xc8 || value.kind >= 0xd0 { 0 } else { 2 + usize::from(value.wide) };
+                    assert_eq!(word(r, 12), word(r, 4) + 1 + length);
+                }
+                let r = records.next().unwrap();
+                assert_eq!((r[0], r[1], r[2], r[3]), (2, s.tag, pairs.len() as u8, 0));
+                assert_eq!(word(r, 4), s.tag_at);
+                let data = s.data.as_ref().map_or((0, 0), |d| (d.2.len(), s.to - d.2.len()));
+                assert_eq!((word(r, 8), word(r, 12)), data);
+            }
+            assert!(records.next().is_none());
+        }
+    }
+}
