@@ -31,8 +31,8 @@ use Rattle.motif.proofs.Operators.{picture-is}
 use Rattle.session.specs.Places.{BusyHolds, resting-holds, reading-holds, drawing-holds, PlaceHolds, outside-holds, inside-holds}
 use Rattle.session.specs.Earlier.{Drawn, drawn-so, Unbroken, Earlies, early-fine, early-call, early-held}
 use Rattle.session.specs.Afterwards.{openedAfter, restingAfter, Comes, After}
-use Rattle.session.specs.Standin.{Judges, judges-valid}
-use Rattle.session.specs.declared.standin.Judged.the-variants.{Valid}
+use Rattle.stream.specs.Judging.{Judges, judges-valid}
+use Rattle.stream.specs.declared.judging.Judged.the-variants.{Valid}
 use Rattle.session.specs.declared.early.Early.{Early}
 use Rattle.session.specs.declared.early.Early.the-variants.{Fine, Call, Held, No}
 use Rattle.session.specs.declared.place.Busy.{Busy}

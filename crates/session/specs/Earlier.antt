@@ -13,8 +13,8 @@ use Rattle.scope.specs.Verdict.{every}
 use Rattle.reader.specs.Reads.{operatorAs}
 use Rattle.reader.specs.declared.reading.Operator.{Operator}
 use Rattle.arm.specs.Sums.{SumsAs}
-use Rattle.session.specs.Standin.{Judges}
-use Rattle.session.specs.declared.standin.Judged.the-variants.{Valid}
+use Rattle.stream.specs.Judging.{Judges}
+use Rattle.stream.specs.declared.judging.Judged.the-variants.{Valid}
 use Rattle.session.specs.declared.early.Early.{Early}
 use Rattle.session.specs.declared.early.Early.the-variants.{Fine, Call, Held, No}
 

@@ -1,4 +1,3 @@
 pub mod Places
-pub mod Standin
 pub mod Earlier
 pub mod Afterwards

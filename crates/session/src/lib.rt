@@ -2,7 +2,6 @@
 mod after;
 mod early;
 mod place;
-mod standin;
 
 pub use after::place_after;
 
