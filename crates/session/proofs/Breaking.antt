@@ -1,6 +1,6 @@
 -- The rules of codes 19 to 21 and of a motif at EndStream, by the operator's tag.
 -- Assumes nothing.
-use Prim.Native.Nat.{ℕ, _+_, _≤_, _<_}
+use Prim.Native.Nat.{ℕ, _+_, _%_, _≤_, _<_}
 use mathlib.Core.Path.{_≡_, refl, sym, ap, _∙_}
 use mathlib.Core.Bool.{Bool, true, false, not, _&&_, _||_}
 use mathlib.Core.List.{List, [], _∷_}
@@ -9,18 +9,28 @@ use lib.ListN.{length, getD}
 use lib.Dec.{eqb, leb, ltb}
 use borrow.Author.Tests.{eq-eqb, ne-eqb, le-leb, lt-leb, leb-false, lt-ltb, le-ltb, ltb-false}
 use Rattle.scope.specs.Choice.{pick}
-use Rattle.scope.specs.Motif.{Motif, Held, heldAs, isHeld, bytesHeld, unfolded, Judged, valid, faulty, motifOf}
-use Rattle.scope.specs.Session.{Session, joinedOf}
+use Rattle.scope.specs.Motif as scope-motif
+use Rattle.scope.specs.Motif.{Motif, heldAs, isHeld, bytesHeld, unfolded, Judged, valid, faulty, motifOf}
+use Rattle.scope.specs.Order.{mayCome}
+use Rattle.scope.specs.Session as scope
+use Rattle.scope.specs.Session.{Session, sessionOf, phaseBusy, phaseOf, joinedOf}
 use Rattle.scope.specs.Judge.{State, Case, caseOf, judgedAt, Rule, rule, motifs-own, Refusal, refused, firstBroken, ownOr, outer, tooMuch, nameHeld, nameMissing}
 use Rattle.scope.specs.Attributes.{bytesIn}
-use Rattle.wire.specs.Rows.{rowsOf}
+use Rattle.wire.specs.Rows.{rowsOf, Sized}
 use Rattle.reader.specs.Reads.{operatorAs}
 use Rattle.reader.specs.declared.reading.Operator.{Operator}
-use Rattle.motif.specs.Held.{Finds, finds-at, finds-none}
+use Rattle.motif.specs.Held.{Keeps, Finds, finds-at, finds-none}
 use Rattle.motif.specs.declared.names.Where.the-variants.{At, Nowhere}
 use Rattle.scope.specs.Verdict.{every}
+use Rattle.scope.proofs.Placed.{motif-placed}
+use Rattle.stream.specs.Judging.{Judges, judges-valid, judges-faulty}
+use Rattle.stream.specs.declared.judging.Judged.the-variants.{Valid, Faulty}
+use Rattle.session.specs.Places.{BusyHolds, PlaceHolds, outside-holds, inside-holds}
+use Rattle.session.specs.declared.place.Busy.{Busy}
+use Rattle.session.specs.declared.place.Place.the-variants.{Outside, Inside}
+use Rattle.session.proofs.Tags as tags
 use Rattle.session.specs.Earlier.{before, Unbroken, Earlies, EarliesIn, early-fine, early-call, early-held, early-no}
-use Rattle.session.specs.declared.early.Early.the-variants.{Fine, Call, No}
+use Rattle.session.specs.declared.early.Early.the-variants.{Fine, Call, Held, No}
 use Rattle.session.specs.Afterwards.{Passes}
 use Rattle.session.specs.declared.early.Early.{Early}
 use Rattle.arm.specs.Sums.{SumsAs}
@@ -63,11 +73,11 @@ module _ (c : Case) where
   unfolding tooMuch
   much k l e f = rw (e, f)
 
-  known : (k : Bool) (h : Held) → eqb (c .op .tag) 0x5b ≡ k → heldAs (c .name) (c .session .held) ≡ h → nameHeld c ≡ (k && isHeld h)
+  known : (k : Bool) (h : scope-motif.Held) → eqb (c .op .tag) 0x5b ≡ k → heldAs (c .name) (c .session .held) ≡ h → nameHeld c ≡ (k && isHeld h)
   unfolding nameHeld
   known k h e f = rw (e, f)
 
-  missing : (k : Bool) (h : Held) → eqb (c .op .tag) 0x5e ≡ k → heldAs (c .name) (c .session .held) ≡ h → nameMissing c ≡ (k && not (isHeld h))
+  missing : (k : Bool) (h : scope-motif.Held) → eqb (c .op .tag) 0x5e ≡ k → heldAs (c .name) (c .session .held) ≡ h → nameMissing c ≡ (k && not (isHeld h))
   unfolding nameMissing
   missing k h e f = rw (e, f)
 
@@ -115,12 +125,12 @@ module _ (job attrs : List ℕ) (x : Session) (o : Operator) where
         let nr : o .tag ≡ 0x5c → ⊥ = λ y. omega arith in
         much (caseOf high job st x (operatorAs o attrs)) true false (eq-eqb (o .tag) 0x5b b) (ne-eqb (o .tag) 0x5c nr) ∙ rw (lt-leb 64 (length (x .held)) h)
 
-    begin-held : (m : Motif) → length (x .held) < 64 → heldAs (bytesIn job (rowsOf attrs (o .count)) 139) (x .held) ≡ Held.is m → EarliesIn job attrs x o (No 20 outer)
+    begin-held : (m : Motif) → length (x .held) < 64 → heldAs (bytesIn job (rowsOf attrs (o .count)) 139) (x .held) ≡ scope-motif.Held.is m → EarliesIn job attrs x o (No 20 outer)
     unfolding EarliesIn caseOf isHeld
     begin-held m h e = λ st high. no-20 (caseOf high job st x (operatorAs o attrs)) (begin-room st high h)
-        (known (caseOf high job st x (operatorAs o attrs)) true (Held.is m) (eq-eqb (o .tag) 0x5b b) e)
+        (known (caseOf high job st x (operatorAs o attrs)) true (scope-motif.Held.is m) (eq-eqb (o .tag) 0x5b b) e)
 
-    begin-new : length (x .held) < 64 → heldAs (bytesIn job (rowsOf attrs (o .count)) 139) (x .held) ≡ Held.none → EarliesIn job attrs x o Fine
+    begin-new : length (x .held) < 64 → heldAs (bytesIn job (rowsOf attrs (o .count)) 139) (x .held) ≡ scope-motif.Held.none → EarliesIn job attrs x o Fine
     unfolding EarliesIn caseOf isHeld
     begin-new h e =
         let ne : o .tag ≡ 0x5e → ⊥ = λ y. omega arith in
@@ -128,7 +138,7 @@ module _ (job attrs : List ℕ) (x : Session) (o : Operator) where
         λ st high. early-fine (ne-eqb (o .tag) 0x5e ne) (ne-eqb (o .tag) 0x5d nd)
         (record {
           room = begin-room st high h;
-          new = known (caseOf high job st x (operatorAs o attrs)) true Held.none (eq-eqb (o .tag) 0x5b b) e;
+          new = known (caseOf high job st x (operatorAs o attrs)) true scope-motif.Held.none (eq-eqb (o .tag) 0x5b b) e;
           known = not-missing (caseOf high job st x (operatorAs o attrs)) (ne-eqb (o .tag) 0x5e ne);
           sound = sound-valid (caseOf high job st x (operatorAs o attrs)) (made-other st high nd);
         })
@@ -196,7 +206,7 @@ module _ (job attrs : List ℕ) (x : Session) (o : Operator) where
         let nb : o .tag ≡ 0x5b → ⊥ = λ y. omega arith in
         not-known (caseOf high job st x (operatorAs o attrs)) (ne-eqb (o .tag) 0x5b nb)
 
-    exec-held : (m : Motif) (v : ℕ) → heldAs (bytesIn job (rowsOf attrs (o .count)) 139) (x .held) ≡ Held.is m
+    exec-held : (m : Motif) (v : ℕ) → heldAs (bytesIn job (rowsOf attrs (o .count)) 139) (x .held) ≡ scope-motif.Held.is m
         → SumsAs v (unfolded (x .held) (bytesIn job (rowsOf attrs (o .count)) 139)) → EarliesIn job attrs x o (Call v)
     unfolding EarliesIn caseOf isHeld
     exec-held m v e s =
@@ -205,14 +215,14 @@ module _ (job attrs : List ℕ) (x : Session) (o : Operator) where
         (record {
           room = not-much st high;
           new = not-new st high;
-          known = missing (caseOf high job st x (operatorAs o attrs)) true (Held.is m) (eq-eqb (o .tag) 0x5e b) e;
+          known = missing (caseOf high job st x (operatorAs o attrs)) true (scope-motif.Held.is m) (eq-eqb (o .tag) 0x5e b) e;
           sound = sound-valid (caseOf high job st x (operatorAs o attrs)) (made-other st high nd);
         })
 
-    exec-not : heldAs (bytesIn job (rowsOf attrs (o .count)) 139) (x .held) ≡ Held.none → EarliesIn job attrs x o (No 21 outer)
+    exec-not : heldAs (bytesIn job (rowsOf attrs (o .count)) 139) (x .held) ≡ scope-motif.Held.none → EarliesIn job attrs x o (No 21 outer)
     unfolding EarliesIn caseOf isHeld
     exec-not e = λ st high. no-21 (caseOf high job st x (operatorAs o attrs)) (not-much st high) (not-new st high)
-        (missing (caseOf high job st x (operatorAs o attrs)) true Held.none (eq-eqb (o .tag) 0x5e b) e)
+        (missing (caseOf high job st x (operatorAs o attrs)) true scope-motif.Held.none (eq-eqb (o .tag) 0x5e b) e)
 
     -- ExecStream by what a search for its name finds
     pub exec-at : {rows sums name : List ℕ} {i : ℕ} → name ≡ bytesIn job (rowsOf attrs (o .count)) 139
@@ -222,3 +232,65 @@ module _ (job attrs : List ℕ) (x : Session) (o : Operator) where
     pub exec-nowhere : {rows sums name : List ℕ} → name ≡ bytesIn job (rowsOf attrs (o .count)) 139
         → Finds rows sums (x .held) name Nowhere → EarliesIn job attrs x o (No 21 outer)
     exec-nowhere e (finds-none f) = exec-not (rw e at f)
+
+  module _ (b : o .tag ≡ 0x5d) where
+    ends-free : (st : State) (high : Bool) → tooMuch (caseOf high job st x (operatorAs o attrs)) ≡ false
+    unfolding caseOf
+    ends-free st high =
+        let nb : o .tag ≡ 0x5b → ⊥ = λ y. omega arith in
+        let nr : o .tag ≡ 0x5c → ⊥ = λ y. omega arith in
+        much (caseOf high job st x (operatorAs o attrs)) false false (ne-eqb (o .tag) 0x5b nb) (ne-eqb (o .tag) 0x5c nr)
+
+    ends-new : (st : State) (high : Bool) → nameHeld (caseOf high job st x (operatorAs o attrs)) ≡ false
+    unfolding caseOf
+    ends-new st high = let nb : o .tag ≡ 0x5b → ⊥ = λ y. omega arith in not-known (caseOf high job st x (operatorAs o attrs)) (ne-eqb (o .tag) 0x5b nb)
+
+    ends-known : (st : State) (high : Bool) → nameMissing (caseOf high job st x (operatorAs o attrs)) ≡ false
+    unfolding caseOf
+    ends-known st high = let ne : o .tag ≡ 0x5e → ⊥ = λ y. omega arith in not-missing (caseOf high job st x (operatorAs o attrs)) (ne-eqb (o .tag) 0x5e ne)
+
+    made-end : (st : State) (high : Bool) → caseOf high job st x (operatorAs o attrs) .made ≡ motifOf (x .held) (joinedOf (x .busy))
+    unfolding caseOf judgedAt
+    made-end st high = rw (eq-eqb (o .tag) 0x5d b)
+
+    valid-sound : {ms : List Motif} {d v : ℕ} {m : Judged} → Judges ms (Valid d v) m → (r : Refusal) → ownOr m r ≡ r
+    valid-sound (judges-valid e s) r = refl
+
+    faulty-is : {ms : List Motif} {code place : ℕ} {m : Judged} → Judges ms (Faulty code place) m → m ≡ faulty code place
+    faulty-is judges-faulty = refl
+
+    -- EndStream of a valid motif
+    pub end-valid : {s : List ℕ} {d v : ℕ} → s ≡ joinedOf (x .busy) → Judges (x .held) (Valid d v) (motifOf (x .held) s) → EarliesIn job attrs x o (Held d v)
+    unfolding EarliesIn caseOf
+    end-valid {d = d} {v = v} e h =
+        let h₂ : Judges (x .held) (Valid d v) (motifOf (x .held) (joinedOf (x .busy))) = rw e at h in
+        λ st high. let j : Judges (x .held) (Valid d v) (caseOf high job st x (operatorAs o attrs) .made) = rw (made-end st high) h₂ in
+        early-held (eq-eqb (o .tag) 0x5d b) j
+        (record { room = ends-free st high; new = ends-new st high; known = ends-known st high; sound = valid-sound j })
+
+    -- EndStream of a faulty one: its place lies within it, so it is not cut off
+    pub end-faulty : {s : List ℕ} {code place : ℕ} → s ≡ joinedOf (x .busy) → length s ≤ 16384 → Judges (x .held) (Faulty code place) (motifOf (x .held) s)
+        → EarliesIn job attrs x o (No code (place % 4_294_967_296))
+    unfolding EarliesIn
+    end-faulty {s} {code} {place} e l h =
+        let f : motifOf (x .held) s ≡ faulty code place = faulty-is h in
+        let k : place ≤ length s = motif-placed (x .held) s code place f in
+        let m : place % 4_294_967_296 ≡ place = omega arith in
+        let g : motifOf (x .held) (joinedOf (x .busy)) ≡ faulty code place = rw e at f in
+        rw m (λ st high. no-own (caseOf high job st x (operatorAs o attrs)) (ends-free st high) (ends-new st high) (ends-known st high) (made-end st high ∙ g))
+
+-- an operator between sessions
+pub outer-fine : {job rows sums work : List ℕ} {b : Bool} (attrs : List ℕ) (q : scope.Place) (o : Operator) (st : State) (high : Bool) → PlaceHolds job rows sums work (Outside b) q
+    → mayCome (phaseOf q) (sessionOf q .opened) (o .tag) ≡ true → Earlies (caseOf high job st (sessionOf q) (operatorAs o attrs)) Fine
+unfolding phaseOf EarliesIn
+outer-fine {job} attrs q o st high outside-holds m =
+    fine-in job attrs scope.opening o (tags.first-not false (o .tag) 0x5b refl m) (tags.first-not false (o .tag) 0x5c refl m) (tags.first-not false (o .tag) 0x5d refl m) (tags.first-not false (o .tag) 0x5e refl m) st high
+
+-- an operator in a session
+pub inner-early : {job rows sums work attrs : List ℕ} {i : Bool} {n u : ℕ} {y : Busy} (q : scope.Place) (o : Operator) (st : State) (high : Bool) (r : Early)
+    → ((x : Session) → n ≤ 64 → u ≡ bytesHeld (x .held) → Keeps job rows sums n (x .held) → BusyHolds job work n u y (x .busy) → Sized attrs (o .count)
+    → 16384 ≤ length work → mayCome (phaseBusy (x .busy)) (x .opened) (o .tag) ≡ true → EarliesIn job attrs x o r)
+    → PlaceHolds job rows sums work (Inside i n u y) q → Sized attrs (o .count) → 16384 ≤ length work
+    → mayCome (phaseOf q) (sessionOf q .opened) (o .tag) ≡ true → Earlies (caseOf high job st (sessionOf q) (operatorAs o attrs)) r
+unfolding phaseOf EarliesIn
+inner-early q o st high r f (inside-holds {x = x} e h hu w k y) z l m = f x h w k y z l m st high

@@ -5,7 +5,7 @@ use mathlib.Core.Path.{_≡_, refl, sym, ap, _∙_}
 use mathlib.Core.Bool.{Bool, true, false}
 use mathlib.Core.List.{List, [], _++_}
 use native.Mathlib.Omega.{arith}
-use lib.ListN.{length, take, drop, length-drop, drop-of-length-le}
+use lib.ListN.{length, take, drop, length-take, length-drop, drop-of-length-le}
 use lib.Seq.{drop-drop, drop-at, take-add, length-take-le}
 use lib.Dec.{leb}
 use borrow.Author.Tests.{le-leb, leb-true, leb-false}
@@ -77,3 +77,10 @@ module _ (s w W : List ℕ) (first count used joined k : ℕ) (t : Bool) (e : k 
       let y : t ≡ true = r ∙ le-leb (used + joined + length b) (length w) g in
       let z : W ≡ over w (used + joined) b = j ∙ ap (λ (x : Bool). joinedAt x w (used + joined) b) y in
       rw (z, ← e) (join-over w b used joined k (part-length ∙ sym e) (rw e f))
+
+-- a part of the work buffer, of a length that is told in two ways
+pub part-same : (w : List ℕ) (used : ℕ) {k joined : ℕ} → k ≡ joined → take k (drop used w) ≡ take joined (drop used w)
+part-same w used e = ap (λ (n : ℕ). take n (drop used w)) e
+
+pub part-short : (w : List ℕ) (used : ℕ) {k joined : ℕ} → k ≡ joined → joined ≤ 16384 → length (take k (drop used w)) ≤ 16384
+part-short w used {k} {joined} e h = simp length-take (omega arith)

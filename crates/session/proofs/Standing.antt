@@ -1,15 +1,15 @@
 -- What the place that the code keeps says of the place of the definitions: phase, source, page.
 -- Assumes nothing.
-use Prim.Native.Nat.{ℕ}
+use Prim.Native.Nat.{ℕ, _+_, _≤_}
 use mathlib.Core.Path.{_≡_, refl, sym, ap, _∙_}
 use mathlib.Core.Bool.{Bool, true, false}
 use mathlib.Core.List.{List}
-use lib.ListN.{length}
+use lib.ListN.{length, take, drop}
 use Rattle.scope.specs.Order as order
 use Rattle.scope.specs.Motif as motif
 use Rattle.scope.specs.Arm.{blank}
 use Rattle.scope.specs.Session as scope
-use Rattle.scope.specs.Session.{phaseDrawing, phaseBusy, phaseOf, pageOf, sessionOf}
+use Rattle.scope.specs.Session.{phaseDrawing, phaseBusy, phaseOf, pageOf, joinedOf, sessionOf}
 use Rattle.reader.specs.Views.{phaseAs, imageAs}
 use Rattle.reader.specs.declared.order.Image.{Image}
 use Rattle.reader.specs.declared.order.Phase.{Phase}
@@ -19,6 +19,7 @@ use Rattle.arm.proofs.Stacks.{depth-saved}
 use Rattle.motif.specs.declared.picture.Picture.the-variants.{Nothing, Being}
 use Rattle.motif.specs.declared.picture.Picture.{Picture}
 use Rattle.session.specs.Places.{BusyHolds, resting-holds, reading-holds, drawing-holds, PlaceHolds, outside-holds, inside-holds}
+use Rattle.session.specs.Earlier.{Drawn, drawn-so}
 use Rattle.session.specs.declared.place.Busy.{Busy}
 use Rattle.session.specs.declared.place.Busy.the-variants.{Resting, Reading, Drawing}
 use Rattle.session.specs.declared.place.Place.the-variants.{Outside, Inside}
@@ -39,6 +40,19 @@ module _ {job work : List ℕ} {n used : ℕ} where
   pub stream-phase : {a l j : ℕ} {q : scope.Busy} → BusyHolds job work n used (Reading a l j) q → order.in-stream ≡ phaseBusy q
   unfolding phaseBusy
   stream-phase (reading-holds m j t u r) = refl
+
+  -- the bytes of the motif that is being read
+  pub read-long : {a l j : ℕ} {q : scope.Busy} → BusyHolds job work n used (Reading a l j) q → j ≡ length (joinedOf q)
+  read-long (reading-holds m j t u r) = j
+
+  pub read-bytes : {a l j : ℕ} {q : scope.Busy} → BusyHolds job work n used (Reading a l j) q → take j (drop used work) ≡ joinedOf q
+  read-bytes (reading-holds m j t u r) = t
+
+  pub read-within : {a l j : ℕ} {q : scope.Busy} → BusyHolds job work n used (Reading a l j) q → used + j ≤ 16384
+  read-within (reading-holds m j t u r) = u
+
+  pub is-drawn : {p : Page} {i : Picture} {q : scope.Busy} → BusyHolds job work n used (Drawing p i) q → Drawn q
+  is-drawn (drawing-holds h e) = drawn-so
 
   pub rest-page : {p : Page} {q : scope.Busy} → PageHolds p (blank false) → BusyHolds job work n used Resting q → PageHolds p (pageOf q)
   rest-page h resting-holds = h

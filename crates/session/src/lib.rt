@@ -4,7 +4,7 @@ mod early;
 mod place;
 
 pub use after::place_after;
-
+pub use early::early_of;
 pub use early::Early;
 pub use place::opened_in;
 pub use place::page_in;
