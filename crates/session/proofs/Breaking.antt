@@ -1,20 +1,19 @@
 -- The rules of codes 19 to 21 and of a motif at EndStream, by the operator's tag.
 -- Assumes nothing.
 use Prim.Native.Nat.{ℕ, _+_, _%_, _≤_, _<_}
-use mathlib.Core.Path.{_≡_, refl, sym, ap, _∙_}
+use mathlib.Core.Path.{_≡_, refl, sym, _∙_}
 use mathlib.Core.Bool.{Bool, true, false, not, _&&_, _||_}
-use mathlib.Core.List.{List, [], _∷_}
+use mathlib.Core.List.{List, []}
 use native.Mathlib.Omega.{arith}
 use lib.ListN.{length, getD}
 use lib.Dec.{eqb, leb, ltb}
 use borrow.Author.Tests.{eq-eqb, ne-eqb, le-leb, lt-leb, leb-false, lt-ltb, le-ltb, ltb-false}
-use Rattle.scope.specs.Choice.{pick}
 use Rattle.scope.specs.Motif as scope-motif
 use Rattle.scope.specs.Motif.{Motif, heldAs, isHeld, bytesHeld, unfolded, Judged, valid, faulty, motifOf}
 use Rattle.scope.specs.Order.{mayCome}
 use Rattle.scope.specs.Session as scope
 use Rattle.scope.specs.Session.{Session, sessionOf, phaseBusy, phaseOf, joinedOf}
-use Rattle.scope.specs.Judge.{State, Case, caseOf, judgedAt, Rule, rule, motifs-own, Refusal, refused, firstBroken, ownOr, outer, tooMuch, nameHeld, nameMissing}
+use Rattle.scope.specs.Judge.{State, Case, caseOf, judgedAt, Rule, Refusal, refused, firstBroken, ownOr, outer, tooMuch, nameHeld, nameMissing}
 use Rattle.scope.specs.Attributes.{bytesIn}
 use Rattle.wire.specs.Rows.{rowsOf, Sized}
 use Rattle.reader.specs.Reads.{operatorAs}

@@ -1,9 +1,9 @@
 -- After an operator the code's place keeps the definitions' place.
 -- Assumes nothing.
 use Prim.Native.Nat.{ℕ, suc, _+_, _*_, _≤_, _<_}
-use mathlib.Core.Path.{_≡_, refl, sym, ap, _∙_}
+use mathlib.Core.Path.{_≡_, refl, ap, _∙_}
 use mathlib.Core.Bool.{Bool, true, false}
-use mathlib.Core.List.{List, [], _∷_, _++_}
+use mathlib.Core.List.{List, [], _++_}
 use native.Mathlib.Omega.{arith}
 use native.Mathlib.Numerals.{add-one}
 use lib.ListN.{length, set, take, drop, length-append}
@@ -11,17 +11,16 @@ use lib.Dec.{eqb}
 use borrow.Author.Tests.{eq-eqb, ne-eqb, eqb-true, eqb-false}
 use Rattle.wire.specs.Rows.{rowsOf, Sized}
 use Rattle.scope.specs.Choice.{pick}
-use Rattle.scope.specs.Order.{in-session, in-stream, mayCome, rowsFit, imageOf}
+use Rattle.scope.specs.Order.{mayCome, rowsFit, imageOf}
 use Rattle.scope.specs.Arm as scope-arm
 use Rattle.scope.specs.Motif as scope-motif
-use Rattle.scope.specs.Motif.{bytesHeld, motifOf, flat, unfolded, pictureAfter}
+use Rattle.scope.specs.Motif.{bytesHeld, motifOf, pictureAfter}
 use Rattle.scope.specs.Session as scope
-use Rattle.scope.specs.Session.{Setting, phaseOf, phaseBusy, phaseDrawing, keptAs, sessionAfter, placeAfter}
+use Rattle.scope.specs.Session.{phaseOf, phaseBusy, phaseDrawing, keptAs, sessionAfter, placeAfter}
 use Rattle.scope.specs.Judge.{State, Case, caseOf, judgedAt, tooMuch}
 use Rattle.reader.specs.Reads.{operatorAs}
 use Rattle.reader.specs.declared.reading.Operator.{Operator}
 use Rattle.arm.specs.Holds.{PageHolds}
-use Rattle.arm.specs.Sums.{SumsAs}
 use Rattle.arm.specs.declared.page.Page.{Page}
 use Rattle.motif.specs.Held.{Named, Keeps, keeps-none}
 use Rattle.motif.specs.Pictures.{pictureAs, pictureFor, imageIn}
@@ -29,7 +28,7 @@ use Rattle.motif.specs.declared.picture.Picture.{Picture}
 use Rattle.motif.proofs.Keeping.{keeps-length, keeps-join}
 use Rattle.motif.proofs.Operators.{picture-is}
 use Rattle.session.specs.Places.{BusyHolds, resting-holds, reading-holds, drawing-holds, PlaceHolds, outside-holds, inside-holds}
-use Rattle.session.specs.Earlier.{Drawn, drawn-so, Unbroken, Earlies, early-fine, early-call, early-held}
+use Rattle.session.specs.Earlier.{drawn-so, Earlies, early-fine, early-call, early-held}
 use Rattle.session.specs.Afterwards.{openedAfter, restingAfter, Comes, After}
 use Rattle.stream.specs.Judging.{Judges, judges-valid}
 use Rattle.stream.specs.declared.judging.Judged.the-variants.{Valid}

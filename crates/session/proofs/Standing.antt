@@ -1,12 +1,11 @@
 -- What the place that the code keeps says of the place of the definitions: phase, source, page.
 -- Assumes nothing.
 use Prim.Native.Nat.{ℕ, _+_, _≤_}
-use mathlib.Core.Path.{_≡_, refl, sym, ap, _∙_}
-use mathlib.Core.Bool.{Bool, true, false}
+use mathlib.Core.Path.{_≡_, refl, ap}
+use mathlib.Core.Bool.{Bool, false}
 use mathlib.Core.List.{List}
 use lib.ListN.{length, take, drop}
 use Rattle.scope.specs.Order as order
-use Rattle.scope.specs.Motif as motif
 use Rattle.scope.specs.Arm.{blank}
 use Rattle.scope.specs.Session as scope
 use Rattle.scope.specs.Session.{phaseDrawing, phaseBusy, phaseOf, pageOf, joinedOf, sessionOf}

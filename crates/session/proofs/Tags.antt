@@ -2,7 +2,7 @@
 -- Assumes nothing.
 use Prim.Native.Nat.{ℕ}
 use mathlib.Core.Path.{_≡_, refl, sym, _∙_}
-use mathlib.Core.Bool.{Bool, true, false, true≢false, _||_}
+use mathlib.Core.Bool.{Bool, true, false, true≢false}
 use lib.Dec.{eqb}
 use borrow.Author.Tests.{eqb-true, ne-eqb}
 use Rattle.scope.specs.Choice.{pick, among}
@@ -10,7 +10,7 @@ use Rattle.scope.specs.Data.{Image}
 use Rattle.scope.specs.Motif.{Picture}
 use Rattle.scope.specs.Arm.{Page}
 use Rattle.scope.specs.Order.{Phase, between-sessions, in-session, in-stream, in-page, in-image, mayCome, drawn}
-use Rattle.scope.specs.Session.{phaseBusy, phaseDrawing, Busy, drawing}
+use Rattle.scope.specs.Session.{phaseBusy, phaseDrawing, Busy}
 use Rattle.session.specs.Earlier.{Drawn, drawn-so}
 
 -- an operator comes, so it is none that may not come there

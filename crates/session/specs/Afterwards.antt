@@ -15,7 +15,7 @@ use Rattle.scope.specs.Arm.{blank}
 use Rattle.scope.specs.Motif.{Picture}
 use Rattle.scope.specs.Session as scope
 use Rattle.scope.specs.Session.{phaseOf, sessionOf, placeAfter}
-use Rattle.scope.specs.Judge.{State, Case, caseOf}
+use Rattle.scope.specs.Judge.{State, caseOf}
 use Rattle.reader.specs.Reads.{operatorAs}
 use Rattle.reader.specs.declared.reading.Operator.{Operator}
 use Rattle.arm.specs.Holds.{PageHolds}

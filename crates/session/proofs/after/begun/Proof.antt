@@ -1,3 +1,5 @@
+-- `session::after::begun` meets its contract: one test after the other.
+-- Assumes nothing.
 use Rattle.session.specs.Places.{resting-holds, reading-holds, drawing-holds}
 use Rattle.session.specs.Afterwards.{restingAfter}
 use borrow.Author.Tests.{eq-eqb, ne-eqb}
@@ -12,21 +14,17 @@ use Rattle.session.proofs.after.begun.Lts as lts
 use Rattle.arm.proofs.page.blank.Reads as blank-reads
 use Rattle.motif.proofs.name_in.Reads as name-in-reads
 
--- src/after.rt:48:30
 blank-requires : tie.Need-blank-requires
 blank-requires c κs = search needs
 
--- src/after.rt:48:9
 returns : tie.Need-returns
 unfolding restingAfter
 returns c =
     λ work n used z h k. rw (eq-eqb _ _ (c .before .if1 .taken)) (drawing-holds (c .blank .ensures) refl)
 
--- src/after.rt:51:13
 name-in-requires : tie.Need-name-in-requires
 name-in-requires c κs = search needs
 
--- src/after.rt:52:9
 returns-2 : tie.Need-returns-2
 unfolding restingAfter
 returns-2 c =
@@ -35,7 +33,6 @@ returns-2 c =
     rw (ne-eqb _ _ (c .before .before .if1 .left), eq-eqb _ _ (c .before .if2 .taken))
     (reading-holds (record { within = m .ensures .0; same = m .ensures .1 z }) refl refl u (k (c .before .if2 .taken)))
 
--- src/after.rt:42:1
 returns-3 : tie.Need-returns-3
 unfolding restingAfter
 returns-3 c =

@@ -1,3 +1,5 @@
+-- `session::after::drawn_on` meets its contract: EndPage or not.
+-- Assumes nothing.
 use Rattle.session.specs.Places.{resting-holds, drawing-holds}
 use borrow.Author.Tests.{eq-eqb, ne-eqb}
 use borrow.Author.Needs.{needs}
@@ -7,16 +9,13 @@ use Rattle.session.proofs.after.drawn_on.Reads as reads
 use Rattle.session.proofs.after.drawn_on.Lts as lts
 use Rattle.motif.proofs.picture_after.Reads as picture-after-reads
 
--- src/after.rt:78:9
 returns : tie.Need-returns
 returns c =
     λ work n used q z h f. rw (eq-eqb _ _ (c .if1 .taken)) resting-holds
 
--- src/after.rt:80:25
 picture-after-requires : tie.Need-picture-after-requires
 picture-after-requires c κs = search needs
 
--- src/after.rt:70:1
 returns-2 : tie.Need-returns-2
 returns-2 c =
     λ work n used q z h f. rw (ne-eqb _ _ (c .before .if1 .left)) (drawing-holds h (c .picture-after .ensures z f))

@@ -1,3 +1,5 @@
+-- `session::after::ended` meets its contract: only a valid motif comes.
+-- Assumes nothing.
 use Rattle.session.proofs.Going.{fine-after, call-after, no-after}
 use mathlib.Core.Path.{refl}
 use borrow.Author.Needs.{needs}
@@ -7,45 +9,36 @@ use Rattle.session.proofs.after.ended.Reads as reads
 use Rattle.session.proofs.after.ended.Lts as lts
 use Rattle.session.proofs.after.hold.Reads as hold-reads
 
--- src/after.rt:182:24
 enum-told : tie.Need-enum-told
 enum-told c = search needs
 
--- src/after.rt:183:27
 enum-told-2 : tie.Need-enum-told-2
 enum-told-2 c = search needs
 
--- src/after.rt:184:21
 enum-known-early : tie.Need-enum-known-early
 enum-known-early c = search needs
 
--- src/after.rt:184:36
 hold-requires : tie.Need-hold-requires
 hold-requires c κs = search needs
 
--- src/after.rt:185:28
 enum-told-3 : tie.Need-enum-told-3
 enum-told-3 c = search needs
 
--- src/after.rt:164:1
 returns : tie.Need-returns
 returns c =
     let a = c .before .before .args in
     (refl, (refl, rw (c .enum-told .given .1) (λ job attrs work high gray o page nr. fine-after job attrs high gray o (a .rows .now) (a .sums .now) work nr)))
 
--- src/after.rt:164:1
 returns-2 : tie.Need-returns-2
 returns-2 c =
     let a = c .before .before .args in
     (refl, (refl, rw (c .enum-told2 .given .1) (λ job attrs work high gray o page nr. call-after job attrs high gray o (a .rows .now) (a .sums .now) work nr)))
 
--- src/after.rt:164:1
 returns-3 : tie.Need-returns-3
 returns-3 c =
     let h = c .hold in
     (h .ensures .0, (h .ensures .1 .0, rw (c .before .before .before .before .early .given .1) (h .ensures .1 .1)))
 
--- src/after.rt:164:1
 returns-4 : tie.Need-returns-4
 returns-4 c =
     let a = c .before .before .args in

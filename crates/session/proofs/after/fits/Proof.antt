@@ -1,5 +1,7 @@
+-- `session::after::fits` meets its contract: one bound after the other.
+-- Assumes nothing.
 use borrow.Author.Tests.{leb-true, le-leb}
-use Prim.Native.Nat.{_+_, _-_, _≤_}
+use Prim.Native.Nat.{_-_, _≤_}
 use native.Mathlib.Omega.{arith}
 use mathlib.Core.Bool.{true≢false}
 use mathlib.Core.Path.{sym}
@@ -9,31 +11,25 @@ use Rattle.session.proofs.after.fits.Tie as tie
 use Rattle.session.proofs.after.fits.Reads as reads
 use Rattle.session.proofs.after.fits.Lts as lts
 
--- src/after.rt:89:9
 returns : tie.Need-returns
 returns c =
     (λ e. absurd (true≢false (sym e)), λ h k. absurd (omega arith))
 
--- src/after.rt:92:9
 returns-2 : tie.Need-returns-2
 returns-2 c =
     (λ e. absurd (true≢false (sym e)), λ h k. absurd (omega arith))
 
--- src/after.rt:95:9
 returns-3 : tie.Need-returns-3
 returns-3 c =
     (λ e. absurd (true≢false (sym e)), λ h k. absurd (omega arith))
 
--- src/after.rt:98:9
 returns-4 : tie.Need-returns-4
 returns-4 c =
     (λ e. absurd (true≢false (sym e)), λ h k. absurd (omega arith))
 
--- src/after.rt:100:14
 sub-result : tie.Need-sub-result
 sub-result c = search needs
 
--- src/after.rt:84:1
 returns-5 : tie.Need-returns-5
 returns-5 c =
     let a = c .before .before .before .before .args in

@@ -1,3 +1,5 @@
+-- `session::after::hold` meets its contract: the row and the summary stored are those of the motif.
+-- Assumes nothing.
 use Rattle.session.proofs.Going.{hold-after, full-after}
 use lib.ListN.{length-set}
 use native.Mathlib.Omega.{arith}
@@ -8,85 +10,66 @@ use Rattle.session.proofs.after.hold.Tie as tie
 use Rattle.session.proofs.after.hold.Reads as reads
 use Rattle.session.proofs.after.hold.Lts as lts
 
--- src/after.rt:140:9
 returns : tie.Need-returns
 returns c =
     let a = c .before .args in
     (refl, (refl, λ job attrs work high gray o page nr. full-after job attrs high gray o (a .rows .now) (a .sums .now) work nr (a .depth) (a .sum) (λ h k. omega arith)))
 
--- src/after.rt:143:9
 returns-2 : tie.Need-returns-2
 returns-2 c =
     let a = c .before .before .args in
     (refl, (refl, λ job attrs work high gray o page nr. full-after job attrs high gray o (a .rows .now) (a .sums .now) work nr (a .depth) (a .sum) (λ h k. omega arith)))
 
--- src/after.rt:146:9
 returns-3 : tie.Need-returns-3
 returns-3 c =
     let a = c .before .before .before .args in
     (refl, (refl, λ job attrs work high gray o page nr. full-after job attrs high gray o (a .rows .now) (a .sums .now) work nr (a .depth) (a .sum) (λ h k. omega arith)))
 
--- src/after.rt:148:10
 mul-rows : tie.Need-mul-rows
 mul-rows c = search needs
 
--- src/after.rt:148:5
 mul-rows-2 : tie.Need-mul-rows-2
 mul-rows-2 c = search needs
 
--- src/after.rt:148:5
 element-write-rows : tie.Need-element-write-rows
 element-write-rows c = search needs
 
--- src/after.rt:149:10
 mul-rows-3 : tie.Need-mul-rows-3
 mul-rows-3 c = search needs
 
--- src/after.rt:149:10
 add-rows : tie.Need-add-rows
 add-rows c = search needs
 
--- src/after.rt:149:5
 mul-rows-4 : tie.Need-mul-rows-4
 mul-rows-4 c = search needs
 
--- src/after.rt:149:5
 element-write-rows-2 : tie.Need-element-write-rows-2
 element-write-rows-2 c = search needs
 
--- src/after.rt:150:10
 mul-rows-5 : tie.Need-mul-rows-5
 mul-rows-5 c = search needs
 
--- src/after.rt:150:10
 add-rows-2 : tie.Need-add-rows-2
 add-rows-2 c = search needs
 
--- src/after.rt:150:5
 mul-rows-6 : tie.Need-mul-rows-6
 mul-rows-6 c = search needs
 
--- src/after.rt:150:5
 element-write-rows-3 : tie.Need-element-write-rows-3
 element-write-rows-3 c = search needs
 
--- src/after.rt:151:5
 mul-sums : tie.Need-mul-sums
 mul-sums c = search needs
 
--- src/after.rt:151:5
 element-write-sums : tie.Need-element-write-sums
 element-write-sums c = search needs
 
--- src/after.rt:152:27
 add-t13 : tie.Need-add-t13
 add-t13 c = search needs
 
--- src/after.rt:152:37
 add-t12 : tie.Need-add-t12
 add-t12 c = search needs
 
--- src/after.rt:121:1
 returns-4 : tie.Need-returns-4
 returns-4 c =
     let a = c .before .before .before .args in

@@ -1,3 +1,5 @@
+-- `session::after::inside_after` meets its contract: case by case of what the session is at.
+-- Assumes nothing.
 use Rattle.session.proofs.Going.{draw-after}
 use mathlib.Core.Path.{refl}
 use borrow.Author.Needs.{needs}
@@ -9,41 +11,32 @@ use Rattle.session.proofs.after.drawn_on.Reads as drawn-on-reads
 use Rattle.session.proofs.after.reading_after.Reads as reading-after-reads
 use Rattle.session.proofs.after.resting_after.Reads as resting-after-reads
 
--- src/after.rt:244:26
 enum-told : tie.Need-enum-told
 enum-told c = search needs
 
--- src/after.rt:244:26
 resting-after-requires : tie.Need-resting-after-requires
 resting-after-requires c κs = search needs
 
--- src/after.rt:245:23
 enum-known-busy : tie.Need-enum-known-busy
 enum-known-busy c = search needs
 
--- src/after.rt:245:48
 reading-after-requires : tie.Need-reading-after-requires
 reading-after-requires c κs = search needs
 
--- src/after.rt:246:26
 enum-known-busy-2 : tie.Need-enum-known-busy-2
 enum-known-busy-2 c = search needs
 
--- src/after.rt:246:72
 drawn-on-requires : tie.Need-drawn-on-requires
 drawn-on-requires c κs = search needs
 
--- src/after.rt:220:1
 returns : tie.Need-returns
 returns c =
     let a = c .before .before .before .before .before .args in
     (refl, (refl, (refl, (refl, rw (c .before .enum-told .given .1) (c .resting-after .ensures (a .high) (a .early) (a .page) (a .rows .now) (a .sums .now) (a .work .now))))))
 
--- src/after.rt:220:1
 same-length : tie.Need-same-length
 same-length c = search needs
 
--- src/after.rt:220:1
 returns-2 : tie.Need-returns-2
 returns-2 c =
     let r = c .before .before .reading-after in
@@ -52,7 +45,6 @@ returns-2 c =
     (r .ensures .0, (r .ensures .1 .0, (r .ensures .1 .1 .0, (r .ensures .1 .1 .1 .0,
     rw (y .busy .given .1) (r .ensures .1 .1 .1 .1 (a .attrs .now) (a .high) (a .gray) (a .page))))))
 
--- src/after.rt:220:1
 returns-3 : tie.Need-returns-3
 returns-3 c =
     let y = c .before .before in

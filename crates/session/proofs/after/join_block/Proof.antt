@@ -1,3 +1,5 @@
+-- `session::after::join_block` meets its contract: the block stands behind the bytes joined before.
+-- Assumes nothing.
 use Rattle.session.proofs.Joined.{work-length, work-past, work-joined}
 use Prim.Native.Nat.{_+_, _-_}
 use mathlib.Core.Path.{_≡_, refl, sym, _∙_}
@@ -12,59 +14,48 @@ use Rattle.session.proofs.after.join_block.Lts as lts
 use Rattle.buffer.proofs.join.Reads as join-reads
 use Rattle.session.proofs.after.fits.Reads as fits-reads
 
--- src/after.rt:113:9
 fits-requires : tie.Need-fits-requires
 fits-requires c κs = search needs
 
--- src/after.rt:114:9
 returns : tie.Need-returns
 returns c =
     let f = c .before .fits2 in
     (refl, (refl, λ h w k. absurd (true≢false (sym (f .ensures .1 w k) ∙ not-true _ (c .if1 .taken)))))
 
--- src/after.rt:116:30
 add-join : tie.Need-add-join
 add-join c =
     let f = c .before .fits2 .ensures .0 (not-false _ (c .if1 .left)) in
     omega (arith, f)
 
--- src/after.rt:116:18
 sub-join : tie.Need-sub-join
 sub-join c = search needs
 
--- src/after.rt:116:18
 part-join-start : tie.Need-part-join-start
 part-join-start c = search needs
 
--- src/after.rt:116:18
 part-join-end : tie.Need-part-join-end
 part-join-end c =
     let f = c .before .fits2 .ensures .0 (not-false _ (c .if1 .left)) in
     omega (arith, f)
 
--- src/after.rt:116:52
 add-join-2 : tie.Need-add-join-2
 add-join-2 c =
     let e = c .before .before in
     let f = e .before .fits2 .ensures .0 (not-false _ (e .if1 .left)) in
     omega (arith, f)
 
--- src/after.rt:116:5
 join-requires : tie.Need-join-requires
 join-requires c κs = search needs
 
--- src/after.rt:117:5
 add-result : tie.Need-add-result
 add-result c =
     let e = c .before .before .before .before .before in
     let f = e .before .fits2 .ensures .0 (not-false _ (e .if1 .left)) in
     omega (arith, f)
 
--- src/after.rt:104:1
 same-length : tie.Need-same-length
 same-length c = search needs
 
--- src/after.rt:104:1
 returns-2 : tie.Need-returns-2
 returns-2 c =
     let j = c .before .before in

@@ -1,22 +1,20 @@
+-- `session::after::opened_after` meets its contract: one test after the other.
+-- Assumes nothing.
 use Rattle.session.specs.Afterwards.{openedAfter}
-use borrow.Author.Tests.{lt-ltb, le-ltb, le-leb, lt-leb, eq-eqb, ne-eqb}
-use borrow.Author.Needs.{needs}
+use borrow.Author.Tests.{eq-eqb, ne-eqb}
 use Rattle.session.proofs.after.opened_after.Statement.{statement}
 use Rattle.session.proofs.after.opened_after.Tie as tie
 use Rattle.session.proofs.after.opened_after.Reads as reads
 use Rattle.session.proofs.after.opened_after.Lts as lts
 
--- src/after.rt:33:9
 returns : tie.Need-returns
 unfolding openedAfter
 returns c = simp (eq-eqb _ _ (c .if1 .taken))
 
--- src/after.rt:36:9
 returns-2 : tie.Need-returns-2
 unfolding openedAfter
 returns-2 c = simp (ne-eqb _ _ (c .before .if1 .left), eq-eqb _ _ (c .if2 .taken))
 
--- src/after.rt:29:1
 returns-3 : tie.Need-returns-3
 unfolding openedAfter
 returns-3 c = simp (ne-eqb _ _ (c .before .if1 .left), ne-eqb _ _ (c .if2 .left))

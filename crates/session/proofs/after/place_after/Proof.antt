@@ -1,3 +1,5 @@
+-- `session::after::place_after` meets its contract: BeginSession, else a session goes on.
+-- Assumes nothing.
 use Rattle.session.proofs.Going.{outside-after}
 use mathlib.Core.Path.{refl}
 use borrow.Author.Needs.{needs}
@@ -7,29 +9,23 @@ use Rattle.session.proofs.after.place_after.Reads as reads
 use Rattle.session.proofs.after.place_after.Lts as lts
 use Rattle.session.proofs.after.inside_after.Reads as inside-after-reads
 
--- src/after.rt:272:57
 enum-told : tie.Need-enum-told
 enum-told c = search needs
 
--- src/after.rt:273:23
 enum-known-place : tie.Need-enum-known-place
 enum-known-place c = search needs
 
--- src/after.rt:273:52
 inside-after-requires : tie.Need-inside-after-requires
 inside-after-requires c κs = search needs
 
--- src/after.rt:251:1
 returns : tie.Need-returns
 returns c =
     let a = c .before .before .before .before .args in
     (refl, (refl, (refl, (refl, rw (c .enum-told .given .1) (outside-after (a .job .now) (a .attrs .now) (a .high) (a .gray) (a .o) (a .rows .now) (a .sums .now) (a .work .now))))))
 
--- src/after.rt:251:1
 same-length : tie.Need-same-length
 same-length c = search needs
 
--- src/after.rt:251:1
 returns-2 : tie.Need-returns-2
 returns-2 c =
     let r = c .before .before .inside-after in

@@ -1,3 +1,5 @@
+-- `session::after::reading_after` meets its contract: ReadStream, else EndStream.
+-- Assumes nothing.
 use Rattle.session.proofs.Going.{block-after}
 use mathlib.Core.Path.{refl}
 use borrow.Author.Needs.{needs}
@@ -8,15 +10,12 @@ use Rattle.session.proofs.after.reading_after.Lts as lts
 use Rattle.session.proofs.after.ended.Reads as ended-reads
 use Rattle.session.proofs.after.join_block.Reads as join-block-reads
 
--- src/after.rt:213:13
 join-block-requires : tie.Need-join-block-requires
 join-block-requires c κs = search needs
 
--- src/after.rt:214:9
 same-length : tie.Need-same-length
 same-length c = search needs
 
--- src/after.rt:214:9
 returns : tie.Need-returns
 returns c =
     let j = c .before .before in
@@ -26,11 +25,9 @@ returns c =
     (b .ensures .0, (refl, (refl, (b .ensures .1 .0,
     λ attrs high gray page. block-after (a .job .now) attrs high gray (a .o) (a .rows .now) (a .sums .now) (a .work .now) (b .last .1 .1 .0) (b .result) (t .if1 .taken) (b .ensures .1 .1)))))
 
--- src/after.rt:216:5
 ended-requires : tie.Need-ended-requires
 ended-requires c κs = search needs
 
--- src/after.rt:190:1
 returns-2 : tie.Need-returns-2
 returns-2 c =
     let l = c .before .before .before in

@@ -1,3 +1,5 @@
+-- `session::after::resting_after` meets its contract: EndSession, else a session goes on.
+-- Assumes nothing.
 use Rattle.session.proofs.Going.{over-after, rest-after}
 use borrow.Author.Needs.{needs}
 use Rattle.session.proofs.after.resting_after.Statement.{statement}
@@ -7,21 +9,17 @@ use Rattle.session.proofs.after.resting_after.Lts as lts
 use Rattle.session.proofs.after.begun.Reads as begun-reads
 use Rattle.session.proofs.after.opened_after.Reads as opened-after-reads
 
--- src/after.rt:64:9
 returns : tie.Need-returns
 returns c =
     let a = c .before .before .args in
     λ high early page rows sums work. over-after (a .job .now) (a .attrs .now) high (a .gray) (a .o) rows sums work (c .if1 .taken)
 
--- src/after.rt:66:19
 opened-after-requires : tie.Need-opened-after-requires
 opened-after-requires c κs = search needs
 
--- src/after.rt:66:58
 begun-requires : tie.Need-begun-requires
 begun-requires c κs = search needs
 
--- src/after.rt:58:1
 returns-2 : tie.Need-returns-2
 returns-2 c =
     let p = c .before in

@@ -1,3 +1,5 @@
+-- `session::early::begin_stream` meets its contract: 64 held, then what the search for the name finds.
+-- Assumes nothing.
 use Rattle.session.proofs.Breaking.{begin-much, begin-at, begin-nowhere}
 use Rattle.motif.proofs.Keeping.{keeps-length}
 use borrow.Author.Needs.{needs}
@@ -8,29 +10,23 @@ use Rattle.session.proofs.early.begin_stream.Lts as lts
 use Rattle.motif.proofs.find.Reads as find-reads
 use Rattle.motif.proofs.name_in.Reads as name-in-reads
 
--- src/early.rt:33:9
 returns : tie.Need-returns
 returns c =
     let a = c .before .before .args in
     λ sums x h k z t. begin-much (a .job .now) (a .attrs .now) x (a .o) t (keeps-length k) (c .if1 .taken)
 
--- src/early.rt:35:9
 name-in-requires : tie.Need-name-in-requires
 name-in-requires c κs = search needs
 
--- src/early.rt:36:11
 find-requires : tie.Need-find-requires
 find-requires c κs = search needs
 
--- src/early.rt:37:25
 enum-told : tie.Need-enum-told
 enum-told c = search needs
 
--- src/early.rt:38:27
 enum-told-2 : tie.Need-enum-told-2
 enum-told-2 c = search needs
 
--- src/early.rt:28:1
 returns-2 : tie.Need-returns-2
 returns-2 c =
     let f = c .before .before in
@@ -39,7 +35,6 @@ returns-2 c =
     λ sums x h k z t. begin-at (a .job .now) (a .attrs .now) x (a .o) t (keeps-length k) (f .before .before .if1 .left) (n .ensures .1 z)
     (rw (c .enum-told .given .1) at (f .find .ensures .1 sums (x .held) h k (n .ensures .0)))
 
--- src/early.rt:28:1
 returns-3 : tie.Need-returns-3
 returns-3 c =
     let f = c .before .before in

@@ -1,3 +1,5 @@
+-- `session::early::drawing_early` meets its contract: ExecStream, else nothing to judge.
+-- Assumes nothing.
 use Rattle.session.proofs.Tags.{page-not, page-not-begin, page-not-read, page-not-end, image-not-begin, image-not-read, image-not-end}
 use Rattle.session.proofs.Breaking.{fine-in}
 use borrow.Author.Needs.{needs}
@@ -7,15 +9,12 @@ use Rattle.session.proofs.early.drawing_early.Reads as reads
 use Rattle.session.proofs.early.drawing_early.Lts as lts
 use Rattle.session.proofs.early.exec_stream.Reads as exec-stream-reads
 
--- src/early.rt:89:9
 exec-stream-requires : tie.Need-exec-stream-requires
 exec-stream-requires c κs = search needs
 
--- src/early.rt:89:9
 returns : tie.Need-returns
 returns c = λ x h k z d m. c .exec-stream .ensures x h k z (c .before .if1 .taken)
 
--- src/early.rt:84:1
 returns-2 : tie.Need-returns-2
 returns-2 c =
     let a = c .before .before .before .args in

@@ -1,3 +1,5 @@
+-- `session::early::early_of` meets its contract: between sessions nothing is judged.
+-- Assumes nothing.
 use Rattle.session.proofs.Breaking.{outer-fine, inner-early}
 use mathlib.Core.Path.{refl}
 use borrow.Author.Needs.{needs}
@@ -7,25 +9,20 @@ use Rattle.session.proofs.early.early_of.Reads as reads
 use Rattle.session.proofs.early.early_of.Lts as lts
 use Rattle.session.proofs.early.inside_early.Reads as inside-early-reads
 
--- src/early.rt:199:30
 enum-told : tie.Need-enum-told
 enum-told c = search needs
 
--- src/early.rt:200:26
 enum-known-place : tie.Need-enum-known-place
 enum-known-place c = search needs
 
--- src/early.rt:200:47
 inside-early-requires : tie.Need-inside-early-requires
 inside-early-requires c κs = search needs
 
--- src/early.rt:182:1
 returns : tie.Need-returns
 returns c =
     let a = c .before .before .before .before .args in
     (refl, rw (c .enum-told .given .1) (λ q st high h s z w m. outer-fine (a .attrs .now) q (a .o) st high h m))
 
--- src/early.rt:182:1
 returns-2 : tie.Need-returns-2
 returns-2 c =
     let b = c .before .before .before in

@@ -1,9 +1,10 @@
+-- `session::early::end_stream` meets its contract: what the motif is judged to.
+-- Assumes nothing.
 use Rattle.session.proofs.Joined.{part-same, part-short}
 use Rattle.session.proofs.Breaking.{end-valid, end-faulty}
-use lib.ListN.{length, take, drop}
-use Prim.Native.Nat.{_+_, _-_, _≤_}
+use Prim.Native.Nat.{_+_, _-_}
 use native.Mathlib.Omega.{arith}
-use mathlib.Core.Path.{_≡_, refl, ap, _∙_}
+use mathlib.Core.Path.{_≡_, refl, _∙_}
 use borrow.Author.Needs.{needs}
 use Rattle.session.proofs.early.end_stream.Statement.{statement}
 use Rattle.session.proofs.early.end_stream.Tie as tie
@@ -11,53 +12,41 @@ use Rattle.session.proofs.early.end_stream.Reads as reads
 use Rattle.session.proofs.early.end_stream.Lts as lts
 use Rattle.stream.proofs.judge_motif.Reads as judge-motif-reads
 
--- src/early.rt:96:9
 returns : tie.Need-returns
 returns c =
     (refl, λ attrs x o h k z w l e t. absurd (omega arith))
 
--- src/early.rt:98:8
 sub-if2 : tie.Need-sub-if2
 sub-if2 c = search needs
 
--- src/early.rt:99:9
 returns-2 : tie.Need-returns-2
 returns-2 c =
     (refl, λ attrs x o h k z w l e t. absurd (omega arith))
 
--- src/early.rt:101:43
 add-judge-motif : tie.Need-add-judge-motif
 add-judge-motif c = search needs
 
--- src/early.rt:101:31
 sub-judge-motif : tie.Need-sub-judge-motif
 sub-judge-motif c = search needs
 
--- src/early.rt:101:31
 part-judge-motif-start : tie.Need-part-judge-motif-start
 part-judge-motif-start c = search needs
 
--- src/early.rt:101:31
 part-judge-motif-end : tie.Need-part-judge-motif-end
 part-judge-motif-end c = search needs
 
--- src/early.rt:101:11
 judge-motif-requires : tie.Need-judge-motif-requires
 judge-motif-requires c κs = search needs
 
--- src/early.rt:102:23
 enum-known-depth : tie.Need-enum-known-depth
 enum-known-depth c = search needs
 
--- src/early.rt:103:24
 enum-known-code : tie.Need-enum-known-code
 enum-known-code c = search needs
 
--- src/early.rt:103:56
 cast-t23 : tie.Need-cast-t23
 cast-t23 c = search needs
 
--- src/early.rt:80:1
 returns-3 : tie.Need-returns-3
 returns-3 c =
     let j = c .before .before .before in
@@ -67,7 +56,6 @@ returns-3 c =
     λ attrs x o h k z w l e t. end-valid (a .job .now) attrs x o t (part-same (a .work .now) (a .used) n ∙ e)
     (rw (c .before .depth .given .1) at (j .judge-motif .ensures .1 (x .held) z h k)))
 
--- src/early.rt:80:1
 returns-4 : tie.Need-returns-4
 returns-4 c =
     let j = c .before .before .before in

@@ -1,3 +1,5 @@
+-- `session::early::exec_stream` meets its contract: what the search for the name finds.
+-- Assumes nothing.
 use Rattle.session.proofs.Breaking.{exec-at, exec-nowhere}
 use native.Mathlib.Omega.{arith}
 use borrow.Author.Needs.{needs}
@@ -8,35 +10,28 @@ use Rattle.session.proofs.early.exec_stream.Lts as lts
 use Rattle.motif.proofs.find.Reads as find-reads
 use Rattle.motif.proofs.name_in.Reads as name-in-reads
 
--- src/early.rt:76:9
 name-in-requires : tie.Need-name-in-requires
 name-in-requires c κs = search needs
 
--- src/early.rt:77:11
 find-requires : tie.Need-find-requires
 find-requires c κs = search needs
 
--- src/early.rt:78:19
 enum-known-i : tie.Need-enum-known-i
 enum-known-i c = search needs
 
--- src/early.rt:78:37
 mul-t11 : tie.Need-mul-t11
 mul-t11 c =
     let r = rw (c .before .i .given .1) at (c .before .before .before .find .ensures .0) in
     omega (arith, r)
 
--- src/early.rt:78:37
 element-copy-out-t14 : tie.Need-element-copy-out-t14
 element-copy-out-t14 c =
     let r = rw (c .before .i .given .1) at (c .before .before .before .find .ensures .0) in
     omega (arith, r)
 
--- src/early.rt:79:27
 enum-told : tie.Need-enum-told
 enum-told c = search needs
 
--- src/early.rt:72:1
 returns : tie.Need-returns
 returns c =
     let f = c .before .before .before .before in
@@ -45,7 +40,6 @@ returns c =
     λ x h k z t. exec-at (a .job .now) (a .attrs .now) x (a .o) t (n .ensures .1 z)
     (rw (c .before .before .i .given .1) at (f .find .ensures .1 (a .sums .now) (x .held) h k (n .ensures .0)))
 
--- src/early.rt:72:1
 returns-2 : tie.Need-returns-2
 returns-2 c =
     let f = c .before .before in

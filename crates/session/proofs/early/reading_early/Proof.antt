@@ -1,3 +1,5 @@
+-- `session::early::reading_early` meets its contract: ReadStream, else EndStream.
+-- Assumes nothing.
 use Rattle.session.proofs.Tags.{stream-ends}
 use Rattle.session.proofs.Standing.{stream-phase, read-long, read-bytes, read-within}
 use mathlib.Core.Path.{refl}
@@ -9,21 +11,17 @@ use Rattle.session.proofs.early.reading_early.Lts as lts
 use Rattle.session.proofs.early.end_stream.Reads as end-stream-reads
 use Rattle.session.proofs.early.read_stream.Reads as read-stream-reads
 
--- src/early.rt:127:9
 read-stream-requires : tie.Need-read-stream-requires
 read-stream-requires c κs = search needs
 
--- src/early.rt:127:9
 returns : tie.Need-returns
 returns c =
     let a = c .before .before .before .before .before .args in
     (refl, λ attrs x first count h u k y z w m. c .read-stream .ensures (a .job .now) attrs x u (read-long y) (read-within y) (c .before .if1 .taken))
 
--- src/early.rt:129:5
 end-stream-requires : tie.Need-end-stream-requires
 end-stream-requires c κs = search needs
 
--- src/early.rt:108:1
 returns-2 : tie.Need-returns-2
 returns-2 c =
     let l = c .before .before in

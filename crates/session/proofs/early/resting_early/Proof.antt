@@ -1,3 +1,5 @@
+-- `session::early::resting_early` meets its contract: BeginStream, else nothing to judge.
+-- Assumes nothing.
 use Rattle.session.proofs.Tags.{not-tag, rest-not-read, rest-not-end, rest-not-exec}
 use Rattle.session.proofs.Breaking.{fine-in}
 use Rattle.scope.specs.Order.{in-session}
@@ -8,15 +10,12 @@ use Rattle.session.proofs.early.resting_early.Reads as reads
 use Rattle.session.proofs.early.resting_early.Lts as lts
 use Rattle.session.proofs.early.begin_stream.Reads as begin-stream-reads
 
--- src/early.rt:48:9
 begin-stream-requires : tie.Need-begin-stream-requires
 begin-stream-requires c κs = search needs
 
--- src/early.rt:48:9
 returns : tie.Need-returns
 returns c = λ sums x h k z m. c .begin-stream .ensures sums x h k z (c .before .if1 .taken)
 
--- src/early.rt:43:1
 returns-2 : tie.Need-returns-2
 returns-2 c =
     let a = c .before .before .before .args in

@@ -1,3 +1,5 @@
+-- `session::place::opened_in` meets its contract: case by case.
+-- Assumes nothing.
 use Rattle.session.proofs.Standing.{outer-opened, inner-opened}
 use borrow.Author.Needs.{needs}
 use Rattle.session.proofs.place.opened_in.Statement.{statement}
@@ -5,19 +7,15 @@ use Rattle.session.proofs.place.opened_in.Tie as tie
 use Rattle.session.proofs.place.opened_in.Reads as reads
 use Rattle.session.proofs.place.opened_in.Lts as lts
 
--- src/place.rt:62:30
 enum-told : tie.Need-enum-told
 enum-told c = search needs
 
--- src/place.rt:63:23
 enum-known-place : tie.Need-enum-known-place
 enum-known-place c = search needs
 
--- src/place.rt:58:1
 returns : tie.Need-returns
 returns c = rw (c .enum-told .given .1) (λ q job rows sums work h. outer-opened h)
 
--- src/place.rt:58:1
 returns-2 : tie.Need-returns-2
 returns-2 c = rw (c .before .place .given .1) (λ q job rows sums work h. inner-opened h)
 

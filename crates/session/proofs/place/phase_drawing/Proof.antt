@@ -1,3 +1,5 @@
+-- `session::place::phase_drawing` meets its contract: case by case.
+-- Assumes nothing.
 use Rattle.session.proofs.Standing.{page-phase, image-phase}
 use borrow.Author.Needs.{needs}
 use Rattle.session.proofs.place.phase_drawing.Statement.{statement}
@@ -5,23 +7,18 @@ use Rattle.session.proofs.place.phase_drawing.Tie as tie
 use Rattle.session.proofs.place.phase_drawing.Reads as reads
 use Rattle.session.proofs.place.phase_drawing.Lts as lts
 
--- src/place.rt:32:43
 enum-told : tie.Need-enum-told
 enum-told c = search needs
 
--- src/place.rt:32:43
 cast-t5 : tie.Need-cast-t5
 cast-t5 c = search needs
 
--- src/place.rt:33:24
 enum-known-picture : tie.Need-enum-known-picture
 enum-known-picture c = search needs
 
--- src/place.rt:28:1
 returns : tie.Need-returns
 returns c = rw (c .before .enum-told .given .1) (λ q job work n used h. page-phase h)
 
--- src/place.rt:28:1
 returns-2 : tie.Need-returns-2
 returns-2 c = rw (c .before .picture .given .1) (λ q job work n used h. image-phase h)
 

@@ -1,3 +1,5 @@
+-- `session::place::phase_of` meets its contract: case by case.
+-- Assumes nothing.
 use Rattle.session.proofs.Standing.{outer-phase, inner-phase}
 use borrow.Author.Needs.{needs}
 use Rattle.session.proofs.place.phase_of.Statement.{statement}
@@ -6,23 +8,18 @@ use Rattle.session.proofs.place.phase_of.Reads as reads
 use Rattle.session.proofs.place.phase_of.Lts as lts
 use Rattle.session.proofs.place.phase_busy.Reads as phase-busy-reads
 
--- src/place.rt:52:30
 enum-told : tie.Need-enum-told
 enum-told c = search needs
 
--- src/place.rt:53:32
 enum-known-place : tie.Need-enum-known-place
 enum-known-place c = search needs
 
--- src/place.rt:53:41
 phase-busy-requires : tie.Need-phase-busy-requires
 phase-busy-requires c κs = search needs
 
--- src/place.rt:48:1
 returns : tie.Need-returns
 returns c = rw (c .enum-told .given .1) (λ q job rows sums work h. outer-phase h)
 
--- src/place.rt:48:1
 returns-2 : tie.Need-returns-2
 returns-2 c = rw (c .before .before .place .given .1) (λ q job rows sums work h. inner-phase (c .phase-busy .result) (c .phase-busy .ensures) h)
 
