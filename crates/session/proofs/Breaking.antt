@@ -100,14 +100,17 @@ module _ (c : Case) where
 
 -- the same of an operator with these attributes in a session
 module _ (job attrs : List ℕ) (x : Session) (o : Operator) where
+  abbrev of-it : State → Bool → Case
+  of-it st high = caseOf high job st x (operatorAs o attrs)
+
   -- nothing is judged but at EndStream
-  made-other : (st : State) (high : Bool) → (o .tag ≡ 0x5d → ⊥) → caseOf high job st x (operatorAs o attrs) .made ≡ valid [] 1
+  made-other : (st : State) (high : Bool) → (o .tag ≡ 0x5d → ⊥) → of-it st high .made ≡ valid [] 1
   unfolding caseOf judgedAt
   made-other st high h = rw (ne-eqb (o .tag) 0x5d h)
 
   pub fine-in : (o .tag ≡ 0x5b → ⊥) → (o .tag ≡ 0x5c → ⊥) → (o .tag ≡ 0x5d → ⊥) → (o .tag ≡ 0x5e → ⊥) → EarliesIn job attrs x o Fine
   unfolding EarliesIn caseOf
-  fine-in b r d e = λ st high. other-fine (caseOf high job st x (operatorAs o attrs)) b r d e (made-other st high d)
+  fine-in b r d e = λ st high. other-fine (of-it st high) b r d e (made-other st high d)
 
   module _ (b : o .tag ≡ 0x5b) where
     pub begin-much : {n : ℕ} → length (x .held) ≡ n → 64 ≤ n → EarliesIn job attrs x o (No 19 outer)
@@ -115,19 +118,19 @@ module _ (job attrs : List ℕ) (x : Session) (o : Operator) where
     begin-much l h =
         let k : 64 ≤ length (x .held) = rw l h in
         let nr : o .tag ≡ 0x5c → ⊥ = λ y. omega arith in
-        λ st high. no-19 (caseOf high job st x (operatorAs o attrs))
-        (much (caseOf high job st x (operatorAs o attrs)) true false (eq-eqb (o .tag) 0x5b b) (ne-eqb (o .tag) 0x5c nr) ∙ rw (le-leb 64 (length (x .held)) k))
+        λ st high. no-19 (of-it st high)
+        (much (of-it st high) true false (eq-eqb (o .tag) 0x5b b) (ne-eqb (o .tag) 0x5c nr) ∙ rw (le-leb 64 (length (x .held)) k))
 
-    begin-room : (st : State) (high : Bool) → length (x .held) < 64 → tooMuch (caseOf high job st x (operatorAs o attrs)) ≡ false
+    begin-room : (st : State) (high : Bool) → length (x .held) < 64 → tooMuch (of-it st high) ≡ false
     unfolding caseOf
     begin-room st high h =
         let nr : o .tag ≡ 0x5c → ⊥ = λ y. omega arith in
-        much (caseOf high job st x (operatorAs o attrs)) true false (eq-eqb (o .tag) 0x5b b) (ne-eqb (o .tag) 0x5c nr) ∙ rw (lt-leb 64 (length (x .held)) h)
+        much (of-it st high) true false (eq-eqb (o .tag) 0x5b b) (ne-eqb (o .tag) 0x5c nr) ∙ rw (lt-leb 64 (length (x .held)) h)
 
     begin-held : (m : Motif) → length (x .held) < 64 → heldAs (bytesIn job (rowsOf attrs (o .count)) 139) (x .held) ≡ scope-motif.Held.is m → EarliesIn job attrs x o (No 20 outer)
     unfolding EarliesIn caseOf isHeld
-    begin-held m h e = λ st high. no-20 (caseOf high job st x (operatorAs o attrs)) (begin-room st high h)
-        (known (caseOf high job st x (operatorAs o attrs)) true (scope-motif.Held.is m) (eq-eqb (o .tag) 0x5b b) e)
+    begin-held m h e = λ st high. no-20 (of-it st high) (begin-room st high h)
+        (known (of-it st high) true (scope-motif.Held.is m) (eq-eqb (o .tag) 0x5b b) e)
 
     begin-new : length (x .held) < 64 → heldAs (bytesIn job (rowsOf attrs (o .count)) 139) (x .held) ≡ scope-motif.Held.none → EarliesIn job attrs x o Fine
     unfolding EarliesIn caseOf isHeld
@@ -137,18 +140,18 @@ module _ (job attrs : List ℕ) (x : Session) (o : Operator) where
         λ st high. early-fine (ne-eqb (o .tag) 0x5e ne) (ne-eqb (o .tag) 0x5d nd)
         (record {
           room = begin-room st high h;
-          new = known (caseOf high job st x (operatorAs o attrs)) true scope-motif.Held.none (eq-eqb (o .tag) 0x5b b) e;
-          known = not-missing (caseOf high job st x (operatorAs o attrs)) (ne-eqb (o .tag) 0x5e ne);
-          sound = sound-valid (caseOf high job st x (operatorAs o attrs)) (made-other st high nd);
+          new = known (of-it st high) true scope-motif.Held.none (eq-eqb (o .tag) 0x5b b) e;
+          known = not-missing (of-it st high) (ne-eqb (o .tag) 0x5e ne);
+          sound = sound-valid (of-it st high) (made-other st high nd);
         })
 
     -- BeginStream that is not refused by 19
-    pub begin-few : (st : State) (high : Bool) → tooMuch (caseOf high job st x (operatorAs o attrs)) ≡ false → length (x .held) < 64
+    pub begin-few : (st : State) (high : Bool) → tooMuch (of-it st high) ≡ false → length (x .held) < 64
     unfolding caseOf
     begin-few st high f =
         let nr : o .tag ≡ 0x5c → ⊥ = λ y. omega arith in
         leb-false 64 (length (x .held))
-        (first-not _ (sym (much (caseOf high job st x (operatorAs o attrs)) true false (eq-eqb (o .tag) 0x5b b) (ne-eqb (o .tag) 0x5c nr)) ∙ f))
+        (first-not _ (sym (much (of-it st high) true false (eq-eqb (o .tag) 0x5b b) (ne-eqb (o .tag) 0x5c nr)) ∙ f))
 
     -- BeginStream by what a search for its name finds
     pub begin-at : {rows sums name : List ℕ} {n i : ℕ} → length (x .held) ≡ n → n < 64 → name ≡ bytesIn job (rowsOf attrs (o .count)) 139
@@ -160,22 +163,22 @@ module _ (job attrs : List ℕ) (x : Session) (o : Operator) where
     begin-nowhere l h e (finds-none f) = begin-new (rw l h) (rw e at f)
 
   module _ (b : o .tag ≡ 0x5c) where
-    much-read : (st : State) (high : Bool) → tooMuch (caseOf high job st x (operatorAs o attrs))
+    much-read : (st : State) (high : Bool) → tooMuch (of-it st high)
         ≡ ltb 16384 (bytesHeld (x .held) + (length (joinedOf (x .busy)) + o .length))
     unfolding caseOf
     much-read st high =
         let nb : o .tag ≡ 0x5b → ⊥ = λ y. omega arith in
-        much (caseOf high job st x (operatorAs o attrs)) false true (ne-eqb (o .tag) 0x5b nb) (eq-eqb (o .tag) 0x5c b)
+        much (of-it st high) false true (ne-eqb (o .tag) 0x5b nb) (eq-eqb (o .tag) 0x5c b)
 
     -- ReadStream that is not refused by 19
-    pub read-few : (st : State) (high : Bool) → tooMuch (caseOf high job st x (operatorAs o attrs)) ≡ false
+    pub read-few : (st : State) (high : Bool) → tooMuch (of-it st high) ≡ false
         → bytesHeld (x .held) + (length (joinedOf (x .busy)) + o .length) ≤ 16384
     read-few st high f = ltb-false _ _ (sym (much-read st high) ∙ f)
 
     -- ReadStream
     pub read-past : 16384 < bytesHeld (x .held) + (length (joinedOf (x .busy)) + o .length) → EarliesIn job attrs x o (No 19 outer)
     unfolding EarliesIn
-    read-past h = λ st high. no-19 (caseOf high job st x (operatorAs o attrs)) (much-read st high ∙ lt-ltb _ _ h)
+    read-past h = λ st high. no-19 (of-it st high) (much-read st high ∙ lt-ltb _ _ h)
 
     pub read-room : bytesHeld (x .held) + (length (joinedOf (x .busy)) + o .length) ≤ 16384 → EarliesIn job attrs x o Fine
     unfolding EarliesIn caseOf
@@ -186,24 +189,24 @@ module _ (job attrs : List ℕ) (x : Session) (o : Operator) where
         λ st high. early-fine (ne-eqb (o .tag) 0x5e ne) (ne-eqb (o .tag) 0x5d nd)
         (record {
           room = much-read st high ∙ le-ltb _ _ h;
-          new = not-known (caseOf high job st x (operatorAs o attrs)) (ne-eqb (o .tag) 0x5b nb);
-          known = not-missing (caseOf high job st x (operatorAs o attrs)) (ne-eqb (o .tag) 0x5e ne);
-          sound = sound-valid (caseOf high job st x (operatorAs o attrs)) (made-other st high nd);
+          new = not-known (of-it st high) (ne-eqb (o .tag) 0x5b nb);
+          known = not-missing (of-it st high) (ne-eqb (o .tag) 0x5e ne);
+          sound = sound-valid (of-it st high) (made-other st high nd);
         })
 
   module _ (b : o .tag ≡ 0x5e) where
-    not-much : (st : State) (high : Bool) → tooMuch (caseOf high job st x (operatorAs o attrs)) ≡ false
+    not-much : (st : State) (high : Bool) → tooMuch (of-it st high) ≡ false
     unfolding caseOf
     not-much st high =
         let nb : o .tag ≡ 0x5b → ⊥ = λ y. omega arith in
         let nr : o .tag ≡ 0x5c → ⊥ = λ y. omega arith in
-        much (caseOf high job st x (operatorAs o attrs)) false false (ne-eqb (o .tag) 0x5b nb) (ne-eqb (o .tag) 0x5c nr)
+        much (of-it st high) false false (ne-eqb (o .tag) 0x5b nb) (ne-eqb (o .tag) 0x5c nr)
 
-    not-new : (st : State) (high : Bool) → nameHeld (caseOf high job st x (operatorAs o attrs)) ≡ false
+    not-new : (st : State) (high : Bool) → nameHeld (of-it st high) ≡ false
     unfolding caseOf
     not-new st high =
         let nb : o .tag ≡ 0x5b → ⊥ = λ y. omega arith in
-        not-known (caseOf high job st x (operatorAs o attrs)) (ne-eqb (o .tag) 0x5b nb)
+        not-known (of-it st high) (ne-eqb (o .tag) 0x5b nb)
 
     exec-held : (m : Motif) (v : ℕ) → heldAs (bytesIn job (rowsOf attrs (o .count)) 139) (x .held) ≡ scope-motif.Held.is m
         → SumsAs v (unfolded (x .held) (bytesIn job (rowsOf attrs (o .count)) 139)) → EarliesIn job attrs x o (Call v)
@@ -214,14 +217,14 @@ module _ (job attrs : List ℕ) (x : Session) (o : Operator) where
         (record {
           room = not-much st high;
           new = not-new st high;
-          known = missing (caseOf high job st x (operatorAs o attrs)) true (scope-motif.Held.is m) (eq-eqb (o .tag) 0x5e b) e;
-          sound = sound-valid (caseOf high job st x (operatorAs o attrs)) (made-other st high nd);
+          known = missing (of-it st high) true (scope-motif.Held.is m) (eq-eqb (o .tag) 0x5e b) e;
+          sound = sound-valid (of-it st high) (made-other st high nd);
         })
 
     exec-not : heldAs (bytesIn job (rowsOf attrs (o .count)) 139) (x .held) ≡ scope-motif.Held.none → EarliesIn job attrs x o (No 21 outer)
     unfolding EarliesIn caseOf isHeld
-    exec-not e = λ st high. no-21 (caseOf high job st x (operatorAs o attrs)) (not-much st high) (not-new st high)
-        (missing (caseOf high job st x (operatorAs o attrs)) true scope-motif.Held.none (eq-eqb (o .tag) 0x5e b) e)
+    exec-not e = λ st high. no-21 (of-it st high) (not-much st high) (not-new st high)
+        (missing (of-it st high) true scope-motif.Held.none (eq-eqb (o .tag) 0x5e b) e)
 
     -- ExecStream by what a search for its name finds
     pub exec-at : {rows sums name : List ℕ} {i : ℕ} → name ≡ bytesIn job (rowsOf attrs (o .count)) 139
@@ -233,22 +236,22 @@ module _ (job attrs : List ℕ) (x : Session) (o : Operator) where
     exec-nowhere e (finds-none f) = exec-not (rw e at f)
 
   module _ (b : o .tag ≡ 0x5d) where
-    ends-free : (st : State) (high : Bool) → tooMuch (caseOf high job st x (operatorAs o attrs)) ≡ false
+    ends-free : (st : State) (high : Bool) → tooMuch (of-it st high) ≡ false
     unfolding caseOf
     ends-free st high =
         let nb : o .tag ≡ 0x5b → ⊥ = λ y. omega arith in
         let nr : o .tag ≡ 0x5c → ⊥ = λ y. omega arith in
-        much (caseOf high job st x (operatorAs o attrs)) false false (ne-eqb (o .tag) 0x5b nb) (ne-eqb (o .tag) 0x5c nr)
+        much (of-it st high) false false (ne-eqb (o .tag) 0x5b nb) (ne-eqb (o .tag) 0x5c nr)
 
-    ends-new : (st : State) (high : Bool) → nameHeld (caseOf high job st x (operatorAs o attrs)) ≡ false
+    ends-new : (st : State) (high : Bool) → nameHeld (of-it st high) ≡ false
     unfolding caseOf
-    ends-new st high = let nb : o .tag ≡ 0x5b → ⊥ = λ y. omega arith in not-known (caseOf high job st x (operatorAs o attrs)) (ne-eqb (o .tag) 0x5b nb)
+    ends-new st high = let nb : o .tag ≡ 0x5b → ⊥ = λ y. omega arith in not-known (of-it st high) (ne-eqb (o .tag) 0x5b nb)
 
-    ends-known : (st : State) (high : Bool) → nameMissing (caseOf high job st x (operatorAs o attrs)) ≡ false
+    ends-known : (st : State) (high : Bool) → nameMissing (of-it st high) ≡ false
     unfolding caseOf
-    ends-known st high = let ne : o .tag ≡ 0x5e → ⊥ = λ y. omega arith in not-missing (caseOf high job st x (operatorAs o attrs)) (ne-eqb (o .tag) 0x5e ne)
+    ends-known st high = let ne : o .tag ≡ 0x5e → ⊥ = λ y. omega arith in not-missing (of-it st high) (ne-eqb (o .tag) 0x5e ne)
 
-    made-end : (st : State) (high : Bool) → caseOf high job st x (operatorAs o attrs) .made ≡ motifOf (x .held) (joinedOf (x .busy))
+    made-end : (st : State) (high : Bool) → of-it st high .made ≡ motifOf (x .held) (joinedOf (x .busy))
     unfolding caseOf judgedAt
     made-end st high = rw (eq-eqb (o .tag) 0x5d b)
 
@@ -263,7 +266,7 @@ module _ (job attrs : List ℕ) (x : Session) (o : Operator) where
     unfolding EarliesIn caseOf
     end-valid {d = d} {v = v} e h =
         let h₂ : Judges (x .held) (Valid d v) (motifOf (x .held) (joinedOf (x .busy))) = rw e at h in
-        λ st high. let j : Judges (x .held) (Valid d v) (caseOf high job st x (operatorAs o attrs) .made) = rw (made-end st high) h₂ in
+        λ st high. let j : Judges (x .held) (Valid d v) (of-it st high .made) = rw (made-end st high) h₂ in
         early-held (eq-eqb (o .tag) 0x5d b) j
         (record { room = ends-free st high; new = ends-new st high; known = ends-known st high; sound = valid-sound j })
 
@@ -276,7 +279,7 @@ module _ (job attrs : List ℕ) (x : Session) (o : Operator) where
         let k : place ≤ length s = motif-placed (x .held) s code place f in
         let m : place % 4_294_967_296 ≡ place = omega arith in
         let g : motifOf (x .held) (joinedOf (x .busy)) ≡ faulty code place = rw e at f in
-        rw m (λ st high. no-own (caseOf high job st x (operatorAs o attrs)) (ends-free st high) (ends-new st high) (ends-known st high) (made-end st high ∙ g))
+        rw m (λ st high. no-own (of-it st high) (ends-free st high) (ends-new st high) (ends-known st high) (made-end st high ∙ g))
 
 -- an operator between sessions
 pub outer-fine : {job rows sums work : List ℕ} {b : Bool} (attrs : List ℕ) (q : scope.Place) (o : Operator) (st : State) (high : Bool) → PlaceHolds job rows sums work (Outside b) q

@@ -29,7 +29,7 @@ use Rattle.motif.proofs.Keeping.{keeps-length, keeps-join}
 use Rattle.motif.proofs.Operators.{picture-is}
 use Rattle.session.specs.Places.{BusyHolds, resting-holds, reading-holds, drawing-holds, PlaceHolds, outside-holds, inside-holds}
 use Rattle.session.specs.Earlier.{drawn-so, Earlies, early-fine, early-call, early-held}
-use Rattle.session.specs.Afterwards.{openedAfter, restingAfter, Comes, After}
+use Rattle.session.specs.Afterwards.{openedAfter, restingAfter, Begins, Draws, Joins, Comes, After}
 use Rattle.stream.specs.Judging.{Judges, judges-valid}
 use Rattle.stream.specs.declared.judging.Judged.the-variants.{Valid}
 use Rattle.session.specs.declared.early.Early.{Early}
@@ -43,9 +43,16 @@ use Rattle.session.proofs.Breaking.{passes-unbroken, begin-few, read-fe
 use Rattle.session.proofs.Tags.{stream-ends, page-not, page-not-over, image-not-over}
 
 module _ (job attrs : List ℕ) (high gray : Bool) (o : Operator) (rows sums work : List ℕ) where
+  -- the place after the operator, which leaves the page so
+  abbrev next : scope-arm.Page → scope.Place → scope.Place
+  next p q = placeAfter (record { high = high; gray = gray }) job (operatorAs o attrs) p q
+
+  abbrev case-at : State → scope.Place → Case
+  case-at st q = caseOf high job st (scope.sessionOf q) (operatorAs o attrs)
+
   -- BeginSession
   outside-keeps : {b : Bool} {q : scope.Place} (p : scope-arm.Page) → PlaceHolds job rows sums work (Outside b) q
-      → PlaceHolds job rows sums work (Inside false 0 0 Resting) (placeAfter (record { high = high; gray = gray }) job (operatorAs o attrs) p q)
+      → PlaceHolds job rows sums work (Inside false 0 0 Resting) (next p q)
   unfolding placeAfter bytesHeld
   outside-keeps p outside-holds = let h : 0 ≤ 64 = omega arith in let k : 0 ≤ 16384 = omega arith in inside-holds refl h k refl keeps-none resting-holds
 
@@ -55,7 +62,7 @@ module _ (job attrs : List ℕ) (high gray : Bool) (o : Operator) (rows sums wor
 
   -- EndSession
   rest-over : {i : Bool} {n u : ℕ} {b : Busy} {q : scope.Place} (p : scope-arm.Page) → o .tag ≡ 0x42 → PlaceHolds job rows sums work (Inside i n u b) q
-      → PlaceHolds job rows sums work (Outside true) (placeAfter (record { high = high; gray = gray }) job (operatorAs o attrs) p q)
+      → PlaceHolds job rows sums work (Outside true) (next p q)
   unfolding placeAfter
   rest-over p t (inside-holds e h u w k y) = rw (eq-eqb (o .tag) 0x42 t) outside-holds
 
@@ -68,23 +75,20 @@ module _ (job attrs : List ℕ) (high gray : Bool) (o : Operator) (rows sums wor
     rest-in : {n u : ℕ} (x : scope.Session) (y : scope.Busy) (p : scope-arm.Page) → x .busy ≡ y → i ≡ openedAfter (o .tag) (x .opened) → n ≤ 64
         → u ≤ 16384 → u ≡ bytesHeld (x .held) → Keeps job rows sums n (x .held) → BusyHolds job work n u Resting y
         → BusyHolds job work n u r (restingAfter gray job (o .tag) (rowsOf attrs (o .count)))
-        → PlaceHolds job rows sums work (Inside i n u r) (placeAfter (record { high = high; gray = gray }) job (operatorAs o attrs) p (scope.inside x))
+        → PlaceHolds job rows sums work (Inside i n u r) (next p (scope.inside x))
     unfolding placeAfter sessionAfter openedAfter restingAfter
     rest-in x y p e oi h hu w k resting-holds f = rw (ne-eqb (o .tag) 0x42 nx, e) (inside-holds oi h hu w k f)
 
     rest-keeps : {early : Early} {page : Page} {opened : Bool} {n u : ℕ} {q : scope.Place} {st : State} → i ≡ openedAfter (o .tag) opened
-        → ((work : List ℕ) (n used : ℕ) → Sized attrs (o .count) → used ≤ 16384 → (o .tag ≡ 0x5b → n < 64)
-        → BusyHolds job work n used r (restingAfter gray job (o .tag) (rowsOf attrs (o .count))))
+        → Begins job attrs gray o r
         → PlaceHolds job rows sums work (Inside opened n u Resting) q → Comes job attrs high o early page rows sums work (Inside opened n u Resting) q st
-        → PlaceHolds job rows sums work (Inside i n u r)
-        (placeAfter (record { high = high; gray = gray }) job (operatorAs o attrs) (caseOf high job st (scope.sessionOf q) (operatorAs o attrs) .seen .page) q)
+        → PlaceHolds job rows sums work (Inside i n u r) (next (case-at st q .seen .page) q)
     rest-keeps {st = st} oi f (inside-holds {n = n} {used = u} {x = x} e h hu w k y) z =
         let few : o .tag ≡ 0x5b → n < 64 = λ t. rw (keeps-length k) at (begin-few job attrs x o t st high (passes-unbroken (z .earlier) (z .passes) .room)) in
         rest-in x (x .busy) _ refl (oi ∙ ap (openedAfter (o .tag)) e) h hu w k y (f work n u (z .sized) hu few)
 
     pub rest-after : {early : Early} {page : Page} {opened : Bool} {n u : ℕ} → i ≡ openedAfter (o .tag) opened
-        → ((work : List ℕ) (n used : ℕ) → Sized attrs (o .count) → used ≤ 16384 → (o .tag ≡ 0x5b → n < 64)
-        → BusyHolds job work n used r (restingAfter gray job (o .tag) (rowsOf attrs (o .count))))
+        → Begins job attrs gray o r
         → After job attrs high gray o early page rows sums work (Inside opened n u Resting) rows sums work (Inside i n u r)
     rest-after oi f = record { keeps = λ q st h. rest-keeps oi f (h .holds) h }
 
@@ -104,7 +108,7 @@ module _ (job attrs : List ℕ) (high gray : Bool) (o : Operator) (rows sums wor
     draw-in : {i : Bool} {n u : ℕ} (x : scope.Session) (q p : scope-arm.Page) (v : scope-motif.Picture) → x .busy ≡ scope.drawing q v → (o .tag ≡ 0x42 → ⊥)
         → i ≡ x .opened → n ≤ 64 → u ≤ 16384 → u ≡ bytesHeld (x .held) → Keeps job rows sums n (x .held)
         → BusyHolds job work n u r (pick (eqb (o .tag) 0x44) scope.resting (scope.drawing p (pictureFor high job (o .tag) (rowsOf attrs (o .count)) v)))
-        → PlaceHolds job rows sums work (Inside i n u r) (placeAfter (record { high = high; gray = gray }) job (operatorAs o attrs) p (scope.inside x))
+        → PlaceHolds job rows sums work (Inside i n u r) (next p (scope.inside x))
     unfolding placeAfter sessionAfter
     draw-in x q p v e nx oi h hu w k f =
         rw (ne-eqb (o .tag) 0x42 nx, e)
@@ -112,14 +116,10 @@ module _ (job attrs : List ℕ) (high gray : Bool) (o : Operator) (rows sums wor
         (inside-holds oi h hu w k (rw (picture-is high job (operatorAs o attrs) v) at f)))
 
     draw-of : {early : Early} {page d : Page} {picture : Picture} {i : Bool} {n u : ℕ} (x : scope.Session) (st : State) (y : scope.Busy) → x .busy ≡ y
-        → ((work : List ℕ) (n used : ℕ) (q : scope-arm.Page) → Sized attrs (o .count) → PageHolds page q
-        → rowsFit high job (imageIn (pictureAs picture)) (o .tag) (rowsOf attrs (o .count)) ≡ true
-        → BusyHolds job work n used r
-        (pick (eqb (o .tag) 0x44) scope.resting (scope.drawing q (pictureFor high job (o .tag) (rowsOf attrs (o .count)) (pictureAs picture)))))
+        → Draws job attrs high o page picture r
         → i ≡ x .opened → n ≤ 64 → u ≤ 16384 → u ≡ bytesHeld (x .held) → Keeps job rows sums n (x .held) → BusyHolds job work n u (Drawing d picture) y
         → Comes job attrs high o early page rows sums work (Inside i n u (Drawing d picture)) (scope.inside x) st
-        → PlaceHolds job rows sums work (Inside i n u r)
-        (placeAfter (record { high = high; gray = gray }) job (operatorAs o attrs) (caseOf high job st x (operatorAs o attrs) .seen .page) (scope.inside x))
+        → PlaceHolds job rows sums work (Inside i n u r) (next (case-at st (scope.inside x) .seen .page) (scope.inside x))
     unfolding phaseOf phaseBusy
     draw-of {n = n} {u = u} x st y e f oi h hu w k (drawing-holds {q = q} {i = picture} {v = v} g pv) z =
         let nx : o .tag ≡ 0x42 → ⊥ = page-not (x .opened) (x .busy) (rw e drawn-so) (o .tag) 0x42 (page-not-over (x .opened)) (image-not-over (x .opened)) (z .may) in
@@ -127,21 +127,14 @@ module _ (job attrs : List ℕ) (high gray : Bool) (o : Operator) (rows sums wor
         draw-in x q _ v e nx oi h hu w k (rw pv at (f work n u _ (z .sized) (z .drawn) fit))
 
     draw-keeps : {early : Early} {page d : Page} {picture : Picture} {i : Bool} {n u : ℕ} (q : scope.Place) (st : State)
-        → ((work : List ℕ) (n used : ℕ) (q : scope-arm.Page) → Sized attrs (o .count) → PageHolds page q
-        → rowsFit high job (imageIn (pictureAs picture)) (o .tag) (rowsOf attrs (o .count)) ≡ true
-        → BusyHolds job work n used r
-        (pick (eqb (o .tag) 0x44) scope.resting (scope.drawing q (pictureFor high job (o .tag) (rowsOf attrs (o .count)) (pictureAs picture)))))
+        → Draws job attrs high o page picture r
         → PlaceHolds job rows sums work (Inside i n u (Drawing d picture)) q
         → Comes job attrs high o early page rows sums work (Inside i n u (Drawing d picture)) q st
-        → PlaceHolds job rows sums work (Inside i n u r)
-        (placeAfter (record { high = high; gray = gray }) job (operatorAs o attrs) (caseOf high job st (scope.sessionOf q) (operatorAs o attrs) .seen .page) q)
+        → PlaceHolds job rows sums work (Inside i n u r) (next (case-at st q .seen .page) q)
     draw-keeps q st f (inside-holds {x = x} e h hu w k y) z = draw-of x st (x .busy) refl f e h hu w k y z
 
     pub draw-after : {early : Early} {page d : Page} {picture : Picture} {i : Bool} {n u : ℕ}
-        → ((work : List ℕ) (n used : ℕ) (q : scope-arm.Page) → Sized attrs (o .count) → PageHolds page q
-        → rowsFit high job (imageIn (pictureAs picture)) (o .tag) (rowsOf attrs (o .count)) ≡ true
-        → BusyHolds job work n used r
-        (pick (eqb (o .tag) 0x44) scope.resting (scope.drawing q (pictureFor high job (o .tag) (rowsOf attrs (o .count)) (pictureAs picture)))))
+        → Draws job attrs high o page picture r
         → After job attrs high gray o early page rows sums work (Inside i n u (Drawing d picture)) rows sums work (Inside i n u r)
     draw-after f = record { keeps = λ q st h. draw-keeps q st f (h .holds) h }
 
@@ -151,7 +144,7 @@ module _ (job attrs : List ℕ) (high gray : Bool) (o : Operator) (rows sums wor
         → u ≡ bytesHeld (x .held) → Keeps job rows sums n (x .held) → BusyHolds job work n u (Reading a l j) y
         → u + j + o .length ≤ 16384 → o .first + o .length ≤ length job
         → (r ≡ j + o .length) × (take r (drop u work₁) ≡ take j (drop u work) ++ take (o .length) (drop (o .first) job))
-        → PlaceHolds job rows sums work₁ (Inside i n u (Reading a l r)) (placeAfter (record { high = high; gray = gray }) job (operatorAs o attrs) p (scope.inside x))
+        → PlaceHolds job rows sums work₁ (Inside i n u (Reading a l r)) (next p (scope.inside x))
     unfolding placeAfter sessionAfter
     block-in {u = u} {j = j} x p y e oi h hu w k (reading-holds {name = name} {joined = bytes} m lj tj le few) hl hw f =
         let nx : o .tag ≡ 0x42 → ⊥ = λ z. omega arith in
@@ -170,19 +163,16 @@ module _ (job attrs : List ℕ) (high gray : Bool) (o : Operator) (rows sums wor
         omega arith
 
     block-keeps : {early : Early} {page : Page} {i : Bool} {n u a l j : ℕ} (q : scope.Place) (st : State)
-        → (16384 ≤ length work → o .first + o .length ≤ length job → u + j + o .length ≤ 16384
-        → (r ≡ j + o .length) × (take r (drop u work₁) ≡ take j (drop u work) ++ take (o .length) (drop (o .first) job)))
+        → Joins job o u j work work₁ r
         → PlaceHolds job rows sums work (Inside i n u (Reading a l j)) q
         → Comes job attrs high o early page rows sums work (Inside i n u (Reading a l j)) q st
-        → PlaceHolds job rows sums work₁ (Inside i n u (Reading a l r))
-        (placeAfter (record { high = high; gray = gray }) job (operatorAs o attrs) (caseOf high job st (scope.sessionOf q) (operatorAs o attrs) .seen .page) q)
+        → PlaceHolds job rows sums work₁ (Inside i n u (Reading a l r)) (next (case-at st q .seen .page) q)
     block-keeps q st f (inside-holds {x = x} e h hu w k y) z =
         let l = block-room x st (x .busy) refl w y (passes-unbroken (z .earlier) (z .passes) .room) in
         block-in x _ (x .busy) refl e h hu w k y l (z .within) (f (z .room) (z .within) l)
 
     pub block-after : {early : Early} {page : Page} {i : Bool} {n u a l j : ℕ}
-        → (16384 ≤ length work → o .first + o .length ≤ length job → u + j + o .length ≤ 16384
-        → (r ≡ j + o .length) × (take r (drop u work₁) ≡ take j (drop u work) ++ take (o .length) (drop (o .first) job)))
+        → Joins job o u j work work₁ r
         → After job attrs high gray o early page rows sums work (Inside i n u (Reading a l j)) rows sums work₁ (Inside i n u (Reading a l r))
     block-after f = record { keeps = λ q st h. block-keeps q st f (h .holds) h }
 
@@ -236,8 +226,7 @@ module _ (job attrs : List ℕ) (high gray : Bool) (o : Operator) (rows sums wor
           → motifOf (x .held) bytes ≡ m → x .busy ≡ scope.reading name bytes → o .tag ≡ 0x5d
           → Named job a l name → j ≡ length bytes → u + j ≤ 16384 → n < 64 → length rows ≡ 192 → length sums ≡ 64
           → i ≡ x .opened → u ≡ bytesHeld (x .held) → Keeps job rows sums n (x .held) → Judges (x .held) (Valid d v) m
-          → PlaceHolds job (set (set (set rows (n * 3) a) (n * 3 + 1) l) (n * 3 + 2) d) (set sums n v) work (Inside i (n + 1) (u + j) Resting)
-          (placeAfter (record { high = high; gray = gray }) job (operatorAs o attrs) p (scope.inside x))
+          → PlaceHolds job (set (set (set rows (n * 3) a) (n * 3 + 1) l) (n * 3 + 2) d) (set sums n v) work (Inside i (n + 1) (u + j) Resting) (next p (scope.inside x))
       unfolding placeAfter sessionAfter keptAs bytesHeld
       hold-in {n = n} {u = u} {a = a} {l = l} {j = j} {name = name} {bytes = bytes} x p m em e t w lj le few lr ls oi hu k (judges-valid {ops = ops} {d = e₂} de f) =
           let nx : o .tag ≡ 0x42 → ⊥ = λ z. omega arith in
@@ -250,16 +239,14 @@ module _ (job attrs : List ℕ) (high gray : Bool) (o : Operator) (rows sums wor
       hold-of : {page : Page} {i : Bool} {n u a l j : ℕ} (x : scope.Session) (st : State) (y : scope.Busy) → x .busy ≡ y → i ≡ x .opened → u ≡ bytesHeld (x .held)
           → Keeps job rows sums n (x .held) → BusyHolds job work n u (Reading a l j) y → o .tag ≡ 0x5d
           → Comes job attrs high o (Held d v) page rows sums work (Inside i n u (Reading a l j)) (scope.inside x) st
-          → PlaceHolds job (set (set (set rows (n * 3) a) (n * 3 + 1) l) (n * 3 + 2) d) (set sums n v) work (Inside i (n + 1) (u + j) Resting)
-          (placeAfter (record { high = high; gray = gray }) job (operatorAs o attrs) (caseOf high job st x (operatorAs o attrs) .seen .page) (scope.inside x))
+          → PlaceHolds job (set (set (set rows (n * 3) a) (n * 3 + 1) l) (n * 3 + 2) d) (set sums n v) work (Inside i (n + 1) (u + j) Resting) (next (case-at st (scope.inside x) .seen .page) (scope.inside x))
       unfolding caseOf
       hold-of x st y e oi hu k (reading-holds {joined = bytes} w lj tj le few) t z =
           hold-in x _ (motifOf (x .held) bytes) refl e t w lj le few (z .long-rows) (z .long-sums) oi hu k (judged-as (made-at x st e t) (held-judged (z .earlier)))
 
       hold-keeps : {page : Page} {i : Bool} {n u a l j : ℕ} (q : scope.Place) (st : State) → PlaceHolds job rows sums work (Inside i n u (Reading a l j)) q
           → Comes job attrs high o (Held d v) page rows sums work (Inside i n u (Reading a l j)) q st
-          → PlaceHolds job (set (set (set rows (n * 3) a) (n * 3 + 1) l) (n * 3 + 2) d) (set sums n v) work (Inside i (n + 1) (u + j) Resting)
-          (placeAfter (record { high = high; gray = gray }) job (operatorAs o attrs) (caseOf high job st (scope.sessionOf q) (operatorAs o attrs) .seen .page) q)
+          → PlaceHolds job (set (set (set rows (n * 3) a) (n * 3 + 1) l) (n * 3 + 2) d) (set sums n v) work (Inside i (n + 1) (u + j) Resting) (next (case-at st q .seen .page) q)
       hold-keeps q st (inside-holds {x = x} e h hu w k y) z = hold-of x st (x .busy) refl e w k y (end-tag (z .holds) z) z
 
       pub hold-after : {page : Page} {i : Bool} {n u a l j : ℕ}

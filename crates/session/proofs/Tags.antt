@@ -17,6 +17,10 @@ use Rattle.session.specs.Earlier.{Drawn, drawn-so}
 pub not-tag : (p : Phase) (b : Bool) (tag k : ℕ) → mayCome p b k ≡ false → mayCome p b tag ≡ true → tag ≡ k → ⊥
 not-tag p b tag k f t e = true≢false (sym t ∙ rw e f)
 
+neither : (t : Bool) → pick t false false ≡ false
+neither true = refl
+neither false = refl
+
 module _ (b : Bool) where
   -- between sessions
   pub first-not : (tag k : ℕ) → eqb k 0x41 ≡ false → mayCome between-sessions b tag ≡ true → tag ≡ k → ⊥
@@ -26,27 +30,15 @@ module _ (b : Bool) where
   -- in a session at rest
   pub rest-not-read : mayCome in-session b 0x5c ≡ false
   unfolding mayCome among
-  rest-not-read = go b
-    where
-      go : (t : Bool) → pick t false false ≡ false
-      go true = refl
-      go false = refl
+  rest-not-read = neither b
 
   pub rest-not-end : mayCome in-session b 0x5d ≡ false
   unfolding mayCome among
-  rest-not-end = go b
-    where
-      go : (t : Bool) → pick t false false ≡ false
-      go true = refl
-      go false = refl
+  rest-not-end = neither b
 
   pub rest-not-exec : mayCome in-session b 0x5e ≡ false
   unfolding mayCome among
-  rest-not-exec = go b
-    where
-      go : (t : Bool) → pick t false false ≡ false
-      go true = refl
-      go false = refl
+  rest-not-exec = neither b
 
   -- while a motif is read
   pub stream-ends : (tag : ℕ) → mayCome in-stream b tag ≡ true → (tag ≡ 0x5c → ⊥) → tag ≡ 0x5d

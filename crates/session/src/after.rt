@@ -1,20 +1,10 @@
 // Where the job stands after an operator.
 ghost use mathlib.Core.Path.{_≡_};
 ghost use mathlib.Core.Bool.{Bool, true};
-ghost use mathlib.Core.List.{List, _++_};
-ghost use Prim.Native.Nat.{ℕ, _+_, _≤_, _<_};
-ghost use lib.ListN.{length, take, drop};
-ghost use lib.Dec.{eqb};
-ghost use Rattle.wire.specs.Rows.{rowsOf, Sized};
-ghost use Rattle.scope.specs.Choice.{pick};
-ghost use Rattle.scope.specs.Order.{rowsFit};
-ghost use Rattle.scope.specs.Arm as scope-arm;
-ghost use Rattle.scope.specs.Motif as scope-motif;
-ghost use Rattle.scope.specs.Session as scope;
-ghost use Rattle.arm.specs.Holds.{PageHolds};
-ghost use Rattle.motif.specs.Pictures.{pictureAs, pictureFor, imageIn};
-ghost use Rattle.session.specs.Places.{BusyHolds};
-ghost use Rattle.session.specs.Afterwards.{openedAfter, restingAfter, After};
+ghost use mathlib.Core.List.{List};
+ghost use Prim.Native.Nat.{ℕ, _+_, _≤_};
+ghost use lib.ListN.{length, drop};
+ghost use Rattle.session.specs.Afterwards.{openedAfter, Begins, Draws, Joins, After};
 ghost use Rattle.session.specs.declared.early.Early.the-variants as early-is;
 ghost use Rattle.session.specs.declared.place.Busy.the-variants as busy-is;
 ghost use Rattle.session.specs.declared.place.Place.the-variants as place-is;
@@ -40,8 +30,7 @@ fn opened_after(tag: u8, opened: bool) -> bool
 
 // BeginPage begins a page, BeginStream a motif.
 fn begun(job: &[u8], gray: bool, o: Operator, attrs: &[usize; 80]) -> Busy
-    ensures { λ r. ⌜ ((work : List ℕ) (n used : ℕ) → Sized (now (attrs .entry)) (o .count) → used ≤ 16384 → (o .tag ≡ 0x5b → n < 64)
-        → BusyHolds (now (job .entry)) work n used r (restingAfter gray (now (job .entry)) (o .tag) (rowsOf (now (attrs .entry)) (o .count)))) ⌝ }
+    ensures { λ r. ⌜ Begins (now (job .entry)) (now (attrs .entry)) gray o r ⌝ }
 {
     let tag = o.tag;
     if tag == 0x43 {
@@ -68,10 +57,7 @@ fn resting_after(job: &[u8], gray: bool, o: Operator, attrs: &[usize; 80], opene
 
 // EndPage ends a page; another operator leaves it as given, and perhaps an image open.
 fn drawn_on(job: &[u8], high: bool, o: Operator, attrs: &[usize; 80], page: Page, picture: Picture) -> Busy
-    ensures { λ r. ⌜ ((work : List ℕ) (n used : ℕ) (q : scope-arm.Page) → Sized (now (attrs .entry)) (o .count) → PageHolds page q
-        → rowsFit high (now (job .entry)) (imageIn (pictureAs picture)) (o .tag) (rowsOf (now (attrs .entry)) (o .count)) ≡ true
-        → BusyHolds (now (job .entry)) work n used r
-        (pick (eqb (o .tag) 0x44) scope.resting (scope.drawing q (pictureFor high (now (job .entry)) (o .tag) (rowsOf (now (attrs .entry)) (o .count)) (pictureAs picture))))) ⌝ }
+    ensures { λ r. ⌜ Draws (now (job .entry)) (now (attrs .entry)) high o page picture r ⌝ }
 {
     let tag = o.tag;
     if tag == 0x44 {
@@ -104,9 +90,7 @@ fn fits(len: usize, first: usize, count: usize, used: usize, joined: usize) -> b
 fn join_block(job: &[u8], o: Operator, work: &mut [u8], used: usize, joined: usize) -> usize
     ensures { λ _. ⌜ length (now (work .exit)) ≡ length (now (work .entry)) ⌝ }
     ensures { λ _. ⌜ drop 16384 (now (work .exit)) ≡ drop 16384 (now (work .entry)) ⌝ }
-    ensures { λ r. ⌜ (16384 ≤ length (now (work .entry)) → o .first + o .length ≤ length (now (job .entry)) → used + joined + o .length ≤ 16384
-        → (r ≡ joined + o .length)
-        × (take r (drop used (now (work .exit))) ≡ take joined (drop used (now (work .entry))) ++ take (o .length) (drop (o .first) (now (job .entry))))) ⌝ }
+    ensures { λ r. ⌜ Joins (now (job .entry)) o used joined (now (work .entry)) (now (work .exit)) r ⌝ }
 {
     let first = o.first;
     let count = o.length;
