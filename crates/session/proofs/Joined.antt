@@ -1,0 +1,86 @@
+-- A block joined behind the bytes of the motif that is being read.
+-- Assumes nothing.
+use Prim.Native.Nat.{ℕ, _+_, _≤_}
+use mathlib.Core.Path.{_≡_, refl, sym, ap, _∙_}
+use mathlib.Core.Bool.{Bool, true, false}
+use mathlib.Core.List.{List, [], _++_}
+use native.Mathlib.Omega.{arith}
+use lib.ListN.{length, take, drop, length-take, length-drop, drop-of-length-le}
+use lib.Seq.{drop-drop, drop-at, take-add, length-take-le}
+use lib.Dec.{leb}
+use borrow.Author.Tests.{le-leb, leb-true, leb-false}
+use Rattle.buffer.specs.Over.{over, joinedAt}
+use Rattle.buffer.proofs.Parts.{length-over, drop-over, take-under, part-over}
+
+-- a part in the middle is the end of a part from the start
+mid : (w : List ℕ) (u j : ℕ) → u ≤ length w → take j (drop u w) ≡ drop u (take (u + j) w)
+mid w u j h = rw (take-add u j w) (sym (drop-at (take u w) (take j (drop u w)) u (length-take-le u w h)))
+
+-- the bytes before the block stay, then comes the block
+pub join-over : (w b : List ℕ) (u j k : ℕ) → length b ≡ k → u + j + k ≤ length w
+    → take (j + k) (drop u (over w (u + j) b)) ≡ take j (drop u w) ++ b
+join-over w b u j k e h =
+    let W : List ℕ = over w (u + j) b in
+    let hb : u + j + length b ≤ length w = rw e h in
+    let hu : u ≤ length w = omega arith in
+    let hm : u + j ≤ length w = omega arith in
+    let lw : length W ≡ length w = length-over w (u + j) b hb in
+    let hW : u ≤ length W = rw lw hu in
+    let hs : u + j ≤ u + j = omega arith in
+    let first : take j (drop u W) ≡ take j (drop u w) =
+    mid W u j hW ∙ ap (drop u) (take-under w (u + j) b (u + j) hs hm) ∙ sym (mid w u j hu) in
+    let second : take k (drop (u + j) W) ≡ b = rw (← e) (part-over w (u + j) b hm) in
+    take-add j k (drop u W) ∙ ap (λ (t : List ℕ). take j (drop u W) ++ take k t) (drop-drop j u W) ∙ rw (first, second)
+
+-- a block of a job has its length
+pub block-length : (s : List ℕ) (first count : ℕ) → first + count ≤ length s → length (take count (drop first s)) ≡ count
+block-length s first count h =
+    let l : count ≤ length (drop first s) = simp length-drop (omega arith) in
+    length-take-le count (drop first s) l
+
+module _ (w b : List ℕ) (a : ℕ) where
+  pub joined-length : (t : Bool) → t ≡ leb (a + length b) (length w) → length (joinedAt t w a b) ≡ length w
+  joined-length true e = length-over w a b (leb-true _ _ (sym e))
+  joined-length false e = refl
+
+  -- past 16,384 nothing has changed
+  pub joined-past : (t : Bool) → t ≡ leb (a + length b) (length w) → a + length b ≤ 16384 → drop 16384 (joinedAt t w a b) ≡ drop 16384 w
+  joined-past false e h = refl
+  joined-past true e h = go (leb 16384 (length w)) refl
+    where
+      go : (y : Bool) → leb 16384 (length w) ≡ y → drop 16384 (over w a b) ≡ drop 16384 w
+      go true y = drop-over w a b 16384 h (leb-true _ _ y)
+      go false y =
+          let k = leb-false 16384 (length w) y in
+          let l : length (over w a b) ≡ length w = length-over w a b (leb-true _ _ (sym e)) in
+          let m : length w ≤ 16384 = omega arith in
+          let n : length (over w a b) ≤ 16384 = rw l m in
+          drop-of-length-le (over w a b) n ∙ sym (drop-of-length-le w m)
+
+-- what a join of count bytes of a job from first on, behind those held and those joined, did to the work buffer
+module _ (s w W : List ℕ) (first count used joined k : ℕ) (t : Bool) (e : k ≡ count) (hw : first + count ≤ length s) (hl : used + joined + count ≤ 16384)
+    (r : t ≡ leb (used + joined + length (take k (drop first s))) (length w)) (j : W ≡ joinedAt t w (used + joined) (take k (drop first s))) where
+  part-length : length (take k (drop first s)) ≡ count
+  part-length = rw e (block-length s first count hw)
+
+  pub work-length : length W ≡ length w
+  work-length = rw j (joined-length w (take k (drop first s)) (used + joined) t r)
+
+  pub work-past : drop 16384 W ≡ drop 16384 w
+  work-past = rw j (joined-past w (take k (drop first s)) (used + joined) t r (rw part-length hl))
+
+  pub work-joined : 16384 ≤ length w → take (joined + count) (drop used W) ≡ take joined (drop used w) ++ take count (drop first s)
+  work-joined h =
+      let b : List ℕ = take k (drop first s) in
+      let f : used + joined + count ≤ length w = omega arith in
+      let g : used + joined + length b ≤ length w = rw part-length f in
+      let y : t ≡ true = r ∙ le-leb (used + joined + length b) (length w) g in
+      let z : W ≡ over w (used + joined) b = j ∙ ap (λ (x : Bool). joinedAt x w (used + joined) b) y in
+      rw (z, ← e) (join-over w b used joined k (part-length ∙ sym e) (rw e f))
+
+-- a part of the work buffer, of a length that is told in two ways
+pub part-same : (w : List ℕ) (used : ℕ) {k joined : ℕ} → k ≡ joined → take k (drop used w) ≡ take joined (drop used w)
+part-same w used e = ap (λ (n : ℕ). take n (drop used w)) e
+
+pub part-short : (w : List ℕ) (used : ℕ) {k joined : ℕ} → k ≡ joined → joined ≤ 16384 → length (take k (drop used w)) ≤ 16384
+part-short w used {k} {joined} e h = simp length-take (omega arith)

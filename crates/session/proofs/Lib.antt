@@ -1,0 +1,5 @@
+pub mod Standing
+pub mod Tags
+pub mod Breaking
+pub mod Joined
+pub mod Going

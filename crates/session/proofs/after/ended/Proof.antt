@@ -1,0 +1,59 @@
+-- `session::after::ended` meets its contract: only a valid motif comes.
+-- Assumes nothing.
+use Rattle.session.proofs.Going.{fine-after, call-after, no-after}
+use mathlib.Core.Path.{refl}
+use borrow.Author.Needs.{needs}
+use Rattle.session.proofs.after.ended.Statement.{statement}
+use Rattle.session.proofs.after.ended.Tie as tie
+use Rattle.session.proofs.after.ended.Reads as reads
+use Rattle.session.proofs.after.ended.Lts as lts
+use Rattle.session.proofs.after.hold.Reads as hold-reads
+
+enum-told : tie.Need-enum-told
+enum-told c = search needs
+
+enum-told-2 : tie.Need-enum-told-2
+enum-told-2 c = search needs
+
+enum-known-early : tie.Need-enum-known-early
+enum-known-early c = search needs
+
+hold-requires : tie.Need-hold-requires
+hold-requires c κs = search needs
+
+enum-told-3 : tie.Need-enum-told-3
+enum-told-3 c = search needs
+
+returns : tie.Need-returns
+returns c =
+    let a = c .before .before .args in
+    (refl, (refl, rw (c .enum-told .given .1) (λ job attrs work high gray o page nr. fine-after job attrs high gray o (a .rows .now) (a .sums .now) work nr)))
+
+returns-2 : tie.Need-returns-2
+returns-2 c =
+    let a = c .before .before .args in
+    (refl, (refl, rw (c .enum-told2 .given .1) (λ job attrs work high gray o page nr. call-after job attrs high gray o (a .rows .now) (a .sums .now) work nr)))
+
+returns-3 : tie.Need-returns-3
+returns-3 c =
+    let h = c .hold in
+    (h .ensures .0, (h .ensures .1 .0, rw (c .before .before .before .before .early .given .1) (h .ensures .1 .1)))
+
+returns-4 : tie.Need-returns-4
+returns-4 c =
+    let a = c .before .before .args in
+    (refl, (refl, rw (c .enum-told3 .given .1) (λ job attrs work high gray o page nr. no-after job attrs high gray o (a .rows .now) (a .sums .now) work nr)))
+
+pub ended-spec : {M : Type 1} → statement M
+ended-spec =
+    tie.close
+    (tie.spec
+    enum-told
+    enum-told-2
+    enum-known-early
+    hold-requires
+    enum-told-3
+    returns
+    returns-2
+    returns-3
+    returns-4)

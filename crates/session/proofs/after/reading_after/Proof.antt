@@ -1,0 +1,41 @@
+-- `session::after::reading_after` meets its contract: ReadStream, else EndStream.
+-- Assumes nothing.
+use Rattle.session.proofs.Going.{block-after}
+use mathlib.Core.Path.{refl}
+use borrow.Author.Needs.{needs}
+use Rattle.session.proofs.after.reading_after.Statement.{statement}
+use Rattle.session.proofs.after.reading_after.Tie as tie
+use Rattle.session.proofs.after.reading_after.Reads as reads
+use Rattle.session.proofs.after.reading_after.Lts as lts
+use Rattle.session.proofs.after.ended.Reads as ended-reads
+use Rattle.session.proofs.after.join_block.Reads as join-block-reads
+
+join-block-requires : tie.Need-join-block-requires
+join-block-requires c κs = search needs
+
+same-length : tie.Need-same-length
+same-length c = search needs
+
+returns : tie.Need-returns
+returns c =
+    let j = c .before .before in
+    let t = j .before .before in
+    let a = t .before .before .before .before .args in
+    let b = j .join-block in
+    (b .ensures .0, (refl, (refl, (b .ensures .1 .0,
+    λ attrs high gray page. block-after (a .job .now) attrs high gray (a .o) (a .rows .now) (a .sums .now) (a .work .now) (b .last .1 .1 .0) (b .result) (t .if1 .taken) (b .ensures .1 .1)))))
+
+ended-requires : tie.Need-ended-requires
+ended-requires c κs = search needs
+
+returns-2 : tie.Need-returns-2
+returns-2 c =
+    let l = c .before .before .before in
+    let a = l .before .before .before .before .args in
+    let b = c .ended in
+    (refl, (b .ensures .0, (b .ensures .1 .0, (refl,
+    λ attrs high gray page. b .ensures .1 .1 (a .job .now) attrs (a .work .now) high gray (a .o) page (l .if1 .left)))))
+
+pub reading-after-spec : {M : Type 1} → statement M
+reading-after-spec =
+    tie.close (tie.spec join-block-requires same-length returns ended-requires returns-2)

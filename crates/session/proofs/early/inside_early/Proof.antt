@@ -1,0 +1,59 @@
+-- `session::early::inside_early` meets its contract: case by case of what the session is at.
+-- Assumes nothing.
+use Rattle.session.proofs.Standing.{rest-phase, is-drawn}
+use mathlib.Core.Path.{refl}
+use borrow.Author.Needs.{needs}
+use Rattle.session.proofs.early.inside_early.Statement.{statement}
+use Rattle.session.proofs.early.inside_early.Tie as tie
+use Rattle.session.proofs.early.inside_early.Reads as reads
+use Rattle.session.proofs.early.inside_early.Lts as lts
+use Rattle.session.proofs.early.drawing_early.Reads as drawing-early-reads
+use Rattle.session.proofs.early.reading_early.Reads as reading-early-reads
+use Rattle.session.proofs.early.resting_early.Reads as resting-early-reads
+
+enum-told : tie.Need-enum-told
+enum-told c = search needs
+
+resting-early-requires : tie.Need-resting-early-requires
+resting-early-requires c κs = search needs
+
+enum-known-busy : tie.Need-enum-known-busy
+enum-known-busy c = search needs
+
+reading-early-requires : tie.Need-reading-early-requires
+reading-early-requires c κs = search needs
+
+enum-told-2 : tie.Need-enum-told-2
+enum-told-2 c = search needs
+
+drawing-early-requires : tie.Need-drawing-early-requires
+drawing-early-requires c κs = search needs
+
+returns : tie.Need-returns
+returns c =
+    let a = c .before .before .before .before .before .args in
+    (refl, rw (c .before .enum-told .given .1) (λ x h u k y s z w m. c .resting-early .ensures (a .sums .now) x h k s (rw (← rest-phase y) at m)))
+
+returns-2 : tie.Need-returns-2
+returns-2 c =
+    let b = c .before .before .before in
+    let a = b .before .before .before .before .args in
+    (c .reading-early .ensures .0, rw (b .busy .given .1) (λ x h u k y s z w m. c .reading-early .ensures .1 (a .attrs .now) x _ _ h u k y z w m))
+
+returns-3 : tie.Need-returns-3
+returns-3 c =
+    (refl, rw (c .before .enum-told2 .given .1) (λ x h u k y s z w m. c .drawing-early .ensures x h k s (is-drawn y) m))
+
+pub inside-early-spec : {M : Type 1} → statement M
+inside-early-spec =
+    tie.close
+    (tie.spec
+    enum-told
+    resting-early-requires
+    enum-known-busy
+    reading-early-requires
+    enum-told-2
+    drawing-early-requires
+    returns
+    returns-2
+    returns-3)

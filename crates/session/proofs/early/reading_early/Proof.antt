@@ -1,0 +1,35 @@
+-- `session::early::reading_early` meets its contract: ReadStream, else EndStream.
+-- Assumes nothing.
+use Rattle.session.proofs.Tags.{stream-ends}
+use Rattle.session.proofs.Standing.{stream-phase, read-long, read-bytes, read-within}
+use mathlib.Core.Path.{refl}
+use borrow.Author.Needs.{needs}
+use Rattle.session.proofs.early.reading_early.Statement.{statement}
+use Rattle.session.proofs.early.reading_early.Tie as tie
+use Rattle.session.proofs.early.reading_early.Reads as reads
+use Rattle.session.proofs.early.reading_early.Lts as lts
+use Rattle.session.proofs.early.end_stream.Reads as end-stream-reads
+use Rattle.session.proofs.early.read_stream.Reads as read-stream-reads
+
+read-stream-requires : tie.Need-read-stream-requires
+read-stream-requires c κs = search needs
+
+returns : tie.Need-returns
+returns c =
+    let a = c .before .before .before .before .before .args in
+    (refl, λ attrs x first count h u k y z w m. c .read-stream .ensures (a .job .now) attrs x u (read-long y) (read-within y) (c .before .if1 .taken))
+
+end-stream-requires : tie.Need-end-stream-requires
+end-stream-requires c κs = search needs
+
+returns-2 : tie.Need-returns-2
+returns-2 c =
+    let l = c .before .before in
+    let a = l .before .before .before .before .args in
+    (c .end-stream .ensures .0,
+    λ attrs x first count h u k y z w m. c .end-stream .ensures .1 attrs x (a .o) h k z w (read-within y) (read-bytes y)
+    (stream-ends (x .opened) (a .o .tag) (rw (← stream-phase y) at m) (l .if1 .left)))
+
+pub reading-early-spec : {M : Type 1} → statement M
+reading-early-spec =
+    tie.close (tie.spec read-stream-requires returns end-stream-requires returns-2)
