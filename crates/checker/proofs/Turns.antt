@@ -288,3 +288,8 @@ judged-passes Early-is.Fine j e = tt
 judged-passes (Early-is.Call v) j e = tt
 judged-passes (Early-is.Held n v) j e = tt
 judged-passes {c} (Early-is.No code inner) (judged-to f a b k) (early-no g) = unrefused (sym (g _) ∙ f (c .records * 16) ∙ enough c)
+
+-- a step over an operator that was read
+pub steps-read : {job list₀ : List ℕ} {l : Lent} {t : Step} (set : Setting) (d : State) (o : Operator) → operatorAt (contextOf every (set .high) (d .place)) job (d .at) ≡ Read.operator o
+    → Steps job list₀ l t (onRead every set job (length list₀) d (Read.operator o)) → Steps job list₀ l t (jobStep every set job (length list₀) d)
+steps-read {job} {list₀} {l} {t} set d o e h = subst⁻¹ (λ n. Steps job list₀ l t n) (step-operator set job (length list₀) d o e) h

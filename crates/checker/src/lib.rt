@@ -1,6 +1,9 @@
 // The checker: one call judges one job.
+mod entry;
 mod judging;
 mod stepping;
 mod verdict;
 
+pub use entry::check;
+pub use entry::dieuvakhop_check;
 pub use verdict::Verdict;

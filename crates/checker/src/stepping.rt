@@ -16,11 +16,16 @@ ghost use Rattle.reader.specs.Reads.{operatorAs};
 ghost use Rattle.session.specs.Places.{PlaceHolds};
 ghost use Rattle.checker.specs.Views.{verdictAs};
 ghost use Rattle.checker.specs.Standing.{Stands, Listed, Comes, Steps, Goes, Lasts, endCode};
+use crate::judging::inner_of;
+use crate::judging::judge;
 use crate::verdict::OUTER;
 use crate::verdict::Verdict;
 use crate::verdict::told;
+use arm::moved::Moved;
 use arm::page::Page;
+use reader::Context;
 use reader::Operator;
+use reader::Read;
 use session::Early;
 use session::Place;
 
@@ -119,4 +124,146 @@ fn go_on(
         performed,
         records: st.records + o.count + 1,
     })
+}
+
+// An operator that was read.
+fn perform(
+    job: &[u8],
+    high: bool,
+    gray: bool,
+    work: &mut [u8],
+    list: &mut [u8],
+    rows: &mut [usize; 192],
+    sums: &mut [u64; 64],
+    attrs: &[usize; 80],
+    scratch: &mut [usize; 80],
+    st: State,
+    o: Operator,
+) -> Step
+    requires { ⌜ (length (now job) ≤ 61440) × (16384 ≤ length (now work)) × (st .at ≤ o .at) × (o .at < o .next) × (o .next ≤ length (now job)) × (o .count ≤ 16) × (st .records ≤ st .at * 17) ⌝ }
+    ensures { λ _. ⌜ Lasts (now (work .entry)) (now (list .entry)) (now (work .exit)) (now (list .exit)) ⌝ }
+    ensures { λ _. ⌜ length (now (scratch .exit)) ≡ length (now (scratch .entry)) ⌝ }
+    ensures { λ r. ⌜ Goes (length (now (job .entry))) (st .at) r ⌝ }
+    ensures { λ r. ⌜ ((d : scope.State) (list₀ : List ℕ) → length list₀ ≡ length (now (list .entry)) → Sized (now (attrs .entry)) (o .count) → length (now (scratch .entry)) ≡ 80
+        → o .first + o .length ≤ length (now (job .entry))
+        → Stands (now (job .entry)) list₀ (record { rows = now (rows .entry); sums = now (sums .entry); work = now (work .entry); list = now (list .entry) }) st d
+        → operatorAt (contextOf every high (d .place)) (now (job .entry)) (d .at) ≡ operator (operatorAs o (now (attrs .entry)))
+        → Steps (now (job .entry)) list₀ (record { rows = now (rows .exit); sums = now (sums .exit); work = now (work .exit); list = now (list .exit) }) r
+        (onRead every (record { high = high; gray = gray }) (now (job .entry)) (length list₀) d (operator (operatorAs o (now (attrs .entry)))))) ⌝ }
+{
+    let place = st.place;
+    let early = session::early_of(job, work, rows, sums, attrs, scratch, place, o);
+    match judge(job, high, attrs, early, place, o, st.performed) {
+        Moved::No(code) => Step::Stop(stop(st, code, o.at, inner_of(early))),
+        Moved::To(page, performed) => go_on(
+            job,
+            high,
+            gray,
+            work,
+            list,
+            rows,
+            sums,
+            attrs,
+            st,
+            o,
+            early,
+            page,
+            performed,
+        ),
+    }
+}
+
+// One operator of the job.
+fn advance(
+    job: &[u8],
+    high: bool,
+    gray: bool,
+    work: &mut [u8],
+    list: &mut [u8],
+    rows: &mut [usize; 192],
+    sums: &mut [u64; 64],
+    attrs: &mut [usize; 80],
+    scratch: &mut [usize; 80],
+    st: State,
+) -> Step
+    requires { ⌜ (length (now job) ≤ 61440) × (16384 ≤ length (now work)) × (st .at ≤ length (now job)) × (st .records ≤ st .at * 17) ⌝ }
+    ensures { λ _. ⌜ Lasts (now (work .entry)) (now (list .entry)) (now (work .exit)) (now (list .exit)) ⌝ }
+    ensures { λ _. ⌜ (length (now (attrs .exit)) ≡ length (now (attrs .entry))) × (length (now (scratch .exit)) ≡ length (now (scratch .entry))) ⌝ }
+    ensures { λ r. ⌜ Goes (length (now (job .entry))) (st .at) r ⌝ }
+    ensures { λ r. ⌜ ((d : scope.State) (list₀ : List ℕ) → length list₀ ≡ length (now (list .entry)) → length (now (attrs .entry)) ≡ 80 → length (now (scratch .entry)) ≡ 80
+        → Stands (now (job .entry)) list₀ (record { rows = now (rows .entry); sums = now (sums .entry); work = now (work .entry); list = now (list .entry) }) st d
+        → Steps (now (job .entry)) list₀ (record { rows = now (rows .exit); sums = now (sums .exit); work = now (work .exit); list = now (list .exit) }) r
+        (jobStep every (record { high = high; gray = gray }) (now (job .entry)) (length list₀) d)) ⌝ }
+{
+    let place = st.place;
+    let context = Context {
+        high,
+        phase: session::phase_of(place),
+        opened: session::opened_in(place),
+        asked: true,
+    };
+    match reader::operator_at(context, job, st.at, attrs) {
+        Read::No(code, position) => Step::Stop(stop(st, code, position, OUTER)),
+        Read::Ended => Step::Stop(stop(st, end_code(place), job.len(), OUTER)),
+        Read::Operator(o) => perform(
+            job,
+            high,
+            gray,
+            work,
+            list,
+            rows,
+            sums,
+            attrs,
+            scratch,
+            st,
+            o,
+        ),
+    }
+}
+
+// The whole of a job's items, from the first one on.
+pub fn judge_items(
+    job: &[u8],
+    high: bool,
+    gray: bool,
+    next: usize,
+    work: &mut [u8],
+    list: &mut [u8],
+) -> Verdict
+    requires { ⌜ (length (now job) ≤ 61440) × (16384 ≤ length (now work)) × (next ≤ length (now job)) ⌝ }
+    ensures { λ _. ⌜ Lasts (now (work .entry)) (now (list .entry)) (now (work .exit)) (now (list .exit)) ⌝ }
+    ensures { λ r. ⌜ (verdictAs r ≡ verdict.told (judgedFrom every (record { high = high; gray = gray }) (now (job .entry)) (length (now (list .entry))) (scope.starting next)))
+        × Listed (now (list .entry)) (judgedFrom every (record { high = high; gray = gray }) (now (job .entry)) (length (now (list .entry))) (scope.starting next) .state .past) (now (list .exit)) ⌝ }
+{
+    let mut rows = [0usize; 192];
+    let mut sums = [0u64; 64];
+    let mut attrs = [0usize; 80];
+    let mut scratch = [0usize; 80];
+    let mut st = State {
+        at: next,
+        place: Place::Outside(false),
+        performed: 0,
+        records: 0,
+    };
+    loop {
+        match advance(
+            job,
+            high,
+            gray,
+            work,
+            list,
+            &mut rows,
+            &mut sums,
+            &mut attrs,
+            &mut scratch,
+            st,
+        ) {
+            Step::Go(on) => {
+                st = on;
+            }
+            Step::Stop(verdict) => {
+                return verdict;
+            }
+        }
+    }
 }

@@ -1,0 +1,176 @@
+use Prim.Native.Nat.{ℕ}
+use Prim.Native.Nat.{_≤_, _<_}
+use lib.ListN.{length}
+use mathlib.Core.List.{List}
+use mathlib.Core.Path.{refl, sym, ap, _∙_, _≡_, subst⁻¹}
+use native.Mathlib.Omega.{arith}
+use Rattle.wire.specs.Rows.{Sized}
+use Rattle.scope.proofs.Placed.{read-placed}
+use Rattle.scope.specs.Verdict.{every, told}
+use Rattle.scope.specs.Reading.{operatorAt}
+use Rattle.scope.specs.Judge.{contextOf, refusedAt, onRead, jobStep, outer}
+use Rattle.scope.specs.Judge as scope
+use Rattle.scope.specs.Session.{Setting}
+use Rattle.reader.specs.Views.{phaseAs}
+use Rattle.reader.specs.Reads.{operatorAs, readAs}
+use Rattle.checker.specs.Standing.{Stands, Lent, Steps, endCode}
+use Rattle.checker.proofs.Turns.{stopped, context-is, step-no, step-ended, steps-read}
+use borrow.Author.Needs.{needs}
+use Rattle.checker.proofs.stepping.advance.Statement.{statement}
+use Rattle.checker.proofs.stepping.advance.Tie as tie
+use Rattle.checker.proofs.stepping.advance.Reads as reads
+use Rattle.checker.proofs.stepping.advance.Lts as lts
+use Rattle.checker.proofs.stepping.end_code.Reads as end-code-reads
+use Rattle.checker.proofs.stepping.perform.Reads as perform-reads
+use Rattle.checker.proofs.stepping.stop.Reads as stop-reads
+use Rattle.reader.proofs.operator_at.Reads as operator-at-reads
+use Rattle.session.proofs.opened_in.Reads as opened-in-reads
+use Rattle.session.proofs.phase_of.Reads as phase-of-reads
+
+-- what was read is what the definition reads where it stands
+read-is : (c : tie.After-operator-at) (list₀ : List ℕ) (l : Lent) (d : scope.State) → length (c .before .before .before .before .before .before .before .args .attrs .now) ≡ 80
+    → l .rows ≡ c .before .before .before .before .before .before .before .args .rows .now
+    → Stands (c .before .before .before .before .before .before .before .args .job .now) list₀ l (c .before .before .before .before .before .before .before .args .st) d
+    → operatorAt (contextOf every (c .before .before .before .before .before .before .before .args .high) (d .place)) (c .before .before .before .before .before .before .before .args .job .now) (d .at)
+    ≡ readAs (c .operator-at .result) (c .operator-at .last .1 .1 .1 .0)
+read-is c list₀ l d z y h =
+    let a = c .before .before .before .before .before .before .before .args in
+    sym (context-is (a .high) (a .job .now) (a .st .at) d (phaseAs (c .before .before .before .phase-of .result)) (c .before .before .opened-in .result) (h .at)
+    (c .before .before .before .phase-of .ensures (d .place) (a .job .now) (l .rows) (l .sums) (l .work) (h .place))
+    (c .before .before .opened-in .ensures (d .place) (a .job .now) (l .rows) (l .sums) (l .work) (h .place))) ∙ sym (c .operator-at .ensures .1 .0 z)
+
+-- src/stepping.rt:187:16
+phase-of-requires : tie.Need-phase-of-requires
+phase-of-requires c κs = search needs
+
+-- src/stepping.rt:188:17
+opened-in-requires : tie.Need-opened-in-requires
+opened-in-requires c κs = search needs
+
+-- src/stepping.rt:191:11
+operator-at-requires : tie.Need-operator-at-requires
+operator-at-requires c κs = search needs
+
+-- src/stepping.rt:192:18
+enum-known-code : tie.Need-enum-known-code
+enum-known-code c = search needs
+
+-- src/stepping.rt:192:48
+stop-requires : tie.Need-stop-requires
+stop-requires c κs = search needs
+
+-- src/stepping.rt:193:44
+enum-told : tie.Need-enum-told
+enum-told c = search needs
+
+-- src/stepping.rt:193:44
+end-code-requires : tie.Need-end-code-requires
+end-code-requires c κs = search needs
+
+-- src/stepping.rt:193:35
+stop-requires-2 : tie.Need-stop-requires-2
+stop-requires-2 c κs = search needs
+
+-- src/stepping.rt:194:24
+enum-known-o : tie.Need-enum-known-o
+enum-known-o c = search needs
+
+-- src/stepping.rt:194:30
+perform-requires : tie.Need-perform-requires
+perform-requires c κs =
+    let f = c .before .before .before .before .before .before .before .before .before in
+    let st = f .before .before .before .before .before .before .before in
+    let w = rw (c .before .before .before .before .before .before .before .o .given .1) at (f .operator-at .ensures .1 .1) in
+    (st .pre .0, st .pre .1, w .0, w .1, w .2, w .4, st .pre .3)
+
+-- src/stepping.rt:163:1
+returns : tie.Need-returns
+returns c =
+    let f = c .before .before .before .before in
+    let st = f .before .before .before .before .before .before .before in
+    let a = st .args in (
+      record { work-long = refl; list-long = refl; rest = refl },
+      (
+        (f .operator-at .ensures .0, refl),
+        (
+          tt,
+          λ d list₀ l z y h.
+              let set : Setting = record { high = a .high; gray = a .gray } in
+              let q = rw (c .before .before .code .given .1) at (read-is f list₀ _ d z refl h) in
+              let p = read-placed (contextOf every (a .high) (d .place)) (a .job .now) (d .at) _ _ q in
+              stopped (c .stop .result) (jobStep every set (a .job .now) (length list₀) d) _ _ outer h (step-no set (a .job .now) (length list₀) d _ _ q)
+              (c .stop .ensures d (omega (arith, p, st .pre)) (omega (arith, st .pre)) (h .records) (h .performed)),
+        ),
+      ),
+    )
+
+-- src/stepping.rt:163:1
+returns-2 : tie.Need-returns-2
+returns-2 c =
+    let f = c .before .before .before .before in
+    let st = f .before .before .before .before .before .before .before in
+    let a = st .args in (
+      record { work-long = refl; list-long = refl; rest = refl },
+      (
+        (f .operator-at .ensures .0, refl),
+        (
+          tt,
+          λ d list₀ l z y h.
+              let set : Setting = record { high = a .high; gray = a .gray } in
+              let q = rw (c .before .before .enum-told .given .1) at (read-is f list₀ _ d z refl h) in
+              stopped (c .stop2 .result) (jobStep every set (a .job .now) (length list₀) d) (endCode (d .place)) (length (a .job .now)) outer h (step-ended set (a .job .now) (length list₀) d q)
+              (c .stop2 .ensures d (omega (arith, st .pre)) (omega (arith, st .pre)) (h .records) (h .performed)
+              ∙ ap (λ k. told (refusedAt k (length (a .job .now)) outer d)) (c .before .end-code .ensures (d .place) _ _ _ _ (h .place))),
+        ),
+      ),
+    )
+
+-- src/stepping.rt:163:1
+same-length : tie.Need-same-length
+same-length c = search needs
+
+-- src/stepping.rt:163:1
+same-length-2 : tie.Need-same-length-2
+same-length-2 c = search needs
+
+-- src/stepping.rt:163:1
+returns-3 : tie.Need-returns-3
+returns-3 c =
+    let g = c .before .before .before .before in
+    let f = g .before .before .before .before .before .before .before .before .before .before in
+    let st = f .before .before .before .before .before .before .before in
+    let a = st .args in
+    let e = g .before .before .before .before .before .before .before .before .o .given .1 in
+    let w = rw e at (f .operator-at .ensures .1 .1) in (
+      g .perform .ensures .0,
+      (
+        (f .operator-at .ensures .0, g .perform .ensures .1 .0),
+        (
+          g .perform .ensures .1 .1 .0,
+          λ d list₀ l z y h.
+              let set : Setting = record { high = a .high; gray = a .gray } in
+              let q = rw e at (read-is f list₀ _ d z refl h) in
+              steps-read set d _ q (g .perform .ensures .1 .1 .1 d list₀ l (record { long = f .operator-at .ensures .0 ∙ z; few = w .4 }) y (w .3) h q),
+        ),
+      ),
+    )
+
+pub advance-spec : {M : Type 1} → statement M
+advance-spec =
+    tie.close
+    (tie.spec
+    phase-of-requires
+    opened-in-requires
+    operator-at-requires
+    enum-known-code
+    stop-requires
+    enum-told
+    end-code-requires
+    stop-requires-2
+    enum-known-o
+    perform-requires
+    returns
+    returns-2
+    same-length
+    same-length-2
+    returns-3)

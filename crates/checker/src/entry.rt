@@ -1,0 +1,54 @@
+// The one public entry, and its C export.
+ghost use mathlib.Core.Path.{_≡_};
+ghost use Prim.Native.Nat.{ℕ, _≤_};
+ghost use lib.ListN.{length};
+ghost use Rattle.scope.specs.Verdict.{startsGray, every, verdictOf, listAfter, workAfter, judgedAfter};
+ghost use Rattle.scope.specs.Verdict as verdict;
+ghost use Rattle.scope.specs.Header.{headerOf};
+ghost use Rattle.checker.specs.Views.{verdictAs};
+ghost use Rattle.checker.specs.Standing.{Lasts, Listed};
+use crate::stepping::judge_items;
+use crate::verdict::OUTER;
+use crate::verdict::Verdict;
+use crate::verdict::told;
+use wire::Header;
+
+// A job that is not too long, with a work buffer that is long enough: its header, then its items.
+fn judge_job(job: &[u8], work: &mut [u8], list: &mut [u8]) -> Verdict
+    requires { ⌜ (length (now job) ≤ 61440) × (16384 ≤ length (now work)) ⌝ }
+    ensures { λ _. ⌜ Lasts (now (work .entry)) (now (list .entry)) (now (work .exit)) (now (list .exit)) ⌝ }
+    ensures { λ r. ⌜ (verdictAs r ≡ verdict.told (judgedAfter every (now (job .entry)) (length (now (list .entry))) (headerOf (now (job .entry)))))
+        × Listed (now (list .entry)) (judgedAfter every (now (job .entry)) (length (now (list .entry))) (headerOf (now (job .entry))) .state .past) (now (list .exit)) ⌝ }
+{
+    match wire::header_of(job) {
+        Header::No(code, place) => told(code, place, OUTER, 0, 0),
+        Header::Is(high, next) => judge_items(job, high, false, next, work, list),
+    }
+}
+
+// Judges a job. The list gets its records, the first 16,384 bytes of the work buffer are zero afterwards.
+pub fn check(job: &[u8], work: &mut [u8], list: &mut [u8]) -> Verdict
+    ensures { λ r. ⌜ verdictAs r ≡ verdictOf (now (job .entry)) (length (now (work .entry))) (length (now (list .entry))) ⌝ }
+    ensures { λ _. ⌜ now (list .exit) ≡ listAfter (now (job .entry)) (length (now (work .entry))) (now (list .entry)) ⌝ }
+    ensures { λ _. ⌜ now (work .exit) ≡ workAfter (now (job .entry)) (now (work .entry)) ⌝ }
+{
+    if work.len() < 16384 {
+        return told(29, 0, OUTER, 0, 0);
+    }
+    if 61440 < job.len() {
+        return told(1, 61440, OUTER, 0, 0);
+    }
+    let verdict = judge_job(job, work, list);
+    buffer::zero(work);
+    verdict
+}
+
+// The same for C and Rust.
+#[no_mangle]
+pub extern "C" fn dieuvakhop_check(job: &[u8], work: &mut [u8], list: &mut [u8]) -> Verdict
+    ensures { λ r. ⌜ verdictAs r ≡ verdictOf (now (job .entry)) (length (now (work .entry))) (length (now (list .entry))) ⌝ }
+    ensures { λ _. ⌜ now (list .exit) ≡ listAfter (now (job .entry)) (length (now (work .entry))) (now (list .entry)) ⌝ }
+    ensures { λ _. ⌜ now (work .exit) ≡ workAfter (now (job .entry)) (now (work .entry)) ⌝ }
+{
+    check(job, work, list)
+}
