@@ -8,10 +8,10 @@ ghost use Rattle.session.specs.Afterwards.{openedAfter, Begins, Draws, J
 ghost use Rattle.session.specs.declared.early.Early.the-variants as early-is;
 ghost use Rattle.session.specs.declared.place.Busy.the-variants as busy-is;
 ghost use Rattle.session.specs.declared.place.Place.the-variants as place-is;
-use arm::page::Page;
 use crate::early::Early;
 use crate::place::Busy;
 use crate::place::Place;
+use arm::page::Page;
 use motif::Picture;
 use reader::Operator;
 
@@ -44,7 +44,15 @@ fn begun(job: &[u8], gray: bool, o: Operator, attrs: &[usize; 80]) -> Busy
 }
 
 // In a session at rest: EndSession drops all.
-fn resting_after(job: &[u8], gray: bool, o: Operator, attrs: &[usize; 80], opened: bool, held: usize, used: usize) -> Place
+fn resting_after(
+    job: &[u8],
+    gray: bool,
+    o: Operator,
+    attrs: &[usize; 80],
+    opened: bool,
+    held: usize,
+    used: usize,
+) -> Place
     ensures { λ r. ⌜ ((high : Bool) (early : Early) (page : Page) (rows sums work : List ℕ)
         → After (now (job .entry)) (now (attrs .entry)) high gray o early page rows sums work (place-is.Inside opened held used busy-is.Resting) rows sums work r) ⌝ }
 {
@@ -52,18 +60,33 @@ fn resting_after(job: &[u8], gray: bool, o: Operator, attrs: &[usize; 80], opene
     if tag == 0x42 {
         return Place::Outside(true);
     }
-    Place::Inside(opened_after(tag, opened), held, used, begun(job, gray, o, attrs))
+    Place::Inside(
+        opened_after(tag, opened),
+        held,
+        used,
+        begun(job, gray, o, attrs),
+    )
 }
 
 // EndPage ends a page; another operator leaves it as given, and perhaps an image open.
-fn drawn_on(job: &[u8], high: bool, o: Operator, attrs: &[usize; 80], page: Page, picture: Picture) -> Busy
+fn drawn_on(
+    job: &[u8],
+    high: bool,
+    o: Operator,
+    attrs: &[usize; 80],
+    page: Page,
+    picture: Picture,
+) -> Busy
     ensures { λ r. ⌜ Draws (now (job .entry)) (now (attrs .entry)) high o page picture r ⌝ }
 {
     let tag = o.tag;
     if tag == 0x44 {
         return Busy::Resting;
     }
-    Busy::Drawing(page, motif::picture_after(job, high, tag, attrs, o.count, picture))
+    Busy::Drawing(
+        page,
+        motif::picture_after(job, high, tag, attrs, o.count, picture),
+    )
 }
 
 // Whether so many bytes of a job from a place on lie within its length, and there is room for them behind those held and those joined.
@@ -157,7 +180,18 @@ fn ended(
     match early {
         Early::Fine => Place::Outside(true),
         Early::Call(_) => Place::Outside(true),
-        Early::Held(depth, sum) => hold(opened, held, used, first, count, joined, depth, sum, rows, sums),
+        Early::Held(depth, sum) => hold(
+            opened,
+            held,
+            used,
+            first,
+            count,
+            joined,
+            depth,
+            sum,
+            rows,
+            sums,
+        ),
         Early::No(_, _) => Place::Outside(true),
     }
 }
@@ -218,8 +252,26 @@ fn inside_after(
 {
     match busy {
         Busy::Resting => resting_after(job, gray, o, attrs, opened, held, used),
-        Busy::Reading(first, count, joined) => reading_after(job, o, early, opened, held, used, first, count, joined, work, rows, sums),
-        Busy::Drawing(_, picture) => Place::Inside(opened, held, used, drawn_on(job, high, o, attrs, page, picture)),
+        Busy::Reading(first, count, joined) => reading_after(
+            job,
+            o,
+            early,
+            opened,
+            held,
+            used,
+            first,
+            count,
+            joined,
+            work,
+            rows,
+            sums,
+        ),
+        Busy::Drawing(_, picture) => Place::Inside(
+            opened,
+            held,
+            used,
+            drawn_on(job, high, o, attrs, page, picture),
+        ),
     }
 }
 
@@ -247,7 +299,20 @@ pub fn place_after(
     match place {
         Place::Outside(_) => Place::Inside(false, 0, 0, Busy::Resting),
         Place::Inside(opened, held, used, busy) => inside_after(
-            job, high, gray, o, attrs, early, page, opened, held, used, busy, work, rows, sums,
+            job,
+            high,
+            gray,
+            o,
+            attrs,
+            early,
+            page,
+            opened,
+            held,
+            used,
+            busy,
+            work,
+            rows,
+            sums,
         ),
     }
 }

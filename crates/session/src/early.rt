@@ -33,7 +33,13 @@ pub enum Early {
 }
 
 // BeginStream: 19 with 64 held, 20 with a held name.
-fn begin_stream(job: &[u8], rows: &[usize; 192], attrs: &[usize; 80], held: usize, o: Operator) -> Early
+fn begin_stream(
+    job: &[u8],
+    rows: &[usize; 192],
+    attrs: &[usize; 80],
+    held: usize,
+    o: Operator,
+) -> Early
     ensures { λ r. ⌜ ((sums : List ℕ) (x : Session) → held ≤ 64 → Keeps (now (job .entry)) (now (rows .entry)) sums held (x .held) → Sized (now (attrs .entry)) (o .count)
         → o .tag ≡ 0x5b → EarliesIn (now (job .entry)) (now (attrs .entry)) x o r) ⌝ }
 {
@@ -48,7 +54,13 @@ fn begin_stream(job: &[u8], rows: &[usize; 192], attrs: &[usize; 80], held: usiz
 }
 
 // In a session at rest.
-fn resting_early(job: &[u8], rows: &[usize; 192], attrs: &[usize; 80], held: usize, o: Operator) -> Early
+fn resting_early(
+    job: &[u8],
+    rows: &[usize; 192],
+    attrs: &[usize; 80],
+    held: usize,
+    o: Operator,
+) -> Early
     ensures { λ r. ⌜ ((sums : List ℕ) (x : Session) → held ≤ 64 → Keeps (now (job .entry)) (now (rows .entry)) sums held (x .held) → Sized (now (attrs .entry)) (o .count)
         → mayCome in-session (x .opened) (o .tag) ≡ true → EarliesIn (now (job .entry)) (now (attrs .entry)) x o r) ⌝ }
 {
@@ -130,7 +142,14 @@ fn reading_early(
 }
 
 // ExecStream: 21 if the name is not held.
-fn exec_stream(job: &[u8], rows: &[usize; 192], sums: &[u64; 64], attrs: &[usize; 80], held: usize, o: Operator) -> Early
+fn exec_stream(
+    job: &[u8],
+    rows: &[usize; 192],
+    sums: &[u64; 64],
+    attrs: &[usize; 80],
+    held: usize,
+    o: Operator,
+) -> Early
     ensures { λ r. ⌜ ((x : Session) → held ≤ 64 → Keeps (now (job .entry)) (now (rows .entry)) (now (sums .entry)) held (x .held) → Sized (now (attrs .entry)) (o .count)
         → o .tag ≡ 0x5e → EarliesIn (now (job .entry)) (now (attrs .entry)) x o r) ⌝ }
 {
@@ -142,7 +161,14 @@ fn exec_stream(job: &[u8], rows: &[usize; 192], sums: &[u64; 64], attrs: &[usize
 }
 
 // In a page, perhaps with an image open.
-fn drawing_early(job: &[u8], rows: &[usize; 192], sums: &[u64; 64], attrs: &[usize; 80], held: usize, o: Operator) -> Early
+fn drawing_early(
+    job: &[u8],
+    rows: &[usize; 192],
+    sums: &[u64; 64],
+    attrs: &[usize; 80],
+    held: usize,
+    o: Operator,
+) -> Early
     ensures { λ r. ⌜ ((x : Session) → held ≤ 64 → Keeps (now (job .entry)) (now (rows .entry)) (now (sums .entry)) held (x .held) → Sized (now (attrs .entry)) (o .count)
         → Drawn (x .busy) → mayCome (phaseBusy (x .busy)) (x .opened) (o .tag) ≡ true → EarliesIn (now (job .entry)) (now (attrs .entry)) x o r) ⌝ }
 {
@@ -173,7 +199,17 @@ fn inside_early(
 {
     match busy {
         Busy::Resting => resting_early(job, rows, attrs, held, o),
-        Busy::Reading(_, _, joined) => reading_early(job, work, rows, sums, scratch, held, used, joined, o),
+        Busy::Reading(_, _, joined) => reading_early(
+            job,
+            work,
+            rows,
+            sums,
+            scratch,
+            held,
+            used,
+            joined,
+            o,
+        ),
         Busy::Drawing(_, _) => drawing_early(job, rows, sums, attrs, held, o),
     }
 }
@@ -197,6 +233,17 @@ pub fn early_of(
 {
     match place {
         Place::Outside(_) => Early::Fine,
-        Place::Inside(_, held, used, busy) => inside_early(job, work, rows, sums, attrs, scratch, held, used, busy, o),
+        Place::Inside(_, held, used, busy) => inside_early(
+            job,
+            work,
+            rows,
+            sums,
+            attrs,
+            scratch,
+            held,
+            used,
+            busy,
+            o,
+        ),
     }
 }

@@ -4,10 +4,10 @@ mod early;
 mod place;
 
 pub use after::place_after;
-pub use early::early_of;
 pub use early::Early;
+pub use early::early_of;
+pub use place::Busy;
+pub use place::Place;
 pub use place::opened_in;
 pub use place::page_in;
 pub use place::phase_of;
-pub use place::Busy;
-pub use place::Place;

@@ -32,9 +32,10 @@ sub-result c = search needs
 
 returns-5 : tie.Need-returns-5
 returns-5 c =
-    let a = c .before .before .before .before .args in
-    (λ e. let z = leb-true (a .count) (16384 - a .used - a .joined) e in (omega arith, omega arith),
-    λ h k. let z : a .count ≤ 16384 - a .used - a .joined = omega arith in le-leb (a .count) (16384 - a .used - a .joined) z)
+    let a = c .before .before .before .before .args in (
+      λ e. let z = leb-true (a .count) (16384 - a .used - a .joined) e in (omega arith, omega arith),
+      λ h k. let z : a .count ≤ 16384 - a .used - a .joined = omega arith in le-leb (a .count) (16384 - a .used - a .joined) z,
+    )
 
 pub fits-spec : {M : Type 1} → statement M
 fits-spec = tie.close (tie.spec returns returns-2 returns-3 returns-4 sub-result returns-5)

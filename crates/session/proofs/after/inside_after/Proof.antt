@@ -41,16 +41,37 @@ returns-2 : tie.Need-returns-2
 returns-2 c =
     let r = c .before .before .reading-after in
     let y = c .before .before .before .before .before .before .before in
-    let a = y .before .before .before .before .args in
-    (r .ensures .0, (r .ensures .1 .0, (r .ensures .1 .1 .0, (r .ensures .1 .1 .1 .0,
-    rw (y .busy .given .1) (r .ensures .1 .1 .1 .1 (a .attrs .now) (a .high) (a .gray) (a .page))))))
+    let a = y .before .before .before .before .args in (
+      r .ensures .0,
+      (
+        r .ensures .1 .0,
+        (
+          r .ensures .1 .1 .0,
+          (
+            r .ensures .1 .1 .1 .0,
+            rw (y .busy .given .1) (r .ensures .1 .1 .1 .1 (a .attrs .now) (a .high) (a .gray) (a .page)),
+          ),
+        ),
+      ),
+    )
 
 returns-3 : tie.Need-returns-3
 returns-3 c =
     let y = c .before .before in
-    let a = y .before .before .before .before .args in
-    (refl, (refl, (refl, (refl, rw (y .busy2 .given .1) (draw-after (a .job .now) (a .attrs .now) (a .high) (a .gray) (a .o) (a .rows .now) (a .sums .now) (a .work .now)
-    (c .drawn-on .result) (c .drawn-on .ensures))))))
+    let a = y .before .before .before .before .args in (
+      refl,
+      (
+        refl,
+        (
+          refl,
+          (
+            refl,
+            rw (y .busy2 .given .1) (draw-after (a .job .now) (a .attrs .now) (a .high) (a .gray) (a .o) (a .rows .now) (a .sums .now) (a .work .now)
+                (c .drawn-on .result) (c .drawn-on .ensures)),
+          ),
+        ),
+      ),
+    )
 
 pub inside-after-spec : {M : Type 1} → statement M
 inside-after-spec =

@@ -64,10 +64,13 @@ returns-2 c =
     let f = e .before .fits2 .ensures .0 (not-false _ (e .if1 .left)) in
     let l : a .o .first + a .o .length - a .o .first ≡ a .o .length = omega arith in
     let W = j .join .last .1 .0 in
-    let n = a .o .first + a .o .length - a .o .first in
-    (work-length (a .job .now) (a .work .now) W (a .o .first) (a .o .length) (a .used) (a .joined) n (j .join .result) l (f .0) (f .1) (j .join .ensures .0) (j .join .ensures .1),
-    (work-past (a .job .now) (a .work .now) W (a .o .first) (a .o .length) (a .used) (a .joined) n (j .join .result) l (f .0) (f .1) (j .join .ensures .0) (j .join .ensures .1),
-    λ h w k. (refl, work-joined (a .job .now) (a .work .now) W (a .o .first) (a .o .length) (a .used) (a .joined) n (j .join .result) l (f .0) (f .1) (j .join .ensures .0) (j .join .ensures .1) h)))
+    let n = a .o .first + a .o .length - a .o .first in (
+      work-length (a .job .now) (a .work .now) W (a .o .first) (a .o .length) (a .used) (a .joined) n (j .join .result) l (f .0) (f .1) (j .join .ensures .0) (j .join .ensures .1),
+      (
+        work-past (a .job .now) (a .work .now) W (a .o .first) (a .o .length) (a .used) (a .joined) n (j .join .result) l (f .0) (f .1) (j .join .ensures .0) (j .join .ensures .1),
+        λ h w k. (refl, work-joined (a .job .now) (a .work .now) W (a .o .first) (a .o .length) (a .used) (a .joined) n (j .join .result) l (f .0) (f .1) (j .join .ensures .0) (j .join .ensures .1) h),
+      ),
+    )
 
 pub join-block-spec : {M : Type 1} → statement M
 join-block-spec =

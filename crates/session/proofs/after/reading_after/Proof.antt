@@ -21,9 +21,19 @@ returns c =
     let j = c .before .before in
     let t = j .before .before in
     let a = t .before .before .before .before .args in
-    let b = j .join-block in
-    (b .ensures .0, (refl, (refl, (b .ensures .1 .0,
-    λ attrs high gray page. block-after (a .job .now) attrs high gray (a .o) (a .rows .now) (a .sums .now) (a .work .now) (b .last .1 .1 .0) (b .result) (t .if1 .taken) (b .ensures .1 .1)))))
+    let b = j .join-block in (
+      b .ensures .0,
+      (
+        refl,
+        (
+          refl,
+          (
+            b .ensures .1 .0,
+            λ attrs high gray page. block-after (a .job .now) attrs high gray (a .o) (a .rows .now) (a .sums .now) (a .work .now) (b .last .1 .1 .0) (b .result) (t .if1 .taken) (b .ensures .1 .1),
+          ),
+        ),
+      ),
+    )
 
 ended-requires : tie.Need-ended-requires
 ended-requires c κs = search needs
@@ -32,9 +42,19 @@ returns-2 : tie.Need-returns-2
 returns-2 c =
     let l = c .before .before .before in
     let a = l .before .before .before .before .args in
-    let b = c .ended in
-    (refl, (b .ensures .0, (b .ensures .1 .0, (refl,
-    λ attrs high gray page. b .ensures .1 .1 (a .job .now) attrs (a .work .now) high gray (a .o) page (l .if1 .left)))))
+    let b = c .ended in (
+      refl,
+      (
+        b .ensures .0,
+        (
+          b .ensures .1 .0,
+          (
+            refl,
+            λ attrs high gray page. b .ensures .1 .1 (a .job .now) attrs (a .work .now) high gray (a .o) page (l .if1 .left),
+          ),
+        ),
+      ),
+    )
 
 pub reading-after-spec : {M : Type 1} → statement M
 reading-after-spec =

@@ -27,9 +27,10 @@ returns-2 : tie.Need-returns-2
 returns-2 c =
     let b = c .before .before .before in
     let a = b .before .before .before .before .args in
-    let e = c .inside-early .ensures .1 in
-    (c .inside-early .ensures .0,
-    rw (b .place .given .1) (λ q st high h s z w m. inner-early q (a .o) st high (c .inside-early .result) (λ x f u k y s l m. e x f u k y s z l m) h s w m))
+    let e = c .inside-early .ensures .1 in (
+      c .inside-early .ensures .0,
+      rw (b .place .given .1) (λ q st high h s z w m. inner-early q (a .o) st high (c .inside-early .result) (λ x f u k y s l m. e x f u k y s z l m) h s w m),
+    )
 
 pub early-of-spec : {M : Type 1} → statement M
 early-of-spec =

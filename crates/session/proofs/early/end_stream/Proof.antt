@@ -51,19 +51,21 @@ returns-3 : tie.Need-returns-3
 returns-3 c =
     let j = c .before .before .before in
     let a = j .before .before .before .before .before .before .before .args in
-    let n : a .used + a .joined - a .used ≡ a .joined = omega arith in
-    (j .judge-motif .ensures .0,
-    λ attrs x o h k z w l e t. end-valid (a .job .now) attrs x o t (part-same (a .work .now) (a .used) n ∙ e)
-    (rw (c .before .depth .given .1) at (j .judge-motif .ensures .1 (x .held) z h k)))
+    let n : a .used + a .joined - a .used ≡ a .joined = omega arith in (
+      j .judge-motif .ensures .0,
+      λ attrs x o h k z w l e t. end-valid (a .job .now) attrs x o t (part-same (a .work .now) (a .used) n ∙ e)
+          (rw (c .before .depth .given .1) at (j .judge-motif .ensures .1 (x .held) z h k)),
+    )
 
 returns-4 : tie.Need-returns-4
 returns-4 c =
     let j = c .before .before .before in
     let a = j .before .before .before .before .before .before .before .args in
-    let n : a .used + a .joined - a .used ≡ a .joined = omega arith in
-    (j .judge-motif .ensures .0,
-    λ attrs x o h k z w l e t. end-faulty (a .job .now) attrs x o t (part-same (a .work .now) (a .used) n ∙ e) (part-short (a .work .now) (a .used) n (omega arith))
-    (rw (c .before .code .given .1) at (j .judge-motif .ensures .1 (x .held) z h k)))
+    let n : a .used + a .joined - a .used ≡ a .joined = omega arith in (
+      j .judge-motif .ensures .0,
+      λ attrs x o h k z w l e t. end-faulty (a .job .now) attrs x o t (part-same (a .work .now) (a .used) n ∙ e) (part-short (a .work .now) (a .used) n (omega arith))
+          (rw (c .before .code .given .1) at (j .judge-motif .ensures .1 (x .held) z h k)),
+    )
 
 pub end-stream-spec : {M : Type 1} → statement M
 end-stream-spec =

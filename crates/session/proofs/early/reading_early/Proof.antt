@@ -25,10 +25,11 @@ end-stream-requires c κs = search needs
 returns-2 : tie.Need-returns-2
 returns-2 c =
     let l = c .before .before in
-    let a = l .before .before .before .before .args in
-    (c .end-stream .ensures .0,
-    λ attrs x first count h u k y z w m. c .end-stream .ensures .1 attrs x (a .o) h k z w (read-within y) (read-bytes y)
-    (stream-ends (x .opened) (a .o .tag) (rw (← stream-phase y) at m) (l .if1 .left)))
+    let a = l .before .before .before .before .args in (
+      c .end-stream .ensures .0,
+      λ attrs x first count h u k y z w m. c .end-stream .ensures .1 attrs x (a .o) h k z w (read-within y) (read-bytes y)
+          (stream-ends (x .opened) (a .o .tag) (rw (← stream-phase y) at m) (l .if1 .left)),
+    )
 
 pub reading-early-spec : {M : Type 1} → statement M
 reading-early-spec =
