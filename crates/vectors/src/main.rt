@@ -29,7 +29,13 @@ fn judge(
     room: usize,
 ) -> checker::Verdict {
     if job.len() < n || work.len() < held || list.len() < room {
-        return checker::Verdict { code: 99, position: 0, inner: 0, records: 0, performed: 0 };
+        return checker::Verdict {
+            code: 99,
+            position: 0,
+            inner: 0,
+            records: 0,
+            performed: 0,
+        };
     }
     checker::check(&job[0..n], &mut work[0..held], &mut list[0..room])
 }

@@ -1,5 +1,5 @@
--- `vectors::main` is safe and ends. The measure is the number of turns that are left.
--- Nothing has to hold from turn to turn, so the invariant is `Unit {0}`, the fact that says nothing, which `tt` shows.
+-- `main` is safe and ends. The measure is the number of turns that are left.
+-- Nothing has to hold from turn to turn, so the invariant is `Unit {0}`.
 -- Assumes nothing.
 use native.Mathlib.Omega.{arith}
 use Rattle.vectors.proofs.main.Statement.{statement}
