@@ -1,0 +1,88 @@
+// Judges many jobs and prints a line for each: the five numbers, then a checksum of the work buffer and one of the list.
+//
+// A job is the lengths of the job, of the work buffer and of the list, four bytes each with the low byte first, then the job.
+mod line;
+
+// A checksum with one more byte.
+fn mix(sum: u64, byte: u8) -> u64 {
+    (sum % 4_294_967_296) * 16_777_619 + byte as u64
+}
+
+// A checksum of bytes in their order.
+fn checksum(bytes: &[u8]) -> u64 {
+    let mut sum = 0;
+    let mut i = 0;
+    while i < bytes.len() {
+        sum = mix(sum, bytes[i]);
+        i += 1;
+    }
+    sum % 4_294_967_296
+}
+
+// Judges the first n bytes of the job with as many bytes of the buffers as asked for; code 99 if there are not so many.
+fn judge(
+    job: &[u8],
+    n: usize,
+    work: &mut [u8],
+    held: usize,
+    list: &mut [u8],
+    room: usize,
+) -> checker::Verdict {
+    if job.len() < n || work.len() < held || list.len() < room {
+        return checker::Verdict {
+            code: 99,
+            position: 0,
+            inner: 0,
+            records: 0,
+            performed: 0,
+        };
+    }
+    checker::check(&job[0..n], &mut work[0..held], &mut list[0..room])
+}
+
+// Both buffers are full of a byte that no record and no zeroed work buffer has throughout.
+fn answer(job: &[u8], n: usize, held: usize, room: usize) {
+    let mut work = [238u8; 65536];
+    let mut list = [238u8; 65536];
+    let verdict = judge(job, n, &mut work, held, &mut list, room);
+    line::print(verdict, checksum(&work), checksum(&list));
+}
+
+// Reads n bytes to the start of job, and whether they came.
+fn fill(job: &mut [u8], n: usize) -> bool {
+    if job.len() < n {
+        return false;
+    }
+    io::read_full(0, &mut job[0..n]) == n
+}
+
+// A number of four bytes.
+fn number(a: u8, b: u8, c: u8, d: u8) -> usize {
+    a as usize + 256 * (b as usize) + 65_536 * (c as usize) + 16_777_216 * (d as usize)
+}
+
+// One job, and whether there was one.
+fn next() -> bool {
+    let mut head = [0u8; 12];
+    if io::read_full(0, &mut head) < 12 {
+        return false;
+    }
+    let n = number(head[0], head[1], head[2], head[3]);
+    let held = number(head[4], head[5], head[6], head[7]);
+    let room = number(head[8], head[9], head[10], head[11]);
+    let mut job = [0u8; 131072];
+    if !fill(&mut job, n) {
+        io::write_all(2, b"the job is cut\n");
+        return false;
+    }
+    answer(&job, n, held, room);
+    true
+}
+
+// A loop must be seen to end, so it counts its turns down from a number that no run uses up.
+fn main() {
+    let mut turns = u64::MAX;
+    while turns > 0 && next() {
+        turns -= 1;
+    }
+}

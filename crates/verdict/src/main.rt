@@ -1,0 +1,24 @@
+// Judges the job on standard input and prints code, position, inner, records and performed.
+
+// The five numbers on one line.
+fn print(v: checker::Verdict) {
+    io::print_decimal(1, v.code as u64);
+    io::write_all(1, b" ");
+    io::print_decimal(1, v.position as u64);
+    io::write_all(1, b" ");
+    io::print_decimal(1, v.inner as u64);
+    io::write_all(1, b" ");
+    io::print_decimal(1, v.records as u64);
+    io::write_all(1, b" ");
+    io::print_decimal(1, v.performed as u64);
+    io::write_all(1, b"\n");
+}
+
+// One byte more than a job may have is room enough to tell a job that is too long.
+fn main() {
+    let mut job = [0u8; 61441];
+    let n = io::read_full(0, &mut job);
+    let mut work = [0u8; 16384];
+    let mut list = io::large_buffer();
+    print(checker::check(&job[..n], &mut work, &mut list));
+}
