@@ -1,0 +1,89 @@
+/* Dieuvakhop: judges one job for the pen arm before the pen moves.
+ *
+ * Link with libchecker.a (x86-64), made by `rt staticlib checker`.
+ * The promise below is proved of the function in crates/checker/src/entry.rt,
+ * for every content and every length of the three buffers.
+ */
+#ifndef DIEUVAKHOP_H
+#define DIEUVAKHOP_H
+
+#include <stddef.h>
+#include <stdint.h>
+
+#ifdef __cplusplus
+extern "C" {
+#endif
+
+/* The longest job that is judged, in bytes. A longer one gets code 1. */
+#define DIEUVAKHOP_JOB_MOST 61440u
+
+/* The shortest work buffer that is taken, in bytes. A shorter one gets code 29. */
+#define DIEUVAKHOP_WORK_LEAST 16384u
+
+/* Bytes of one record of the list. */
+#define DIEUVAKHOP_RECORD 16u
+
+/* The inner position where there is none. */
+#define DIEUVAKHOP_NO_INNER 4294967295u
+
+struct dieuvakhop_verdict {
+    /* 0: the job passes. 1 to 29: what is wrong; README.md has the table. */
+    uint32_t code;
+    /* A byte of the job, counted from 0; with code 0 and 27 the job's length,
+     * with code 1 always 61440. Code 2 may be at the length too. Of a faulty
+     * motif it is its EndStream, whatever the code. */
+    uint32_t position;
+    /* Of a faulty motif the place inside the motif, counted from its first
+     * byte; else 4294967295. */
+    uint32_t inner;
+    /* Records in the list: those of all operators before the verdict. */
+    uint32_t records;
+    /* Operators performed before the verdict, those of called motifs among
+     * them. With code 0 it is the number that the plain arm performs. */
+    uint32_t performed;
+};
+
+/* Judges the job.
+ *
+ * The caller has to test nothing first: every string of bytes gets a verdict,
+ * and the call returns. What the language asks of every caller in C:
+ *   - each pointer is valid for its length, and is not null, also if the
+ *     length is 0;
+ *   - `work` and `list` are writable and apart from each other and from `job`.
+ *
+ * job, job_len    The job. It is only read.
+ *
+ * work, work_len  Room to work in. Its content before the call plays no part.
+ *     Afterwards, with code 1 and code 29: not one byte is changed.
+ *     With every other code, 0 among them: the first 16384 bytes are zero, and
+ *     the bytes from 16384 on are as they were. So no motif stays in it.
+ *
+ * list, list_len  Room for the list, of any length, 0 too. Its content before
+ *     the call plays no part.
+ *     Afterwards, with every code: the first 16 * records bytes are the
+ *     records of all operators before the verdict, and the bytes behind them
+ *     are as they were. A refused operator has no record in it, nor have its
+ *     attributes. With codes 1, 2 (of the job's header), 3, 4 and 29 there are
+ *     no records, and the list is unchanged.
+ *
+ * A record has 16 bytes, numbers low byte first. For each operator come its
+ * attributes as given, then itself.
+ *     Attribute: 1, number, type tag, 0; place of the type tag (4 bytes);
+ *                count of numbers (4); place of the first number (4).
+ *     Operator:  2, tag, number of attributes (2 bytes); place of the tag (4);
+ *                length of its data (4); place of its data (4), or 0 and 0.
+ * Places are bytes of the job. Operators inside motifs have no records.
+ *
+ * The same job with buffers of the same lengths gets the same verdict and the
+ * same records. Nothing is kept from one call to the next.
+ */
+struct dieuvakhop_verdict dieuvakhop_check(
+    const uint8_t *job, size_t job_len,
+    uint8_t *work, size_t work_len,
+    uint8_t *list, size_t list_len);
+
+#ifdef __cplusplus
+}
+#endif
+
+#endif
