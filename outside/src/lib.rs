@@ -3,7 +3,10 @@
 
 pub mod coverage;
 #[allow(unsafe_code)]
-#[cfg(feature = "linked")]
+#[cfg(all(feature = "linked", not(feature = "piped")))]
+pub mod ffi;
+#[cfg(feature = "piped")]
+#[path = "piped.rs"]
 pub mod ffi;
 pub mod generate;
 pub mod plain;

@@ -222,7 +222,7 @@ fn advance(
 }
 
 // The whole of a job's items, from the first one on.
-pub fn judge_items(
+pub(crate) fn judge_items(
     job: &[u8],
     high: bool,
     gray: bool,

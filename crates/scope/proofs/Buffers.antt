@@ -15,7 +15,7 @@ use Rattle.scope.specs.Reading.{Operator, Read}
 use Rattle.scope.specs.Session.{Setting, Place, outside, inside as within, sessionOf}
 use Rattle.scope.specs.Judge.{State, Outcome, Case, Refusal, starting, outer, refusedAt, caseOf, rules, firstBroken, endAt, onRefusal, onCase, onRead, contextOf, jobStep, judgedFrom}
 use Rattle.scope.specs.Verdict.{startsGray, every, Entry, refused, admitted, entryOf, judgedAfter, outcomeAt, outcomeOf, verdictOf, zeros, clearedBy, workAfter}
-use Rattle.scope.specs.Claims.{NoMotifLeft}
+use Rattle.scope.specs.Claims.{NoMotifLeft, Zeroed}
 use Rattle.scope.proofs.Ends.{pick-all, Kept, kept-go, kept-stop, iterate-holds, Coded, ZeroOr, none-given, given, GoodRead, read-good}
 use Rattle.scope.proofs.Codes.{judged-good, Refuses, not-so, so, broken-coded, GoodHeader, header-good}
 
@@ -27,6 +27,10 @@ pub no-motif-left : NoMotifLeft
 unfolding workAfter
 no-motif-left job other work h k =
     ap (λ e. clearedBy e work) (short (length job) (length work) h ∙ sym (short (length other) (length work) k))
+
+pub zeroed : Zeroed
+unfolding workAfter clearedBy entryOf
+zeroed job work h k = rw (le-ltb (length work) 16384 k, le-ltb 61440 (length job) h)
 
 -- an outcome of judging passes, or has a code that is neither 1 nor 29
 data Late : Outcome → Type 0 where

@@ -1,4 +1,5 @@
--- The proved jobs: one table under one theorem, by computing.
+-- The proved jobs: one table under one theorem, by computing. The jobs of 01, (a) to (i), come first; each other one stands for a rule, which its comment names.
+-- A job is written in parts: H is a header, S BeginSession, P BeginPage, O OpenDataSource, M a motif, X its call, and so on as defined below.
 -- Assumes nothing.
 use Prim.Native.Nat.{ℕ, zero, suc, _+_, _/_, _%_}
 use mathlib.Core.Path.{_≡_, refl}
@@ -88,6 +89,12 @@ M n body =
 -- its call
 abbrev X : ℕ → List ℕ
 X n = 0xc8 ∷ 0xc0 ∷ 1 ∷ n ∷ 0xf8 ∷ 0x8b ∷ 0x5e ∷ []
+
+-- J's session from a state with 999,999 performed, since no job that comes there can be unfolded here: the 1,000,000th operator is performed, the next is refused
+abbrev nearTheLimit : Judge.Outcome
+nearTheLimit =
+    Judge.judgedFrom Verd.every (record { high = false; gray = Verd.startsGray }) (all (H ∷ S ∷ (0x42 ∷ []) ∷ [])) 65536
+    (record { at = 16; place = Session.outside true; performed = 999_999; records = 0; past = [] })
 
 -- a job, the lengths of both buffers, the verdict expected
 record Tried : Type 0 where
@@ -210,6 +217,42 @@ jobs =
     try (H ∷ S ∷ (0x42 ∷ []) ∷ []) 16384 63 28 28 4294967295 3 1
     ∷  -- short work
     try (H ∷ S ∷ (0x42 ∷ []) ∷ []) 16383 0 29 0 4294967295 0 0
+    ∷  -- 9: no operator of the table
+    try (H ∷ (0x45 ∷ []) ∷ []) 16384 65536 9 16 4294967295 0 0
+    ∷  -- 15: Measure as uint16
+    try (H ∷ (0xc1 ∷ 0x00 ∷ 0x00 ∷ 0xf8 ∷ 0x86 ∷ 0xd1 ∷ 0x58 ∷ 0x02 ∷ 0x58 ∷ 0x02 ∷ 0xf8 ∷ 0x89 ∷ 0x41 ∷ []) ∷ []) 16384 65536 15 16 4294967295 0 0
+    ∷  -- 20: a held name
+    try (H ∷ S ∷ O ∷ (M 0x61 (all ([]))) ∷ (0xc8 ∷ 0xc0 ∷ 0x01 ∷ 0x61 ∷ 0xf8 ∷ 0x8b ∷ 0x5b ∷ []) ∷ []) 16384 65536 20 75 4294967295 11 5
+    ∷  -- 25: GrayLevel in RGB
+    try (H ∷ S ∷ P ∷ GL ∷ []) 16384 65536 25 41 4294967295 6 2
+    ∷  -- 25: RGBColor in gray
+    try (H ∷ S ∷ P ∷ GR ∷ RGB ∷ []) 16384 65536 25 50 4294967295 8 3
+    ∷  -- 25 at a call
+    try (H ∷ S ∷ O ∷ (M 0x61 (all (GL ∷ []))) ∷ P ∷ (X 0x61) ∷ []) 16384 65536 25 89 4294967295 14 6
+    ∷  -- 5: an attribute number cut
+    try (H ∷ (0xc0 ∷ 0x00 ∷ 0xf8 ∷ []) ∷ []) 16384 65536 5 18 4294967295 0 0
+    ∷  -- 27: a value waits
+    try (H ∷ S ∷ (0x42 ∷ []) ∷ (0xc0 ∷ 0x00 ∷ []) ∷ []) 16384 65536 27 31 4294967295 4 2
+    ∷  -- 27: attributes wait
+    try (H ∷ S ∷ (0x42 ∷ []) ∷ (0xc0 ∷ 0x00 ∷ 0xf8 ∷ 0x86 ∷ []) ∷ []) 16384 65536 27 33 4294967295 4 2
+    ∷  -- 27: data due
+    try (H ∷ S ∷ O ∷ P ∷ CUR ∷ LD ∷ (0x20 ∷ 0x20 ∷ []) ∷ []) 16384 65536 27 63 4294967295 11 4
+    ∷  -- 14: StartLine wrong
+    try (H ∷ S ∷ O ∷ P ∷ GR ∷ CUR ∷ IM ∷ (RI 1 1) ∷ []) 16384 65536 14 93 4294967295 19 6
+    ∷  -- 10 in a motif: PopGS below its start
+    try (H ∷ S ∷ O ∷ (M 0x61 (all ((0x60 ∷ []) ∷ []))) ∷ []) 16384 65536 10 69 16 10 4
+    ∷  -- 10 in a motif: EndPage
+    try (H ∷ S ∷ O ∷ (M 0x61 (all ((0x44 ∷ []) ∷ []))) ∷ []) 16384 65536 10 69 16 10 4
+    ∷  -- 5 in a motif: cut in an item
+    try (H ∷ S ∷ O ∷ (M 0x61 (all ((0xc0 ∷ []) ∷ []))) ∷ []) 16384 65536 5 69 16 10 4
+    ∷  -- 27 in a motif: an image open
+    try (H ∷ S ∷ O ∷ (M 0x61 (all (CUR ∷ GR ∷ IM ∷ []))) ∷ []) 16384 65536 27 103 51 10 4
+    ∷  -- 10: EndSession with the source open
+    try (H ∷ S ∷ O ∷ (0x42 ∷ []) ∷ []) 16384 65536 10 37 4294967295 6 2
+    ∷  -- 10: EndPage with one saved
+    try (H ∷ S ∷ P ∷ (0x61 ∷ 0x44 ∷ []) ∷ []) 16384 65536 10 38 4294967295 7 3
+    ∷  -- a motif of the other byte order
+    try (H ∷ S ∷ O ∷ (0xc8 ∷ 0xc0 ∷ 0x01 ∷ 0x61 ∷ 0xf8 ∷ 0x8b ∷ 0x5b ∷ 0xc1 ∷ 0x18 ∷ 0x00 ∷ 0xf8 ∷ 0x8c ∷ 0x5c ∷ 0xfb ∷ 0x18 ∷ 0x28 ∷ 0x20 ∷ 0x48 ∷ 0x50 ∷ 0x2d ∷ 0x50 ∷ 0x43 ∷ 0x4c ∷ 0x20 ∷ 0x58 ∷ 0x4c ∷ 0x3b ∷ 0x31 ∷ 0x3b ∷ 0x31 ∷ 0x0a ∷ 0xd1 ∷ 0x00 ∷ 0x01 ∷ 0x00 ∷ 0x02 ∷ 0xf8 ∷ 0x4c ∷ 0x6b ∷ 0x5d ∷ []) ∷ P ∷ (X 0x61) ∷ (0x44 ∷ 0x49 ∷ 0x42 ∷ []) ∷ []) 16384 65536 0 96 4294967295 19 11
     ∷ []
 
 answers : List Tried → List Verdict
@@ -227,16 +270,6 @@ proved-jobs : (answers jobs ≡ expecteds jobs)
     ∷ 0x02 ∷ 0x41 ∷ 0x02 ∷ 0x00 ∷ 0x1b ∷ 0x00 ∷ 0x00 ∷ 0x00 ∷ 0x00 ∷ 0x00 ∷ 0x00 ∷ 0x00 ∷ 0x00 ∷ 0x00 ∷ 0x00 ∷ 0x00
     ∷ 0x02 ∷ 0x42 ∷ 0x00 ∷ 0x00 ∷ 0x1c ∷ 0x00 ∷ 0x00 ∷ 0x00 ∷ 0x00 ∷ 0x00 ∷ 0x00 ∷ 0x00 ∷ 0x00 ∷ 0x00 ∷ 0x00 ∷ 0x00 ∷ [])
     × (Data.rowOf 32 0 ∷ Data.rowOf 33 0 ∷ Data.rowOf 33 1 ∷ Data.rowOf 33 2 ∷ [] ≡ 4 ∷ 8 ∷ 20 ∷ 36 ∷ [])
+    × (Verd.told nearTheLimit ≡ record { code = 26; position = 28; inner = 4294967295; records = 3; performed = 1_000_000 })
 unfolding Choice.among Choice.same Iterate.run Iterate.iterate Number.digits Number.number Header.mayStand Header.formFrom Header.classed Header.headerOf Item.white Item.spaces Item.after Item.widthOf Item.kindOf Item.numbersAt Item.elementsAt Item.countedAt Item.arrayAt Item.valueOf Item.numbered Item.numberAt Item.pairOf Item.pairAt Item.endedWith Item.onPair Item.scanItem Item.scanStep Item.scanFrom Item.scanAt Table.table Table.lineIn Table.ruleIn Attributes.has Attributes.firstOf Attributes.secondOf Attributes.typeTaken Attributes.inRange Attributes.attributeCode Attributes.oneByOne Attributes.allThere Attributes.howMany Attributes.choiceCode Attributes.formCode Attributes.valueIn Attributes.bytesIn Data.bitsOf Data.rowOf Data.pointBytes Data.dueOf Data.blockOf Data.blockAt Order.drawn Order.mayCome Order.rowsFit Reading.withBlock Reading.withData Reading.asWhole Reading.withAttributes Reading.withLine Reading.scanned Reading.operatorAt Arm.needsCursor Arm.needsSpace Arm.effectOf Arm.actOf Arm.done Arm.risen Arm.step Arm.walk Arm.from Motif.heldAs Motif.isHeld Motif.flat Motif.unfolded Motif.bytesHeld Motif.begun Motif.readOn Motif.pictureAfter Motif.savedAfter Motif.phaseIn Motif.contextIn Motif.onCall Motif.onDeed Motif.onEnd Motif.onRead Motif.motifStep Motif.judgedInside Motif.motifFrom Motif.motifOf Session.phaseDrawing Session.phaseBusy Session.phaseOf Session.rowFor Session.keptAs Session.sessionAfter Session.placeAfter Judge.judgedAt Judge.caseOf Judge.tooMuch Judge.nameHeld Judge.nameMissing Judge.sourceClosed Judge.savedOver Judge.cursorUnset Judge.spaceWrong Judge.countOver Judge.roomOver Judge.rules Judge.firstBroken Judge.after Judge.endAt Judge.onRefusal Judge.onCase Judge.onRead Judge.contextOf Judge.jobStep Judge.judgedFrom Verd.layout Verd.judgedAfter Verd.entryOf Verd.outcomeAt Verd.outcomeOf Verd.verdictOf Verd.four Verd.attributeRecord Verd.operatorRecord Verd.attributeRecords Verd.recordsBefore Verd.listOf Verd.listAfter Verd.zeros Verd.clearedBy Verd.workAfter all times jobs answers expecteds
-proved-jobs = (refl, refl, refl)
-
--- 26 from a state near the limit, as no job that comes there can be unfolded here: the 1,000,000th operator is performed, the next is refused
-near-the-limit : Judge.judgedFrom Verd.every (record { high = false; gray = Verd.startsGray }) (all (H ∷ S ∷ (0x42 ∷ []) ∷ [])) 65536
-    (record { at = 16; place = Session.outside true; performed = 999_999; records = 0; past = [] }) .position ≡ 28
-unfolding Choice.among Choice.same Iterate.run Iterate.iterate Number.digits Number.number Header.mayStand Header.formFrom Header.classed Header.headerOf Item.white Item.spaces Item.after Item.widthOf Item.kindOf Item.numbersAt Item.elementsAt Item.countedAt Item.arrayAt Item.valueOf Item.numbered Item.numberAt Item.pairOf Item.pairAt Item.endedWith Item.onPair Item.scanItem Item.scanStep Item.scanFrom Item.scanAt Table.table Table.lineIn Table.ruleIn Attributes.has Attributes.firstOf Attributes.secondOf Attributes.typeTaken Attributes.inRange Attributes.attributeCode Attributes.oneByOne Attributes.allThere Attributes.howMany Attributes.choiceCode Attributes.formCode Attributes.valueIn Attributes.bytesIn Data.bitsOf Data.rowOf Data.pointBytes Data.dueOf Data.blockOf Data.blockAt Order.drawn Order.mayCome Order.rowsFit Reading.withBlock Reading.withData Reading.asWhole Reading.withAttributes Reading.withLine Reading.scanned Reading.operatorAt Arm.needsCursor Arm.needsSpace Arm.effectOf Arm.actOf Arm.done Arm.risen Arm.step Arm.walk Arm.from Motif.heldAs Motif.isHeld Motif.flat Motif.unfolded Motif.bytesHeld Motif.begun Motif.readOn Motif.pictureAfter Motif.savedAfter Motif.phaseIn Motif.contextIn Motif.onCall Motif.onDeed Motif.onEnd Motif.onRead Motif.motifStep Motif.judgedInside Motif.motifFrom Motif.motifOf Session.phaseDrawing Session.phaseBusy Session.phaseOf Session.rowFor Session.keptAs Session.sessionAfter Session.placeAfter Judge.judgedAt Judge.caseOf Judge.tooMuch Judge.nameHeld Judge.nameMissing Judge.sourceClosed Judge.savedOver Judge.cursorUnset Judge.spaceWrong Judge.countOver Judge.roomOver Judge.rules Judge.firstBroken Judge.after Judge.endAt Judge.onRefusal Judge.onCase Judge.onRead Judge.contextOf Judge.jobStep Judge.judgedFrom Verd.layout Verd.judgedAfter Verd.entryOf Verd.outcomeAt Verd.outcomeOf Verd.verdictOf Verd.four Verd.attributeRecord Verd.operatorRecord Verd.attributeRecords Verd.recordsBefore Verd.listOf Verd.listAfter Verd.zeros Verd.clearedBy Verd.workAfter all
-near-the-limit = refl
-
-at-the-limit : Judge.judgedFrom Verd.every (record { high = false; gray = Verd.startsGray }) (all (H ∷ S ∷ (0x42 ∷ []) ∷ [])) 65536
-    (record { at = 16; place = Session.outside true; performed = 999_999; records = 0; past = [] }) .code ≡ 26
-unfolding Choice.among Choice.same Iterate.run Iterate.iterate Number.digits Number.number Header.mayStand Header.formFrom Header.classed Header.headerOf Item.white Item.spaces Item.after Item.widthOf Item.kindOf Item.numbersAt Item.elementsAt Item.countedAt Item.arrayAt Item.valueOf Item.numbered Item.numberAt Item.pairOf Item.pairAt Item.endedWith Item.onPair Item.scanItem Item.scanStep Item.scanFrom Item.scanAt Table.table Table.lineIn Table.ruleIn Attributes.has Attributes.firstOf Attributes.secondOf Attributes.typeTaken Attributes.inRange Attributes.attributeCode Attributes.oneByOne Attributes.allThere Attributes.howMany Attributes.choiceCode Attributes.formCode Attributes.valueIn Attributes.bytesIn Data.bitsOf Data.rowOf Data.pointBytes Data.dueOf Data.blockOf Data.blockAt Order.drawn Order.mayCome Order.rowsFit Reading.withBlock Reading.withData Reading.asWhole Reading.withAttributes Reading.withLine Reading.scanned Reading.operatorAt Arm.needsCursor Arm.needsSpace Arm.effectOf Arm.actOf Arm.done Arm.risen Arm.step Arm.walk Arm.from Motif.heldAs Motif.isHeld Motif.flat Motif.unfolded Motif.bytesHeld Motif.begun Motif.readOn Motif.pictureAfter Motif.savedAfter Motif.phaseIn Motif.contextIn Motif.onCall Motif.onDeed Motif.onEnd Motif.onRead Motif.motifStep Motif.judgedInside Motif.motifFrom Motif.motifOf Session.phaseDrawing Session.phaseBusy Session.phaseOf Session.rowFor Session.keptAs Session.sessionAfter Session.placeAfter Judge.judgedAt Judge.caseOf Judge.tooMuch Judge.nameHeld Judge.nameMissing Judge.sourceClosed Judge.savedOver Judge.cursorUnset Judge.spaceWrong Judge.countOver Judge.roomOver Judge.rules Judge.firstBroken Judge.after Judge.endAt Judge.onRefusal Judge.onCase Judge.onRead Judge.contextOf Judge.jobStep Judge.judgedFrom Verd.layout Verd.judgedAfter Verd.entryOf Verd.outcomeAt Verd.outcomeOf Verd.verdictOf Verd.four Verd.attributeRecord Verd.operatorRecord Verd.attributeRecords Verd.recordsBefore Verd.listOf Verd.listAfter Verd.zeros Verd.clearedBy Verd.workAfter all
-at-the-limit = refl
+proved-jobs = (refl, refl, refl, refl)

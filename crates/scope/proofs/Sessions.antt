@@ -212,7 +212,7 @@ module _ (s t : List ℕ) (p q : ℕ) (hp : p ≤ length s) (hq : q ≤ length t
         (on-read n (all-like n) a b m r w l k less (read-good (contextOf given (set .high) w) s a) (read-like s t p q hp hq same (contextOf given (set .high) w) f))
 
 pub isolated : Isolated
-isolated set s t room p q performed records hp hq same =
-    let h = all-like s t p q hp hq same every set room (suc (length s - p)) (afterOne p performed records) (afterOne q performed records)
+isolated set s t room p q performed records before other hp hq same =
+    let h = all-like s t p q hp hq same every set room (suc (length s - p)) (afterOne p performed records before) (afterOne q performed records other)
     (like (far-start s t p q hp hq same)) (omega arith) in
     (h .code, h .position .far, h .inner, h .records, h .performed)

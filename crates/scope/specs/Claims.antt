@@ -3,11 +3,12 @@ use Prim.Native.Nat.{ℕ, _+_, _*_, _≤_}
 use mathlib.Core.Path.{_≡_}
 use mathlib.Core.Logic.{_↔_}
 use mathlib.Core.Bool.{Bool, true, false}
-use mathlib.Core.List.{List, []}
+use mathlib.Core.List.{List, _++_}
 use lib.ListN.{length, drop}
+use Rattle.scope.specs.Reading.{Operator}
 use Rattle.scope.specs.Session.{Setting, outside}
 use Rattle.scope.specs.Judge.{State, Outcome, judgedFrom}
-use Rattle.scope.specs.Verdict.{startsGray, every, layout, verdictOf, outcomeOf, workAfter}
+use Rattle.scope.specs.Verdict.{startsGray, every, layout, verdictOf, outcomeOf, zeros, workAfter}
 use Rattle.scope.specs.Plain.{unfoldingOf, comes, atStart}
 
 -- a job keeps the layout rules: it would pass were 17, 23 to 26 and 28 never given (with a work buffer that is long enough)
@@ -25,18 +26,23 @@ Demand3 =
     → ((verdictOf job work room .code ≡ 0) ↔ (comes (unfoldingOf startsGray job) atStart ≡ true))
     × (verdictOf job work room .code ≡ 0 → verdictOf job work room .performed ≡ length (unfoldingOf startsGray job))
 
--- the state between sessions, after one
-abbrev pub afterOne : ℕ → ℕ → ℕ → State
-afterOne at performed records = record { at = at; place = outside true; performed = performed; records = records; past = [] }
+-- the state between sessions, after one, with so many operators performed, so many records, and these operators before
+abbrev pub afterOne : ℕ → ℕ → ℕ → List Operator → State
+afterOne at performed records past = record { at = at; place = outside true; performed = performed; records = records; past = past }
 
 -- sessions are isolated: from between two sessions on, only the bytes from there, the number performed and the records so far matter
 abbrev pub Isolated : Type 0
 Isolated =
-    (set : Setting) (s t : List ℕ) (room p q performed records : ℕ) → p ≤ length s → q ≤ length t → drop p s ≡ drop q t
-    → let a = judgedFrom every set s room (afterOne p performed records) in
-    let b = judgedFrom every set t room (afterOne q performed records) in
+    (set : Setting) (s t : List ℕ) (room p q performed records : ℕ) (before other : List Operator) → p ≤ length s → q ≤ length t → drop p s ≡ drop q t
+    → let a = judgedFrom every set s room (afterOne p performed records before) in
+    let b = judgedFrom every set t room (afterOne q performed records other) in
     (a .code ≡ b .code) × (a .position + q ≡ b .position + p) × (a .inner ≡ b .inner) × (a .state .records ≡ b .state .records)
     × (a .state .performed ≡ b .state .performed)
+
+-- the work buffer of a job that is judged is zero in its first 16,384 bytes, and behind them as it was
+abbrev pub Zeroed : Type 0
+Zeroed =
+    (job work : List ℕ) → length job ≤ 61440 → 16384 ≤ length work → workAfter job work ≡ zeros 16384 ++ drop 16384 work
 
 -- no motif is left in the work buffer: what it holds afterwards is the same for any two jobs of at most 61,440 bytes
 abbrev pub NoMotifLeft : Type 0

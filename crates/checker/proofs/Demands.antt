@@ -1,0 +1,55 @@
+-- The three demands, of every answer that meets the promise of `check`.
+-- Assumes nothing.
+use Prim.Native.Nat.{ℕ, _≤_}
+use mathlib.Core.Path.{_≡_, refl, sym, ap, _∙_, subst, subst⁻¹}
+use mathlib.Core.Logic.{_↔_}
+use mathlib.Core.Bool.{true}
+use mathlib.Core.List.{List, _++_}
+use lib.ListN.{length, drop}
+use Rattle.scope.specs.Verdict.{startsGray, zeros, verdictOf}
+use Rattle.scope.specs.Verdict as scope
+use Rattle.scope.specs.Plain.{unfoldingOf, comes, atStart}
+use Rattle.scope.specs.Claims.{Keeps, HasRoom}
+use Rattle.scope.proofs.Demand.{demand-3}
+use Rattle.scope.proofs.Buffers.{no-motif-left, zeroed}
+use Rattle.checker.specs.Views.{verdictAs}
+use Rattle.checker.specs.declared.verdict.Verdict.{Verdict}
+use Rattle.checker.proofs.Entering.{Promised}
+
+-- two answers whose five numbers agree are one
+same-verdict : (v w : Verdict) → verdictAs v ≡ verdictAs w → v ≡ w
+same-verdict v w e =
+    λ i. record { code = e i .code; position = e i .position; inner = e i .inner; records = e i .records; performed = e i .performed }
+
+-- demand 1: one answer only, in the verdict and in each byte of both buffers
+pub one-answer : (job work list : List ℕ) (v w : Verdict) (work₁ list₁ work₂ list₂ : List ℕ) → Promised job work list v work₁ list₁ → Promised job work list w work₂ list₂
+    → (v ≡ w) × (work₁ ≡ work₂) × (list₁ ≡ list₂)
+one-answer job work list v w work₁ list₁ work₂ list₂ p q =
+    (same-verdict v w (p .verdict ∙ sym (q .verdict)), p .worked ∙ sym (q .worked), p .listed ∙ sym (q .listed))
+
+-- demand 1: what the buffers held before plays no part in the verdict, only their lengths do
+pub old-contents : (job work list other-work other-list : List ℕ) (v w : Verdict) (work₁ list₁ work₂ list₂ : List ℕ) → length work ≡ length other-work → length list ≡ length other-list
+    → Promised job work list v work₁ list₁ → Promised job other-work other-list w work₂ list₂ → v ≡ w
+old-contents job work list other-work other-list v w work₁ list₁ work₂ list₂ e f p q =
+    same-verdict v w (p .verdict ∙ (λ i. verdictOf job (e i) (f i)) ∙ sym (q .verdict))
+
+-- demand 1: no motif is left behind: afterwards the first 16,384 bytes of the work buffer are zero, and the rest is as it was
+pub no-motif-behind : (job work list : List ℕ) (v : Verdict) (work₁ list₁ : List ℕ) → Promised job work list v work₁ list₁ → length job ≤ 61440 → 16384 ≤ length work
+    → work₁ ≡ zeros 16384 ++ drop 16384 work
+no-motif-behind job work list v work₁ list₁ p h k = p .worked ∙ zeroed job work h k
+
+-- demand 1: the work buffer afterwards carries nothing of the job: it is the same for any two jobs that are not too long
+pub work-carries-nothing : (job other work list : List ℕ) (v w : Verdict) (work₁ list₁ work₂ list₂ : List ℕ) → Promised job work list v work₁ list₁
+    → Promised other work list w work₂ list₂ → length job ≤ 61440 → length other ≤ 61440 → work₁ ≡ work₂
+work-carries-nothing job other work list v w work₁ list₁ work₂ list₂ p q h k = p .worked ∙ no-motif-left job other work h k ∙ sym (q .worked)
+
+-- demand 3: a job that keeps the layout rules, with room for its list, passes exactly if the plain arm comes to its end with no rule broken; and the number
+-- reported with a pass is the number of operators that the arm performs
+pub demand-3-of-check : (job work list : List ℕ) (v : Verdict) (work₁ list₁ : List ℕ) → Promised job work list v work₁ list₁ → 16384 ≤ length work → Keeps job
+    → HasRoom job (length list)
+    → ((v .code ≡ 0) ↔ (comes (unfoldingOf startsGray job) atStart ≡ true)) × (v .code ≡ 0 → v .performed ≡ length (unfoldingOf startsGray job))
+demand-3-of-check job work list v work₁ list₁ p h k r =
+    let d = demand-3 job (length work) (length list) h k r in
+    let c : v .code ≡ verdictOf job (length work) (length list) .code = ap (λ x. x .code) (p .verdict) in
+    let n : v .performed ≡ verdictOf job (length work) (length list) .performed = ap (λ x. x .performed) (p .verdict) in
+    ((λ e. d .0 .0 (sym c ∙ e), λ e. c ∙ d .0 .1 e), λ e. n ∙ d .1 (sym c ∙ e))
