@@ -39,7 +39,8 @@ struct dieuvakhop_verdict {
     /* Records in the list: those of all operators before the verdict. */
     uint32_t records;
     /* Operators performed before the verdict, those of called motifs among
-     * them. With code 0 it is the number that the plain arm performs. */
+     * them. With code 0, of a job that keeps the layout rules, it is the
+     * number that a plain arm performs, which draws every call in full. */
     uint32_t performed;
 };
 
