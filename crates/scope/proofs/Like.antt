@@ -321,6 +321,11 @@ module _ (s t : List ℕ) (p q : ℕ) (hp : p ≤ length s) (hq : q ≤ length t
     no : {k x y : ℕ} → Far x y → LikeFound due (Found.no k x) (Found.no k y)
 
   -- two operators that are the same but for their places
+  -- the place of an operator's data; 0 where it reads none
+  pub data LikeData : Bool → ℕ → ℕ → Type 0 where
+    nowhere : LikeData false 0 0
+    read-from : {x y : ℕ} → Far x y → LikeData true x y
+
   pub record LikeOp (a b : Operator) : Type 0 where
     pub tag : a .tag ≡ b .tag
     pub at : Far (a .at) (b .at)
@@ -328,6 +333,7 @@ module _ (s t : List ℕ) (p q : ℕ) (hp : p ≤ length s) (hq : q ≤ length t
     pub reads : a .reads ≡ b .reads
     pub size : a .length ≡ b .length
     pub block : take (a .length) (drop (a .first) s) ≡ take (b .length) (drop (b .first) t)
+    pub where-data : LikeData (a .reads) (a .first) (b .first)
     pub next : Far (a .next) (b .next)
 
   pub data LikeRead : Read → Read → Type 0 where
@@ -365,7 +371,7 @@ module _ (s t : List ℕ) (p q : ℕ) (hp : p ≤ length s) (hq : q ≤ length t
       → LikeRead (withBlock tag x l due f) (withBlock tag y m due g)
   unfolding withBlock
   with-block-like tag due h k (found z) =
-      operator (record { tag = refl; at = h; attrs = k; reads = refl; size = refl; block = ap (take due) (drop-like z); next = far-add due z })
+      operator (record { tag = refl; at = h; attrs = k; reads = refl; size = refl; block = ap (take due) (drop-like z); where-data = read-from z; next = far-add due z })
   with-block-like tag due h k (no z) = no z
 
   module _ (c : Context) where
@@ -373,7 +379,7 @@ module _ (s t : List ℕ) (p q : ℕ) (hp : p ≤ length s) (hq : q ≤ length t
         → LikeRead (withData c s tag x l d) (withData c t tag y m d)
     unfolding withData
     with-data-like tag h k Due.none =
-        operator (record { tag = refl; at = h; attrs = k; reads = refl; size = refl; block = refl; next = far-suc h })
+        operator (record { tag = refl; at = h; attrs = k; reads = refl; size = refl; block = refl; where-data = nowhere; next = far-suc h })
     with-data-like tag h k (Due.reads due) =
         pick-like LikeRead (c .asked && not (c .opened)) (c .asked && not (c .opened)) refl (no h)
         (with-block-like tag due h k (block-like (c .high) due h (after-like (far-suc h))))

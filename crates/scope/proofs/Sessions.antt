@@ -17,10 +17,10 @@ use Rattle.scope.specs.Motif.{Motif, Held, heldAs, isHeld, unfolded, byt
 use Rattle.scope.specs.Session.{Setting, Busy, resting, reading, drawing, Session, Place, outside, inside, keptAs, sessionOf, pageOf, joinedOf, rowFor, sessionAfter, placeAfter}
 use Rattle.scope.specs.Judge.{State, Case, caseOf, Rule, Refusal, rules, firstBroken, ownOr, outer, tooMuch, nameHeld, nameMissing, sourceClosed, savedOver, cursorUnset, spaceWrong, countOver, roomOver, judgedAt, after, Outcome, refusedAt, endAt, onRefusal, onCase, onRead, contextOf, jobStep, judgedFrom}
 use Rattle.scope.specs.Verdict.{every}
-use Rattle.scope.specs.Claims.{afterOne, Isolated}
+use Rattle.scope.specs.Claims.{afterOne, Isolated, AttributeMoved, AttributesMoved, OperatorMoved, OperatorsMoved}
 use Rattle.scope.proofs.Ends.{GoodRead, read-good}
 use Rattle.scope.proofs.Falls.{judged-step}
-use Rattle.scope.proofs.Like.{Far, far-end, far-start, LikeAttrs, nil, cons, LikeOp, LikeRead, read-like, has-like, value-in-like, bytes-in-like, LikeNext, on, at-end, attrs-length}
+use Rattle.scope.proofs.Like.{Far, far-end, far-start, LikeAttr, LikeAttrs, nil, cons, LikeData, nowhere, read-from, LikeOp, LikeRead, read-like, has-like, value-in-like, bytes-in-like, LikeNext, on, at-end, attrs-length}
 
 -- a row performed: where its first operator stands plays no part
 row-through : (call : Bool) (k : ℕ) (a : Act) (l : List Stroke) (w : Seen)
@@ -145,74 +145,111 @@ module _ (s t : List ℕ) (p q : ℕ) (hp : p ≤ length s) (hq : q ≤ length t
     place-like g x y ep er (outside v) = refl
     place-like g x y ep er (inside z) = λ i. pick (eqb (h .tag i) 0x42) (outside true) (inside (session-like x y ep er z g (z .busy) i))
 
-  -- two states that are the same but for their places and for what went before
-  data LikeState : State → State → Type 0 where
-    like : {a b n r : ℕ} {w : Place} {l m : List Operator} → F a b
-        → LikeState (record { at = a; place = w; performed = n; records = r; past = l }) (record { at = b; place = w; performed = n; records = r; past = m })
+  -- operators that are alike but for their places, after any others
+  data LikePast (before other : List Operator) : List Operator → List Operator → Type 0 where
+    start : LikePast before other before other
+    more : {a b : Operator} {l m : List Operator} → Op a b → LikePast before other l m → LikePast before other (a ∷ l) (b ∷ m)
 
-  like-state : (x y : State) → F (x .at) (y .at) → x .place ≡ y .place → x .performed ≡ y .performed → x .records ≡ y .records → LikeState x y
-  like-state x y f e g k =
-      subst (λ v. LikeState x v) (λ i. record { at = y .at; place = e i; performed = g i; records = k i; past = y .past }) (like f)
+  module _ (before other : List Operator) where
+    -- two states that are the same but for their places and for what went before
+    data LikeState : State → State → Type 0 where
+      like : {a b n r : ℕ} {w : Place} {l m : List Operator} → F a b
+          → LikePast before other l m → LikeState (record { at = a; place = w; performed = n; records = r; past = l }) (record { at = b; place = w; performed = n; records = r; past = m })
 
-  record LikeOut (e f : Outcome) : Type 0 where
-    code : e .code ≡ f .code
-    position : F (e .position) (f .position)
-    inner : e .inner ≡ f .inner
-    records : e .state .records ≡ f .state .records
-    performed : e .state .performed ≡ f .state .performed
+    like-state : (x y : State) → F (x .at) (y .at) → x .place ≡ y .place → x .performed ≡ y .performed → x .records ≡ y .records → LikePast before other (x .past) (y .past) → LikeState x y
+    like-state x y f e g k z =
+        subst (λ v. LikeState x v) (λ i. record { at = y .at; place = e i; performed = g i; records = k i; past = y .past }) (like f z)
 
-  module _ (given : ℕ → Bool) (set : Setting) (room : ℕ) where
-    abbrev J : State → Outcome
-    J = judgedFrom given set s room
+    record LikeOut (e f : Outcome) : Type 0 where
+      code : e .code ≡ f .code
+      position : F (e .position) (f .position)
+      inner : e .inner ≡ f .inner
+      records : e .state .records ≡ f .state .records
+      performed : e .state .performed ≡ f .state .performed
+      past : LikePast before other (e .state .past) (f .state .past)
 
-    abbrev K : State → Outcome
-    K = judgedFrom given set t room
+    module _ (given : ℕ → Bool) (set : Setting) (room : ℕ) where
+      abbrev J : State → Outcome
+      J = judgedFrom given set s room
 
-    end-like : (x y : State) (w : Place) → x .performed ≡ y .performed → x .records ≡ y .records → LikeOut (endAt s x w) (endAt t y w)
-    unfolding endAt
-    end-like x y (outside true) e f =
-        record { code = refl; position = far-end s t p q hp hq same; inner = refl; records = f; performed = e }
-    end-like x y (outside false) e f =
-        record { code = refl; position = far-end s t p q hp hq same; inner = refl; records = f; performed = e }
-    end-like x y (inside v) e f =
-        record { code = refl; position = far-end s t p q hp hq same; inner = refl; records = f; performed = e }
+      abbrev K : State → Outcome
+      K = judgedFrom given set t room
 
-    module _ (n : ℕ) (ih : (x y : State) → LikeState x y → length s - x .at < n → LikeOut (J x) (K y)) where
-      module _ (x y : State) (w : Place) (ex : x .place ≡ w) (ey : y .place ≡ w) (ep : x .performed ≡ y .performed) (er : x .records ≡ y .records) where
-        refusal-like : (a b : Operator) → LikeOp s t p q hp hq same a b → length s - a .next < n → (f : Refusal)
-            → LikeOut (onward J (onRefusal set s x (caseOf (set .high) s x (sessionOf w) a) f)) (onward K (onRefusal set t y (caseOf (set .high) t y (sessionOf w) b) f))
-        unfolding onRefusal after caseOf
-        refusal-like a b h less Refusal.none =
-            let e = ap (placeAfter set s a (caseOf (set .high) s x (sessionOf w) a .seen .page)) ex ∙ place-like (set .high) a b h (set .gray) x y ep er w
-            ∙ ap (placeAfter set t b (caseOf (set .high) t y (sessionOf w) b .seen .page)) (sym ey) in
-            ih _ _ (like-state _ _ (h .next) e (ap (λ v. v .count) (seen-like (set .high) a b h x y ep er (sessionOf w))) (records-like (set .high) a b h x y ep er (sessionOf w))) less
-        refusal-like a b h less (Refusal.refused code inner) =
-            record { code = refl; position = h .at; inner = refl; records = er; performed = ep }
+      end-like : (x y : State) (w : Place) → x .performed ≡ y .performed → x .records ≡ y .records → LikePast before other (x .past) (y .past) → LikeOut (endAt s x w) (endAt t y w)
+      unfolding endAt
+      end-like x y (outside true) e f z =
+          record { code = refl; position = far-end s t p q hp hq same; inner = refl; records = f; performed = e; past = z }
+      end-like x y (outside false) e f z =
+          record { code = refl; position = far-end s t p q hp hq same; inner = refl; records = f; performed = e; past = z }
+      end-like x y (inside v) e f z =
+          record { code = refl; position = far-end s t p q hp hq same; inner = refl; records = f; performed = e; past = z }
 
-      on-read : (a b m r : ℕ) (w : Place) (l k : List Operator) → length s - a < suc n → {may : ℕ → Bool} {u v : Read}
-          → GoodRead (length s) a may u → LikeRead s t p q hp hq same u v
-          → LikeOut (onward J (onRead given set s room (record { at = a; place = w; performed = m; records = r; past = l }) u))
-          (onward K (onRead given set t room (record { at = b; place = w; performed = m; records = r; past = k }) v))
-      unfolding onRead onCase
-      on-read a b m r w l k less (GoodRead.operator {o = o} x y z) (LikeRead.operator {b = o′} h) =
-          let st : State = record { at = a; place = w; performed = m; records = r; past = l } in
-          let st′ : State = record { at = b; place = w; performed = m; records = r; past = k } in
-          let e : length s - o .next < n = omega arith in
-          subst⁻¹ (λ f. LikeOut (onward J (onRefusal set s st (caseOf (set .high) s st (sessionOf w) o) f)) (onward K (onCase given set t room st′ (caseOf (set .high) t st′ (sessionOf w) o′))))
-          (broken-like (set .high) o o′ h st st′ refl refl (sessionOf w) given room)
-          (refusal-like st st′ w refl refl refl refl o o′ h e (firstBroken given (caseOf (set .high) t st′ (sessionOf w) o′) (rules room)))
-      on-read a b m r w l k less GoodRead.ended LikeRead.ended = end-like _ _ w refl refl
-      on-read a b m r w l k less (GoodRead.no z) (LikeRead.no x) = record { code = refl; position = x; inner = refl; records = refl; performed = refl }
+      module _ (n : ℕ) (ih : (x y : State) → LikeState x y → length s - x .at < n → LikeOut (J x) (K y)) where
+        module _ (x y : State) (w : Place) (ex : x .place ≡ w) (ey : y .place ≡ w) (ep : x .performed ≡ y .performed) (er : x .records ≡ y .records) (ez : LikePast before other (x .past) (y .past)) where
+          refusal-like : (a b : Operator) → LikeOp s t p q hp hq same a b → length s - a .next < n → (f : Refusal)
+              → LikeOut (onward J (onRefusal set s x (caseOf (set .high) s x (sessionOf w) a) f)) (onward K (onRefusal set t y (caseOf (set .high) t y (sessionOf w) b) f))
+          unfolding onRefusal after caseOf
+          refusal-like a b h less Refusal.none =
+              let e = ap (placeAfter set s a (caseOf (set .high) s x (sessionOf w) a .seen .page)) ex ∙ place-like (set .high) a b h (set .gray) x y ep er w
+              ∙ ap (placeAfter set t b (caseOf (set .high) t y (sessionOf w) b .seen .page)) (sym ey) in
+              ih _ _ (like-state _ _ (h .next) e (ap (λ v. v .count) (seen-like (set .high) a b h x y ep er (sessionOf w))) (records-like (set .high) a b h x y ep er (sessionOf w)) (more h ez)) less
+          refusal-like a b h less (Refusal.refused code inner) =
+              record { code = refl; position = h .at; inner = refl; records = er; performed = ep; past = ez }
 
-    all-like : (n : ℕ) (x y : State) → LikeState x y → length s - x .at < n → LikeOut (J x) (K y)
-    unfolding jobStep
-    all-like zero x y h less = absurd (omega arith)
-    all-like (suc n) x y (like {a = a} {b = b} {n = m} {r = r} {w = w} {l = l} {m = k} f) less =
-        rw (judged-step given set s room x, judged-step given set t room y)
-        (on-read n (all-like n) a b m r w l k less (read-good (contextOf given (set .high) w) s a) (read-like s t p q hp hq same (contextOf given (set .high) w) f))
+        on-read : (a b m r : ℕ) (w : Place) (l k : List Operator) → LikePast before other l k → length s - a < suc n → {may : ℕ → Bool} {u v : Read}
+            → GoodRead (length s) a may u → LikeRead s t p q hp hq same u v
+            → LikeOut (onward J (onRead given set s room (record { at = a; place = w; performed = m; records = r; past = l }) u))
+            (onward K (onRead given set t room (record { at = b; place = w; performed = m; records = r; past = k }) v))
+        unfolding onRead onCase
+        on-read a b m r w l k z less (GoodRead.operator {o = o} x y g) (LikeRead.operator {b = o′} h) =
+            let st : State = record { at = a; place = w; performed = m; records = r; past = l } in
+            let st′ : State = record { at = b; place = w; performed = m; records = r; past = k } in
+            let e : length s - o .next < n = omega arith in
+            subst⁻¹ (λ f. LikeOut (onward J (onRefusal set s st (caseOf (set .high) s st (sessionOf w) o) f)) (onward K (onCase given set t room st′ (caseOf (set .high) t st′ (sessionOf w) o′))))
+            (broken-like (set .high) o o′ h st st′ refl refl (sessionOf w) given room)
+            (refusal-like st st′ w refl refl refl refl z o o′ h e (firstBroken given (caseOf (set .high) t st′ (sessionOf w) o′) (rules room)))
+        on-read a b m r w l k z less GoodRead.ended LikeRead.ended = end-like _ _ w refl refl z
+        on-read a b m r w l k z less (GoodRead.no g) (LikeRead.no x) = record { code = refl; position = x; inner = refl; records = refl; performed = refl; past = z }
+
+      all-like : (n : ℕ) (x y : State) → LikeState x y → length s - x .at < n → LikeOut (J x) (K y)
+      unfolding jobStep
+      all-like zero x y h less = absurd (omega arith)
+      all-like (suc n) x y (like {a = a} {b = b} {n = m} {r = r} {w = w} {l = l} {m = k} f z) less =
+          rw (judged-step given set s room x, judged-step given set t room y)
+          (on-read n (all-like n) a b m r w l k z less (read-good (contextOf given (set .high) w) s a) (read-like s t p q hp hq same (contextOf given (set .high) w) f))
+
+  attribute-moved : {a b : Attribute} → LikeAttr s t p q hp hq same a b → AttributeMoved p q a b
+  attribute-moved h = record { number = h .number; tag = h .tag; at = h .at .far; count = h .count; first = h .first .far }
+
+  attributes-moved : {l m : List Attribute} → LikeAttrs s t p q hp hq same l m → AttributesMoved p q l m
+  attributes-moved nil = AttributesMoved.none
+  attributes-moved (cons h k) = AttributesMoved.more (attribute-moved h) (attributes-moved k)
+
+  reading-moved : {b : Bool} {x y : ℕ} → LikeData s t p q hp hq same b x y → b ≡ true → x + q ≡ y + p
+  reading-moved nowhere e = absurd (let z : _≡_ {A = ℕ} 0 1 = cc in omega arith)
+  reading-moved (read-from h) e = h .far
+
+  quiet-moved : {b : Bool} {x y : ℕ} → LikeData s t p q hp hq same b x y → b ≡ false → (x ≡ 0) × (y ≡ 0)
+  quiet-moved nowhere e = (refl, refl)
+  quiet-moved (read-from h) e = absurd (let z : _≡_ {A = ℕ} 0 1 = cc in omega arith)
+
+  operator-moved : {a b : Operator} → Op a b → OperatorMoved p q a b
+  operator-moved h =
+      record {
+        tag = h .tag;
+        at = h .at .far;
+        attrs = attributes-moved (h .attrs);
+        length = h .size;
+        reading = reading-moved (h .where-data);
+        quiet = quiet-moved (h .where-data);
+      }
+
+  operators-moved : (before other : List Operator) {l m : List Operator} → LikePast before other l m → OperatorsMoved p q before other l m
+  operators-moved before other start = OperatorsMoved.start
+  operators-moved before other (more h k) = OperatorsMoved.more (operator-moved h) (operators-moved before other k)
 
 pub isolated : Isolated
 isolated set s t room p q performed records before other hp hq same =
-    let h = all-like s t p q hp hq same every set room (suc (length s - p)) (afterOne p performed records before) (afterOne q performed records other)
-    (like (far-start s t p q hp hq same)) (omega arith) in
-    (h .code, h .position .far, h .inner, h .records, h .performed)
+    let h = all-like s t p q hp hq same before other every set room (suc (length s - p)) (afterOne p performed records before) (afterOne q performed records other)
+    (like (far-start s t p q hp hq same) start) (omega arith) in
+    (h .code, h .position .far, h .inner, h .records, h .performed, operators-moved s t p q hp hq same before other (h .past))

@@ -3,8 +3,9 @@ use Prim.Native.Nat.{ℕ, _+_, _*_, _≤_}
 use mathlib.Core.Path.{_≡_}
 use mathlib.Core.Logic.{_↔_}
 use mathlib.Core.Bool.{Bool, true, false}
-use mathlib.Core.List.{List, _++_}
+use mathlib.Core.List.{List, [], _∷_, _++_}
 use lib.ListN.{length, drop}
+use Rattle.scope.specs.Item.{Attribute}
 use Rattle.scope.specs.Reading.{Operator}
 use Rattle.scope.specs.Session.{Setting, outside}
 use Rattle.scope.specs.Judge.{State, Outcome, judgedFrom}
@@ -30,14 +31,41 @@ Demand3 =
 abbrev pub afterOne : ℕ → ℕ → ℕ → List Operator → State
 afterOne at performed records past = record { at = at; place = outside true; performed = performed; records = records; past = past }
 
--- sessions are isolated: from between two sessions on, only the bytes from there, the number performed and the records so far matter
+-- an attribute that has moved with the bytes from place p to place q: the same but for its two places
+pub record AttributeMoved (p q : ℕ) (a b : Attribute) : Type 0 where
+  pub number : a .number ≡ b .number
+  pub tag : a .tag ≡ b .tag
+  pub at : a .at + q ≡ b .at + p
+  pub count : a .count ≡ b .count
+  pub first : a .first + q ≡ b .first + p
+
+pub data AttributesMoved (p q : ℕ) : List Attribute → List Attribute → Type 0 where
+  none : AttributesMoved p q [] []
+  more : {a b : Attribute} {l m : List Attribute} → AttributeMoved p q a b → AttributesMoved p q l m → AttributesMoved p q (a ∷ l) (b ∷ m)
+
+-- an operator that has moved: the same but for its places; the 0 of one that reads no data stays
+pub record OperatorMoved (p q : ℕ) (a b : Operator) : Type 0 where
+  pub tag : a .tag ≡ b .tag
+  pub at : a .at + q ≡ b .at + p
+  pub attrs : AttributesMoved p q (a .attrs) (b .attrs)
+  pub length : a .length ≡ b .length
+  pub reading : a .reads ≡ true → a .first + q ≡ b .first + p
+  pub quiet : a .reads ≡ false → (a .first ≡ 0) × (b .first ≡ 0)
+
+-- the operators after those before, which stand last one first
+pub data OperatorsMoved (p q : ℕ) (before other : List Operator) : List Operator → List Operator → Type 0 where
+  start : OperatorsMoved p q before other before other
+  more : {a b : Operator} {l m : List Operator} → OperatorMoved p q a b → OperatorsMoved p q before other l m → OperatorsMoved p q before other (a ∷ l) (b ∷ m)
+
+-- sessions are isolated: from between two sessions on, only the bytes from there, the number performed and the records so far matter; and what is listed from
+-- there on is the same but for the places
 abbrev pub Isolated : Type 0
 Isolated =
     (set : Setting) (s t : List ℕ) (room p q performed records : ℕ) (before other : List Operator) → p ≤ length s → q ≤ length t → drop p s ≡ drop q t
     → let a = judgedFrom every set s room (afterOne p performed records before) in
     let b = judgedFrom every set t room (afterOne q performed records other) in
     (a .code ≡ b .code) × (a .position + q ≡ b .position + p) × (a .inner ≡ b .inner) × (a .state .records ≡ b .state .records)
-    × (a .state .performed ≡ b .state .performed)
+    × (a .state .performed ≡ b .state .performed) × OperatorsMoved p q before other (a .state .past) (b .state .past)
 
 -- the work buffer of a job that is judged is zero in its first 16,384 bytes, and behind them as it was
 abbrev pub Zeroed : Type 0
