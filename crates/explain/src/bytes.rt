@@ -28,7 +28,11 @@ pub fn after(at: usize, k: usize) -> usize {
 pub fn two_at(job: &[u8], at: usize) -> u32 {
     let a = byte_at(job, at);
     let b = byte_at(job, after(at, 1));
-    if byte_at(job, 0) == 0x28 { two(b, a) } else { two(a, b) }
+    if byte_at(job, 0) == 0x28 {
+        two(b, a)
+    } else {
+        two(a, b)
+    }
 }
 
 // Where record i of the list starts.

@@ -78,7 +78,9 @@ pub fn cure(code: u32) {
         11 => say(b"take the attribute out"),
         12 => say(b"give the attribute once"),
         13 => say(b"add the attribute that is missing"),
-        14 => say(b"give one of the choice, or both of the pair; let each StartLine be the rows so far"),
+        14 => say(
+            b"give one of the choice, or both of the pair; let each StartLine be the rows so far",
+        ),
         15 => say(b"write the value in a type that the attribute takes"),
         16 => say(b"change the value to one that the attribute takes"),
         _ => later_cure(code),
@@ -95,7 +97,9 @@ fn later_cure(code: u32) {
         22 => say(b"let motifs call each other less deep"),
         23 => say(b"put a PopGS before it"),
         24 => say(b"put a SetCursor before it"),
-        25 => say(b"put a SetColorSpace before it: RGB for RGBColor, gray for GrayLevel and images"),
+        25 => say(
+            b"put a SetColorSpace before it: RGB for RGBColor, gray for GrayLevel and images",
+        ),
         26 => say(b"call motifs fewer times"),
         27 => say(b"close the motif, image, page or session, or send the whole file again"),
         28 => say(b"make the job shorter: the list has room for 4,096 records"),

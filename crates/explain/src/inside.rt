@@ -13,9 +13,17 @@ struct Search {
 // One block of the motif: the byte is in it, or further on.
 fn in_block(start: usize, length: usize, left: usize) -> Search {
     if left < length {
-        return Search { left: 0, found: true, place: after(start, left) };
+        return Search {
+            left: 0,
+            found: true,
+            place: after(start, left),
+        };
     }
-    Search { left: left - length, found: false, place: 0 }
+    Search {
+        left: left - length,
+        found: false,
+        place: 0,
+    }
 }
 
 // The search after record i.
@@ -25,7 +33,11 @@ fn onward(list: &[u8], i: usize, inner: usize, s: Search) -> Search {
     }
     let tag = field(list, i, 1);
     if tag == 0x5b {
-        return Search { left: inner, found: false, place: 0 };
+        return Search {
+            left: inner,
+            found: false,
+            place: 0,
+        };
     }
     if tag != 0x5c {
         return s;
@@ -33,12 +45,20 @@ fn onward(list: &[u8], i: usize, inner: usize, s: Search) -> Search {
     if s.found {
         return s;
     }
-    in_block(field_four(list, i, 12) as usize, field_four(list, i, 8) as usize, s.left)
+    in_block(
+        field_four(list, i, 12) as usize,
+        field_four(list, i, 8) as usize,
+        s.left,
+    )
 }
 
 // The place in the job of byte inner of the motif; 0 if the motif has no such byte.
 pub fn place_in(list: &[u8], records: usize, inner: usize) -> usize {
-    let mut s = Search { left: inner, found: false, place: 0 };
+    let mut s = Search {
+        left: inner,
+        found: false,
+        place: 0,
+    };
     let mut i: usize = 0;
     while i < records {
         s = onward(list, i, inner, s);

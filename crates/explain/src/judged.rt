@@ -1,8 +1,8 @@
 // The line of a job.
 use crate::bytes::byte_at;
 use crate::codes;
-use crate::listing;
 use crate::inside;
+use crate::listing;
 use crate::out::number;
 use crate::out::say;
 
@@ -19,7 +19,10 @@ fn blamed(job: &[u8], list: &[u8], position: u32, inner: u32, records: u32) -> u
     if inner == OUTER {
         return byte_at(job, position as usize);
     }
-    byte_at(job, inside::place_in(list, records as usize, inner as usize))
+    byte_at(
+        job,
+        inside::place_in(list, records as usize, inner as usize),
+    )
 }
 
 fn in_motif(inner: u32) {
@@ -51,7 +54,12 @@ pub fn judged(job: &[u8], listed: bool) {
     if v.code == 0 {
         passes(v.performed);
     } else {
-        refused(v.code, v.position, v.inner, blamed(job, &list, v.position, v.inner, v.records));
+        refused(
+            v.code,
+            v.position,
+            v.inner,
+            blamed(job, &list, v.position, v.inner, v.records),
+        );
     }
     if listed {
         listing::lines(job, &list, v.records as usize);
