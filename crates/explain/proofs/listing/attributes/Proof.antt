@@ -1,0 +1,57 @@
+-- Nothing has to hold from turn to turn; each turn brings the end one nearer.
+-- Assumes nothing.
+use Prim.Native.Nat.{_-_}
+use borrow.Author.Needs.{needs}
+use Rattle.explain.proofs.listing.attributes.Statement.{statement}
+use Rattle.explain.proofs.listing.attributes.Tie as tie
+use Rattle.explain.proofs.listing.attributes.Reads as reads
+use Rattle.explain.proofs.listing.attributes.Lts as lts
+use Rattle.explain.proofs.listing.attribute.Reads as attribute-reads
+
+abbrev Inv-loop : tie.InvT-loop
+Inv-loop job list i count j₀ j = Unit {0}
+
+abbrev μ-loop : tie.MeasureT-loop
+μ-loop job list i count j₀ j = i - j
+
+-- src/listing.rt:61:9
+returns : tie.Need-returns Inv-loop μ-loop
+returns c = search needs
+
+-- src/listing.rt:64:5
+loop-holds : tie.Need-loop-holds Inv-loop μ-loop
+loop-holds c = search needs
+
+-- src/listing.rt:65:9
+attribute-requires : tie.Need-attribute-requires Inv-loop μ-loop
+attribute-requires c κs = search needs
+
+-- src/listing.rt:66:9
+add-j : tie.Need-add-j Inv-loop μ-loop
+add-j c = search needs
+
+-- src/listing.rt:64:5
+loop-less : tie.Need-loop-less Inv-loop μ-loop
+loop-less c = search needs
+
+-- src/listing.rt:64:5
+loop-again : tie.Need-loop-again Inv-loop μ-loop
+loop-again c = search needs
+
+-- src/listing.rt:59:1
+returns-2 : tie.Need-returns-2 Inv-loop μ-loop
+returns-2 c = search needs
+
+pub attributes-spec : {M : Type 1} → statement M
+attributes-spec =
+    tie.close
+    (tie.spec
+    Inv-loop
+    μ-loop
+    returns
+    loop-holds
+    attribute-requires
+    add-j
+    loop-less
+    loop-again
+    returns-2)
