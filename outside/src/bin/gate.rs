@@ -1,8 +1,10 @@
 //! Makes the input and the expected output of the program `vectors` anew: `crates/vectors/stdin` and `stdout`.
 //!
 //! The five numbers of a line are those of the vector's file; the bytes of the buffers, of which a line has two checksums,
-//! are those of the plain checker, which must hold against the vector.
+//! are those of the plain checker, which must hold against the vector. Behind the vectors comes every start of a job that has
+//! every operator, with the plain checker's numbers.
 
+use outside::generate::{valid, write, Rng, TAGS};
 use outside::{plain, vectors};
 use std::path::Path;
 
@@ -15,7 +17,26 @@ fn checksum(bytes: &[u8]) -> u32 {
     bytes.iter().fold(0u32, |sum, &b| sum.wrapping_mul(16_777_619).wrapping_add(u32::from(b)))
 }
 
-/// The line that the program must print.
+/// The line that the program must print, from the five numbers and the buffers that the plain checker leaves.
+fn told(v: plain::Verdict, work: &[u8], list: &[u8]) -> String {
+    let (work, list) = (checksum(work), checksum(list));
+    format!("{} {} {} {} {} {work} {list}\n", v.code, v.position, v.inner, v.records, v.performed)
+}
+
+/// A job that passes and has every operator in its list, the first such one that is short.
+fn everything() -> Vec<u8> {
+    (0..)
+        .map(|index| write(&valid(&mut Rng::new(2, index))))
+        .find(|job| {
+            let mut list = vec![0; BUFFER];
+            let v = plain::check(job, &mut vec![0; 16_384], &mut list);
+            let listed = |tag: u8| list.chunks(16).take(v.records as usize).any(|r| r[0] == 2 && r[1] == tag);
+            v.code == 0 && job.len() < 1_600 && TAGS.iter().all(|&tag| listed(tag))
+        })
+        .expect("there is one")
+}
+
+/// The line that the program must print of a vector.
 fn line(v: &vectors::Vector) -> Result<String, String> {
     vectors::hold(v, plain::check)?;
     if v.job.len() > LONGEST || v.work > BUFFER || v.list > BUFFER {
@@ -23,9 +44,7 @@ fn line(v: &vectors::Vector) -> Result<String, String> {
     }
     let (mut work, mut list) = (vec![BEFORE; BUFFER], vec![BEFORE; BUFFER]);
     plain::check(&v.job, &mut work[..v.work], &mut list[..v.list]);
-    let w = v.want;
-    let (work, list) = (checksum(&work), checksum(&list));
-    Ok(format!("{} {} {} {} {} {work} {list}\n", w.code, w.position, w.inner, w.records, w.performed))
+    Ok(told(v.want, &work, &list))
 }
 
 fn make() -> Result<usize, String> {
@@ -39,11 +58,21 @@ fn make() -> Result<usize, String> {
         }
         input.extend(&v.job);
     }
+    let whole = everything();
+    for end in 0..=whole.len() {
+        let (mut work, mut list) = (vec![BEFORE; BUFFER], vec![BEFORE; BUFFER]);
+        let v = plain::check(&whole[..end], &mut work[..16_384], &mut list);
+        output.push_str(&told(v, &work, &list));
+        for length in [end, 16_384, BUFFER] {
+            input.extend((length as u32).to_le_bytes());
+        }
+        input.extend(&whole[..end]);
+    }
     let folder = here.join("../crates/vectors");
     let write = |name: &str, bytes: &[u8]| std::fs::write(folder.join(name), bytes).map_err(|e| format!("{name}: {e}"));
     write("stdin", &input)?;
     write("stdout", output.as_bytes())?;
-    Ok(all.len())
+    Ok(all.len() + whole.len() + 1)
 }
 
 fn main() {
