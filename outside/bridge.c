@@ -1,42 +1,67 @@
 /* A checker behind pipes: reads cases from standard input, judges each with the linked library, writes the answers to standard output.
-   For machines on which the static library cannot be linked into the Rust program itself.
+   For machines on which the static library cannot be linked into the Rust program itself; needs no header of a C library.
    A case: three 32-bit lengths (job, work, list), low byte first, then the bytes. An answer: five 32-bit numbers, then work, list, and one byte that is 1 if no
    byte beside the three buffers was touched and the job is as it was. */
-#include <stdint.h>
-#include <stdio.h>
-#include <stdlib.h>
-#include <string.h>
 #include "../include/dieuvakhop.h"
 
-enum { GUARD = 64 };
+enum { GUARD = 64, ROOM = 1 << 22, MARK = 0xa5 };
 
-static uint8_t *lend(uint32_t n) {
-    uint8_t *b = malloc(n + 2 * GUARD);
-    memset(b, 0xa5, n + 2 * GUARD);
-    if (n && fread(b + GUARD, 1, n, stdin) != n) exit(1);
-    return b;
+long read(int, void *, size_t);
+long write(int, const void *, size_t);
+
+static uint8_t job[ROOM], work[ROOM], list[ROOM], copy[ROOM];
+
+/* So many bytes from standard input; 0 at its end. */
+static int got(uint8_t *to, size_t n) {
+    while (n) {
+        long k = read(0, to, n);
+        if (k <= 0) return 0;
+        to += k;
+        n -= (size_t)k;
+    }
+    return 1;
+}
+
+static void put(const void *bytes, size_t n) {
+    const uint8_t *from = bytes;
+    while (n) {
+        long k = write(1, from, n);
+        if (k <= 0) return;
+        from += k;
+        n -= (size_t)k;
+    }
+}
+
+/* Fills a buffer from standard input, with guard bytes on both sides. */
+static int lend(uint8_t *b, uint32_t n) {
+    if (n > ROOM - 2 * GUARD) return 0;
+    for (uint32_t i = 0; i < GUARD; i++) b[i] = b[GUARD + n + i] = MARK;
+    return got(b + GUARD, n);
 }
 
 static int kept(const uint8_t *b, uint32_t n) {
-    for (int i = 0; i < GUARD; i++)
-        if (b[i] != 0xa5 || b[GUARD + n + i] != 0xa5) return 0;
+    for (uint32_t i = 0; i < GUARD; i++)
+        if (b[i] != MARK || b[GUARD + n + i] != MARK) return 0;
+    return 1;
+}
+
+static int same(const uint8_t *a, const uint8_t *b, uint32_t n) {
+    for (uint32_t i = 0; i < n; i++)
+        if (a[i] != b[i]) return 0;
     return 1;
 }
 
 int main(void) {
     uint32_t n[3];
-    while (fread(n, 4, 3, stdin) == 3) {
-        uint8_t *job = lend(n[0]), *work = lend(n[1]), *list = lend(n[2]);
-        uint8_t *copy = malloc(n[0] + 1);
-        memcpy(copy, job + GUARD, n[0]);
+    while (got((uint8_t *)n, sizeof n)) {
+        if (!lend(job, n[0]) || !lend(work, n[1]) || !lend(list, n[2])) return 1;
+        for (uint32_t i = 0; i < n[0]; i++) copy[i] = job[GUARD + i];
         struct dieuvakhop_verdict v = dieuvakhop_check(job + GUARD, n[0], work + GUARD, n[1], list + GUARD, n[2]);
-        uint8_t fine = kept(job, n[0]) && kept(work, n[1]) && kept(list, n[2]) && !memcmp(copy, job + GUARD, n[0]);
-        fwrite(&v, 4, 5, stdout);
-        fwrite(work + GUARD, 1, n[1], stdout);
-        fwrite(list + GUARD, 1, n[2], stdout);
-        fwrite(&fine, 1, 1, stdout);
-        fflush(stdout);
-        free(job); free(work); free(list); free(copy);
+        uint8_t fine = kept(job, n[0]) && kept(work, n[1]) && kept(list, n[2]) && same(copy, job + GUARD, n[0]);
+        put(&v, sizeof v);
+        put(work + GUARD, n[1]);
+        put(list + GUARD, n[2]);
+        put(&fine, 1);
     }
     return 0;
 }
