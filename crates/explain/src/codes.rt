@@ -1,8 +1,14 @@
-// What each code means, and what to change.
+// What each code means, and what to change. The bytes are those of the job, or of the motif that is refused; the place is in them.
+use crate::blame::read_on;
+use crate::blame::value_cause;
+use crate::bytes::byte_at;
 use crate::names::operator;
 use crate::names::value;
 use crate::out::byte;
 use crate::out::say;
+use crate::table::choice;
+use crate::table::needs;
+use crate::table::takes;
 
 fn with_operator(text: &[u8], tag: u8) {
     say(text);
@@ -19,26 +25,26 @@ fn with_byte(text: &[u8], b: u8) {
     byte(b);
 }
 
-// Why the job is refused; b is the byte that is blamed.
-pub fn cause(code: u32, b: u8) {
+// Why the job is refused.
+pub fn cause(s: &[u8], code: u32, at: usize) {
+    let b = byte_at(s, at);
     match code {
-        0 => say(b"passes"),
         1 => say(b"longer than 61,440 bytes"),
         2 => say(b"header malformed"),
         3 => say(b"written in the ASCII form"),
         4 => say(b"not PCL XL 1;1"),
         5 => say(b"ends inside an item"),
         6 => with_byte(b"no item that may come here: ", b),
-        7 => with_value(b"a 17th attribute, of type ", b),
+        7 => value_cause(s, code, at),
         8 => with_value(b"over 1,024 elements in an ", b),
         9 => with_operator(b"no operator of the arm: ", b),
         10 => with_operator(b"out of order: ", b),
-        11 => with_value(b"attribute not of this operator, with a value of type ", b),
-        12 => with_value(b"attribute given twice, here with a value of type ", b),
+        11 => value_cause(s, code, at),
+        12 => value_cause(s, code, at),
         13 => with_operator(b"attribute missing before ", b),
-        14 => with_operator(b"attributes clash, or rows do not follow, before ", b),
-        15 => with_value(b"attribute does not take a value of type ", b),
-        16 => with_value(b"out of range, a value of type ", b),
+        14 => with_operator(b"attributes or rows that do not go together before ", b),
+        15 => value_cause(s, code, at),
+        16 => value_cause(s, code, at),
         _ => later_cause(code, b),
     }
 }
@@ -62,8 +68,13 @@ fn later_cause(code: u32, tag: u8) {
     }
 }
 
+fn takes_at(s: &[u8], at: usize) {
+    let b = read_on(s, at);
+    takes(b.number);
+}
+
 // What to change.
-pub fn cure(code: u32) {
+pub fn cure(s: &[u8], code: u32, at: usize) {
     match code {
         1 => say(b"make the job shorter, or split it in two"),
         2 => say(b"begin the file with `) HP-PCL XL;1;1` and a line end, nothing before it"),
@@ -77,12 +88,10 @@ pub fn cure(code: u32) {
         10 => say(b"move it to where it may stand, or close what is still open before it"),
         11 => say(b"take the attribute out"),
         12 => say(b"give the attribute once"),
-        13 => say(b"add the attribute that is missing"),
-        14 => say(
-            b"give one of the choice, or both of the pair; let each StartLine be the rows so far",
-        ),
-        15 => say(b"write the value in a type that the attribute takes"),
-        16 => say(b"change the value to one that the attribute takes"),
+        13 => needs(byte_at(s, at)),
+        14 => choice(byte_at(s, at)),
+        15 => takes_at(s, at),
+        16 => takes_at(s, at),
         _ => later_cure(code),
     }
 }

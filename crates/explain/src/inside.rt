@@ -1,68 +1,73 @@
-// Where a byte of the motif that was defined last stands in the job, by the records of its ReadStream operators.
+// The motif that was defined last, by the records of the list: its bytes and its name.
+ghost use mathlib.Core.Path.{_≡_};
+ghost use lib.ListN.{length};
 use crate::bytes::after;
 use crate::bytes::field;
 use crate::bytes::field_four;
+use crate::values::name;
 
-// The bytes still to pass in the motif, and the place in the job once it is found.
-struct Search {
-    left: usize,
-    found: bool,
-    place: usize,
+// A block of a motif is joined to the bytes before it; the answer is how many bytes that makes.
+fn block(job: &[u8], first: usize, length: usize, motif: &mut [u8], used: usize) -> usize {
+    if job.len() < first {
+        return used;
+    }
+    if job.len() - first < length {
+        return used;
+    }
+    buffer::join(&job[first..first + length], motif, used);
+    after(used, length)
 }
 
-// One block of the motif: the byte is in it, or further on.
-fn in_block(start: usize, length: usize, left: usize) -> Search {
-    if left < length {
-        return Search {
-            left: 0,
-            found: true,
-            place: after(start, left),
-        };
-    }
-    Search {
-        left: left - length,
-        found: false,
-        place: 0,
-    }
-}
-
-// The search after record i.
-fn onward(list: &[u8], i: usize, inner: usize, s: Search) -> Search {
+// Record i: BeginStream starts a motif anew, ReadStream goes on with it.
+fn onward(job: &[u8], list: &[u8], i: usize, motif: &mut [u8], used: usize) -> usize {
     if field(list, i, 0) != 2 {
-        return s;
+        return used;
     }
-    let tag = field(list, i, 1);
-    if tag == 0x5b {
-        return Search {
-            left: inner,
-            found: false,
-            place: 0,
-        };
+    match field(list, i, 1) {
+        0x5b => 0,
+        0x5c => block(
+            job,
+            field_four(list, i, 12) as usize,
+            field_four(list, i, 8) as usize,
+            motif,
+            used,
+        ),
+        _ => used,
     }
-    if tag != 0x5c {
-        return s;
-    }
-    if s.found {
-        return s;
-    }
-    in_block(
-        field_four(list, i, 12) as usize,
-        field_four(list, i, 8) as usize,
-        s.left,
-    )
 }
 
-// The place in the job of byte inner of the motif; 0 if the motif has no such byte.
-pub fn place_in(list: &[u8], records: usize, inner: usize) -> usize {
-    let mut s = Search {
-        left: inner,
-        found: false,
-        place: 0,
-    };
+// Puts the motif's bytes into `motif`; the answer is how many there are.
+pub fn gather(job: &[u8], list: &[u8], records: usize, motif: &mut [u8]) -> usize
+    ensures { λ _. ⌜ length (now (motif .exit)) ≡ length (now (motif .entry)) ⌝ }
+{
+    let mut used: usize = 0;
     let mut i: usize = 0;
     while i < records {
-        s = onward(list, i, inner, s);
+        used = onward(job, list, i, motif, used);
         i += 1;
     }
-    s.place
+    used
+}
+
+// The record of the last StreamName so far, after record i.
+fn named(list: &[u8], i: usize, so_far: usize) -> usize {
+    if field(list, i, 0) != 1 {
+        return so_far;
+    }
+    if field(list, i, 1) == 139 { i } else { so_far }
+}
+
+// Says the motif's name: the last StreamName of the list, since nothing but ReadStream comes behind it.
+pub fn say_name(job: &[u8], list: &[u8], records: usize) {
+    let mut last: usize = 0;
+    let mut i: usize = 0;
+    while i < records {
+        last = named(list, i, last);
+        i += 1;
+    }
+    name(
+        job,
+        field_four(list, last, 8) as usize,
+        field_four(list, last, 12) as usize,
+    );
 }

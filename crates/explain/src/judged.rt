@@ -1,10 +1,12 @@
 // The line of a job.
-use crate::bytes::byte_at;
-use crate::codes;
-use crate::inside;
+use crate::codes::cause;
+use crate::codes::cure;
+use crate::inside::gather;
+use crate::inside::say_name;
 use crate::listing;
 use crate::out::number;
 use crate::out::say;
+use checker::Verdict;
 
 const OUTER: u32 = 4_294_967_295;
 
@@ -14,35 +16,53 @@ fn passes(performed: u32) {
     say(b" operators\n");
 }
 
-// The byte that is blamed: the one at the position, or of a motif's fault the one in the motif.
-fn blamed(job: &[u8], list: &[u8], position: u32, inner: u32, records: u32) -> u8 {
-    if inner == OUTER {
-        return byte_at(job, position as usize);
-    }
-    byte_at(
-        job,
-        inside::place_in(list, records as usize, inner as usize),
-    )
-}
-
-fn in_motif(inner: u32) {
-    if inner == OUTER {
-        return;
-    }
-    say(b", in the motif, at its byte ");
-    number(inner);
-}
-
-fn refused(code: u32, position: u32, inner: u32, blame: u8) {
-    say(b": refused at byte ");
-    number(position);
-    say(b": ");
-    codes::cause(code, blame);
-    in_motif(inner);
+fn with_code(code: u32) {
     say(b" (code ");
     number(code);
     say(b") -- ");
-    codes::cure(code);
+}
+
+// A fault of the job itself.
+fn outside(job: &[u8], v: Verdict) {
+    cause(job, v.code, v.position as usize);
+    with_code(v.code);
+    cure(job, v.code, v.position as usize);
+}
+
+// A fault in a motif, of which these are the bytes.
+fn of_motif(job: &[u8], list: &[u8], motif: &[u8], v: Verdict) {
+    cause(motif, v.code, v.inner as usize);
+    say(b", in the motif ");
+    say_name(job, list, v.records as usize);
+    say(b" at its byte ");
+    number(v.inner);
+    with_code(v.code);
+    cure(motif, v.code, v.inner as usize);
+}
+
+// A fault in a motif, of which the first n bytes are there.
+fn in_motif(job: &[u8], list: &[u8], bytes: &[u8], n: usize, v: Verdict) {
+    if bytes.len() < n {
+        return;
+    }
+    of_motif(job, list, &bytes[0..n], v);
+}
+
+fn inside(job: &[u8], list: &[u8], v: Verdict) {
+    let mut motif = [0u8; 16384];
+    let n = gather(job, list, v.records as usize, &mut motif);
+    in_motif(job, list, &motif, n, v);
+}
+
+fn refused(job: &[u8], list: &[u8], v: Verdict) {
+    say(b": refused at byte ");
+    number(v.position);
+    say(b": ");
+    if v.inner == OUTER {
+        outside(job, v);
+    } else {
+        inside(job, list, v);
+    }
     say(b"\n");
 }
 
@@ -54,12 +74,7 @@ pub fn judged(job: &[u8], listed: bool) {
     if v.code == 0 {
         passes(v.performed);
     } else {
-        refused(
-            v.code,
-            v.position,
-            v.inner,
-            blamed(job, &list, v.position, v.inner, v.records),
-        );
+        refused(job, &list, v);
     }
     if listed {
         listing::lines(job, &list, v.records as usize);

@@ -1,5 +1,6 @@
 // Says of each file that the arguments name whether it passes, or what is wrong, where, and what to change.
-// With no name it reads standard input. After the word `list` it prints the operators of each job too.
+// With no name it reads standard input. Behind the word `list` it prints the operators of each job too.
+mod blame;
 mod bytes;
 mod codes;
 mod inside;
@@ -7,6 +8,7 @@ mod judged;
 mod listing;
 mod names;
 mod out;
+mod table;
 mod values;
 
 use out::say;
@@ -54,14 +56,6 @@ fn file(i: usize, listed: bool) {
     libc::close(fd);
 }
 
-fn files(first: usize, n: usize, listed: bool) {
-    let mut i = first;
-    while i < n {
-        file(i, listed);
-        i += 1;
-    }
-}
-
 // Whether four letters are `list`.
 fn is_list(a: u8, b: u8, c: u8, d: u8) -> bool {
     if a != b'l' {
@@ -76,10 +70,10 @@ fn is_list(a: u8, b: u8, c: u8, d: u8) -> bool {
     d == b't'
 }
 
-// Whether the first argument is the word `list`.
-fn asks_list() -> bool {
+// Whether argument i is the word `list`.
+fn asks_list(i: usize) -> bool {
     let mut word = [0u8; 5];
-    let n = os::arg(1, &mut word);
+    let n = os::arg(i, &mut word);
     if os::errno() != 0 {
         return false;
     }
@@ -89,19 +83,33 @@ fn asks_list() -> bool {
     is_list(word[0], word[1], word[2], word[3])
 }
 
+// The files that the arguments name, those behind the word `list` with their operators.
+fn files(n: usize) {
+    let mut listed = false;
+    let mut i: usize = 1;
+    while i < n {
+        if asks_list(i) {
+            listed = true;
+        } else {
+            file(i, listed);
+        }
+        i += 1;
+    }
+}
+
 fn main() {
     let n = os::arg_count();
     if n < 2 {
         input(false);
         return;
     }
-    if !asks_list() {
-        files(1, n, false);
+    if 2 < n {
+        files(n);
         return;
     }
-    if n == 2 {
+    if asks_list(1) {
         input(true);
         return;
     }
-    files(2, n, true);
+    files(n);
 }

@@ -88,7 +88,7 @@ pub fn value(job: &[u8], tag: u8, count: u32, at: usize) {
 
 // One byte of a motif's name: itself if it can be printed.
 fn glyph(b: u8) {
-    if 0x21 <= b {
+    if 0x20 <= b {
         if b <= 0x7e {
             let one = [b];
             say(&one);
@@ -98,11 +98,13 @@ fn glyph(b: u8) {
     byte(b);
 }
 
-// A motif's name.
+// A motif's name, in quotes.
 pub fn name(job: &[u8], count: usize, at: usize) {
+    say(b"'");
     let mut i: usize = 0;
     while i < count {
         glyph(byte_at(job, after(at, i)));
         i += 1;
     }
+    say(b"'");
 }

@@ -10,6 +10,7 @@ use Rattle.scope.specs.Choice.{pick, among}
 use Rattle.scope.specs.Item.{Attribute}
 use Rattle.scope.specs.Attributes.{has, valueIn}
 use Rattle.scope.specs.Reading.{Operator}
+use Rattle.scope.specs.Names.{SetCursorRel, LinePath, LineRelPath, BeginImage, SetBrushSource, SetPenSource, RGBColor, GrayLevel, PushGS, PopGS, SetCursor, NewPath, SetColorSpace, ColorSpace}
 
 pub record Saved : Type 0 where
   pub cursor : Bool
@@ -53,22 +54,22 @@ idle = record { source = false; cursor = false; space = any; effect = put kept k
 
 -- SetCursorRel, LinePath, LineRelPath and BeginImage need the cursor set
 unfoldable pub needsCursor : ℕ → Bool
-needsCursor tag = among (0x6c ∷ 0x9b ∷ 0x9d ∷ 0xb0 ∷ []) tag
+needsCursor tag = among (SetCursorRel ∷ LinePath ∷ LineRelPath ∷ BeginImage ∷ []) tag
 
 -- RGBColor needs RGB; GrayLevel and BeginImage need gray
 unfoldable pub needsSpace : ℕ → List Attribute → Space
 needsSpace tag l =
-    pick (eqb tag 0xb0) gray
-    (pick (eqb tag 0x63 || eqb tag 0x79) (pick (has 11 l) rgb (pick (has 9 l) gray any)) any)
+    pick (eqb tag BeginImage) gray
+    (pick (eqb tag SetBrushSource || eqb tag SetPenSource) (pick (has RGBColor l) rgb (pick (has GrayLevel l) gray any)) any)
 
 -- PushGS, PopGS; SetCursor sets the cursor, NewPath unsets it; SetColorSpace sets the colour space
 unfoldable pub effectOf : Bool → List ℕ → ℕ → List Attribute → Effect
 effectOf high s tag l =
-    pick (eqb tag 0x61) push
-    (pick (eqb tag 0x60) pop
-    (pick (eqb tag 0x6b) (put (to true) kept)
-    (pick (eqb tag 0x85) (put (to false) kept)
-    (pick (eqb tag 0x6a) (put kept (to (eqb (valueIn high s l 3) 1))) (put kept kept)))))
+    pick (eqb tag PushGS) push
+    (pick (eqb tag PopGS) pop
+    (pick (eqb tag SetCursor) (put (to true) kept)
+    (pick (eqb tag NewPath) (put (to false) kept)
+    (pick (eqb tag SetColorSpace) (put kept (to (eqb (valueIn high s l ColorSpace) 1))) (put kept kept)))))
 
 unfoldable pub actOf : Bool → List ℕ → Operator → Act
 actOf high s o =

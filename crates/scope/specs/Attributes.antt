@@ -9,6 +9,7 @@ use Rattle.scope.specs.Choice.{pick, between, among}
 use Rattle.scope.specs.Number.{number}
 use Rattle.scope.specs.Item.{Attribute}
 use Rattle.scope.specs.Table.{Takes, E, N, P, B, A, D, M, Rule, Form, each, one, line, Row, Ruled, is, none, ruleIn}
+use Rattle.scope.specs.Names.{EndPoint, NumberOfPoints, PointType}
 
 -- an attribute of this number is among them
 unfoldable pub has : ℕ → List Attribute → Bool
@@ -88,7 +89,7 @@ pairCode false false false = 13
 unfoldable pub formCode : List Attribute → List Rule → Form → ℕ
 formCode l rs each = pick (allThere l rs) 0 13
 formCode l rs one = choiceCode (howMany l rs)
-formCode l rs line = pairCode (has 69 l) (has 77 l) (has 80 l)
+formCode l rs line = pairCode (has EndPoint l) (has NumberOfPoints l) (has PointType l)
 
 -- an attribute's value by its number: 0, or no bytes, where it is not there
 unfoldable pub valueIn : Bool → List ℕ → List Attribute → ℕ → ℕ

@@ -9,6 +9,7 @@ use Rattle.scope.specs.Choice.{pick}
 use Rattle.scope.specs.Number.{number}
 use Rattle.scope.specs.Item.{Attribute, after}
 use Rattle.scope.specs.Attributes.{has, valueIn}
+use Rattle.scope.specs.Names.{ReadStream, StreamDataLength, ReadImage, BlockHeight, LinePath, LineRelPath, NumberOfPoints, PointType}
 
 -- an image that is being read: SourceWidth, ColorDepth, SourceHeight, and the rows read so far
 pub record Image : Type 0 where
@@ -36,9 +37,9 @@ pointBytes type n = pick (leb type 1) (2 * n) (4 * n)
 
 unfoldable pub dueOf : Bool → List ℕ → Image → ℕ → List Attribute → Due
 dueOf high s i tag l =
-    pick (eqb tag 0x5c) (reads (valueIn high s l 140))
-    (pick (eqb tag 0xb1) (reads (valueIn high s l 99 * rowOf (i .width) (i .depth)))
-    (pick (eqb tag 0x9b || eqb tag 0x9d) (pick (has 77 l) (reads (pointBytes (valueIn high s l 80) (valueIn high s l 77))) none) none))
+    pick (eqb tag ReadStream) (reads (valueIn high s l StreamDataLength))
+    (pick (eqb tag ReadImage) (reads (valueIn high s l BlockHeight * rowOf (i .width) (i .depth)))
+    (pick (eqb tag LinePath || eqb tag LineRelPath) (pick (has NumberOfPoints l) (reads (pointBytes (valueIn high s l PointType) (valueIn high s l NumberOfPoints))) none) none))
 
 -- where the data is; or a refusal
 pub data Found : Type 0 where

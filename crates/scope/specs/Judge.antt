@@ -12,6 +12,7 @@ use Rattle.scope.specs.Reading.{Context, Operator, Read, operatorAt}
 use Rattle.scope.specs.Arm.{Seen, walk, from}
 use Rattle.scope.specs.Motif.{Motif, Held, heldAs, isHeld, bytesHeld, Judged, valid, faulty, motifOf}
 use Rattle.scope.specs.Session.{Setting, Session, Place, outside, inside, sessionOf, phaseOf, pageOf, joinedOf, rowFor, placeAfter}
+use Rattle.scope.specs.Names.{EndStream, StreamName, BeginStream, ReadStream, ExecStream}
 
 -- inner, unless said otherwise
 abbrev pub outer : ℕ
@@ -26,7 +27,7 @@ pub record State : Type 0 where
   pub past : List Operator
 
 unfoldable pub judgedAt : List Motif → List ℕ → ℕ → Judged
-judgedAt held joined tag = pick (eqb tag 0x5d) (motifOf held joined) (valid [] 1)
+judgedAt held joined tag = pick (eqb tag EndStream) (motifOf held joined) (valid [] 1)
 
 -- what the rules look at: the session, the records with this operator's, the operator, its name, the arm after it, its motif's judgement
 pub record Case : Type 0 where
@@ -43,7 +44,7 @@ caseOf high s st x o =
       session = x;
       records = st .records + suc (length (o .attrs));
       op = o;
-      name = bytesIn s (o .attrs) 139;
+      name = bytesIn s (o .attrs) StreamName;
       seen = walk (rowFor high s (x .held) o) (from (pageOf (x .busy)) (st .performed));
       made = judgedAt (x .held) (joinedOf (x .busy)) (o .tag);
     }
@@ -51,16 +52,16 @@ caseOf high s st x o =
 -- 19: BeginStream with 64 held, or ReadStream past 16,384 bytes
 unfoldable pub tooMuch : Case → Bool
 tooMuch c =
-    (eqb (c .op .tag) 0x5b && leb 64 (length (c .session .held)))
-    || (eqb (c .op .tag) 0x5c && ltb 16384 (bytesHeld (c .session .held) + (length (joinedOf (c .session .busy)) + c .op .length)))
+    (eqb (c .op .tag) BeginStream && leb 64 (length (c .session .held)))
+    || (eqb (c .op .tag) ReadStream && ltb 16384 (bytesHeld (c .session .held) + (length (joinedOf (c .session .busy)) + c .op .length)))
 
 -- 20: BeginStream with a held name
 unfoldable pub nameHeld : Case → Bool
-nameHeld c = eqb (c .op .tag) 0x5b && isHeld (heldAs (c .name) (c .session .held))
+nameHeld c = eqb (c .op .tag) BeginStream && isHeld (heldAs (c .name) (c .session .held))
 
 -- 21: name not held
 unfoldable pub nameMissing : Case → Bool
-nameMissing c = eqb (c .op .tag) 0x5e && not (isHeld (heldAs (c .name) (c .session .held)))
+nameMissing c = eqb (c .op .tag) ExecStream && not (isHeld (heldAs (c .name) (c .session .held)))
 
 -- 17: source not open, of a call; of another operator reading has judged it
 unfoldable pub sourceClosed : Case → Bool

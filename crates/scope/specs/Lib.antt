@@ -3,6 +3,7 @@ pub mod Iterate
 pub mod Number
 pub mod Header
 pub mod Item
+pub mod Names
 pub mod Table
 pub mod Attributes
 pub mod Data

@@ -14,6 +14,7 @@ use Rattle.scope.specs.Data.{Image}
 use Rattle.scope.specs.Order.{Phase, in-motif, in-image}
 use Rattle.scope.specs.Reading.{Context, Operator, Read, operatorAt}
 use Rattle.scope.specs.Arm.{Act, idle, actOf, Stroke}
+use Rattle.scope.specs.Names.{SourceWidth, ColorDepth, SourceHeight, BeginImage, ReadImage, BlockHeight, EndImage, PushGS, PopGS, ExecStream, StreamName}
 
 -- an operator of a motif, with the place of its tag: it does something, or calls by a name
 pub data Own : Type 0 where
@@ -66,7 +67,7 @@ pub data Picture : Type 0 where
 -- BeginImage opens one, ReadImage reads rows of it, EndImage ends it
 unfoldable pub begun : Bool → List ℕ → List Attribute → Picture
 begun high s l =
-    being (record { width = valueIn high s l 108; depth = valueIn high s l 98; height = valueIn high s l 107; rows = 0 })
+    being (record { width = valueIn high s l SourceWidth; depth = valueIn high s l ColorDepth; height = valueIn high s l SourceHeight; rows = 0 })
 
 unfoldable pub readOn : ℕ → Picture → Picture
 readOn n none = none
@@ -74,13 +75,13 @@ readOn n (being i) = being (record { width = i .width; depth = i .depth; height 
 
 unfoldable pub pictureAfter : Bool → List ℕ → Operator → Picture → Picture
 pictureAfter high s o p =
-    pick (eqb (o .tag) 0xb0) (begun high s (o .attrs))
-    (pick (eqb (o .tag) 0xb1) (readOn (valueIn high s (o .attrs) 99) p)
-    (pick (eqb (o .tag) 0xb2) none p))
+    pick (eqb (o .tag) BeginImage) (begun high s (o .attrs))
+    (pick (eqb (o .tag) ReadImage) (readOn (valueIn high s (o .attrs) BlockHeight) p)
+    (pick (eqb (o .tag) EndImage) none p))
 
 -- how many states are saved after an operator
 unfoldable pub savedAfter : ℕ → ℕ → ℕ
-savedAfter tag n = pick (eqb tag 0x61) (suc n) (pick (eqb tag 0x60) (n - 1) n)
+savedAfter tag n = pick (eqb tag PushGS) (suc n) (pick (eqb tag PopGS) (n - 1) n)
 
 -- a motif's judgement: valid, with its operators and how deep it nests; or a code and a place inside it
 pub data Judged : Type 0 where
@@ -131,8 +132,8 @@ unfoldable pub onRead : List Motif → Bool → List ℕ → Inside → Read →
 onRead held high s w (Read.no code place) = stop (faulty code place)
 onRead held high s w Read.ended = stop (onEnd s w (w .picture))
 onRead held high s w (Read.operator o) =
-    pick (eqb (o .tag) 0x5e)
-    (onCall o (bytesIn s (o .attrs) 139) w (heldAs (bytesIn s (o .attrs) 139) held))
+    pick (eqb (o .tag) ExecStream)
+    (onCall o (bytesIn s (o .attrs) StreamName) w (heldAs (bytesIn s (o .attrs) StreamName) held))
     (onDeed high s o w)
 
 unfoldable pub motifStep : List Motif → Bool → List ℕ → Inside → Next Inside Judged

@@ -8,6 +8,7 @@ use Rattle.scope.specs.Choice.{pick, between, among}
 use Rattle.scope.specs.Item.{Attribute}
 use Rattle.scope.specs.Attributes.{valueIn}
 use Rattle.scope.specs.Data.{Image}
+use Rattle.scope.specs.Names.{PopGS, Comment, ExecStream, PushGS, BeginSession, BeginStream, BeginPage, CloseDataSource, OpenDataSource, EndSession, ReadStream, EndStream, EndPage, EndImage, ReadImage, StartLine, BlockHeight}
 
 -- where an operator stands: between sessions; in a session; after BeginStream; in a page, or in a motif, with so many states saved; after BeginImage
 pub data Phase : Type 0 where
@@ -20,17 +21,17 @@ pub data Phase : Type 0 where
 
 -- in a page and in a motif: PopGS with something saved; Comment, ExecStream, PushGS, and those of the table from 63 to b0
 unfoldable pub drawn : ℕ → ℕ → Bool
-drawn saved tag = pick (eqb tag 0x60) (leb 1 saved) (among (0x47 ∷ 0x5e ∷ 0x61 ∷ []) tag || between 0x63 0xb0 tag)
+drawn saved tag = pick (eqb tag PopGS) (leb 1 saved) (among (Comment ∷ ExecStream ∷ PushGS ∷ []) tag || between 0x63 0xb0 tag)
 
 -- an operator of the table may come, where the data source is open or not
 unfoldable pub mayCome : Phase → Bool → ℕ → Bool
-mayCome between-sessions opened tag = eqb tag 0x41
+mayCome between-sessions opened tag = eqb tag BeginSession
 mayCome in-session opened tag =
-    among (0x47 ∷ 0x5b ∷ 0x43 ∷ []) tag || pick opened (eqb tag 0x49) (eqb tag 0x48 || eqb tag 0x42)
-mayCome in-stream opened tag = eqb tag 0x5c || eqb tag 0x5d
-mayCome (in-page saved) opened tag = pick (eqb tag 0x44) (eqb saved 0) (drawn saved tag)
+    among (Comment ∷ BeginStream ∷ BeginPage ∷ []) tag || pick opened (eqb tag CloseDataSource) (eqb tag OpenDataSource || eqb tag EndSession)
+mayCome in-stream opened tag = eqb tag ReadStream || eqb tag EndStream
+mayCome (in-page saved) opened tag = pick (eqb tag EndPage) (eqb saved 0) (drawn saved tag)
 mayCome (in-motif saved) opened tag = drawn saved tag
-mayCome (in-image i) opened tag = pick (eqb tag 0xb2) (eqb (i .rows) (i .height)) (eqb tag 0xb1)
+mayCome (in-image i) opened tag = pick (eqb tag EndImage) (eqb (i .rows) (i .height)) (eqb tag ReadImage)
 
 -- the image of a phase; one without rows where there is none
 abbrev pub imageOf : Phase → Image
@@ -44,6 +45,6 @@ imageOf (in-image i) = i
 -- each StartLine is the number of rows read so far, and rows never exceed SourceHeight
 unfoldable pub rowsFit : Bool → List ℕ → Image → ℕ → List Attribute → Bool
 rowsFit high s i tag l =
-    pick (eqb tag 0xb1)
-    (eqb (valueIn high s l 109) (i .rows) && leb (i .rows + valueIn high s l 99) (i .height))
+    pick (eqb tag ReadImage)
+    (eqb (valueIn high s l StartLine) (i .rows) && leb (i .rows + valueIn high s l BlockHeight) (i .height))
     true

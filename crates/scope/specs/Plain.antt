@@ -11,6 +11,7 @@ use Rattle.scope.specs.Header.{Header, headerOf}
 use Rattle.scope.specs.Reading.{Context, Operator, Read, operatorAt}
 use Rattle.scope.specs.Arm.{Effect, push, pop, put, Page, blank, done, clash, Stroke}
 use Rattle.scope.specs.Session.{Setting, Session, Place, outside, sessionOf, phaseOf, pageOf, rowFor, placeAfter}
+use Rattle.scope.specs.Names.{OpenDataSource, CloseDataSource, BeginPage, EndPage}
 
 -- what an operator performed does besides: it opens or closes the source, begins or ends a page
 pub data Turn : Type 0 where
@@ -22,7 +23,7 @@ pub data Turn : Type 0 where
 
 unfoldable pub turnOf : (gray : Bool) → ℕ → Turn
 turnOf gray tag =
-    pick (eqb tag 0x48) opens (pick (eqb tag 0x49) closes (pick (eqb tag 0x43) (begins gray) (pick (eqb tag 0x44) ends stays)))
+    pick (eqb tag OpenDataSource) opens (pick (eqb tag CloseDataSource) closes (pick (eqb tag BeginPage) (begins gray) (pick (eqb tag EndPage) ends stays)))
 
 -- an operator as the plain arm performs it
 pub record Deed : Type 0 where

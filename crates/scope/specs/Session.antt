@@ -12,6 +12,7 @@ use Rattle.scope.specs.Order.{Phase, between-sessions, in-session, in-st
 use Rattle.scope.specs.Reading.{Operator}
 use Rattle.scope.specs.Arm.{Act, Page, blank, idle, actOf, Stroke}
 use Rattle.scope.specs.Motif.{Motif, unfolded, Picture, pictureAfter, Judged, valid, faulty, motifOf}
+use Rattle.scope.specs.Names.{ExecStream, StreamName, OpenDataSource, CloseDataSource, BeginPage, BeginStream, ReadStream, EndPage, EndSession}
 
 -- what is settled before the first item: the job's byte order, and the colour space that a page starts in
 pub record Setting : Type 0 where
@@ -71,8 +72,8 @@ joinedOf (drawing p i) = []
 -- the row of operators performed for an operator of the job: itself, and behind a call all that its motif unfolds to
 unfoldable pub rowFor : Bool → List ℕ → List Motif → Operator → List Stroke
 rowFor high s held o =
-    pick (eqb (o .tag) 0x5e)
-    (record { motif = 0; at = o .at; act = idle } ∷ unfolded held (bytesIn s (o .attrs) 139))
+    pick (eqb (o .tag) ExecStream)
+    (record { motif = 0; at = o .at; act = idle } ∷ unfolded held (bytesIn s (o .attrs) StreamName))
     (record { motif = 0; at = o .at; act = actOf high s o } ∷ [])
 
 -- EndStream: a motif that is not faulty becomes held
@@ -85,20 +86,20 @@ unfoldable pub sessionAfter : Setting → List ℕ → Operator → Page → Bus
 sessionAfter set s o p resting x =
     record {
       held = x .held;
-      opened = pick (eqb (o .tag) 0x48) true (pick (eqb (o .tag) 0x49) false (x .opened));
-      busy = pick (eqb (o .tag) 0x43) (drawing (blank (set .gray)) Picture.none)
-          (pick (eqb (o .tag) 0x5b) (reading (bytesIn s (o .attrs) 139) []) resting);
+      opened = pick (eqb (o .tag) OpenDataSource) true (pick (eqb (o .tag) CloseDataSource) false (x .opened));
+      busy = pick (eqb (o .tag) BeginPage) (drawing (blank (set .gray)) Picture.none)
+          (pick (eqb (o .tag) BeginStream) (reading (bytesIn s (o .attrs) StreamName) []) resting);
     }
 sessionAfter set s o p (reading n j) x =
-    pick (eqb (o .tag) 0x5c)
+    pick (eqb (o .tag) ReadStream)
     (record { held = x .held; opened = x .opened; busy = reading n (j ++ take (o .length) (drop (o .first) s)) })
     (record { held = keptAs n j (motifOf (x .held) j) (x .held); opened = x .opened; busy = resting })
 sessionAfter set s o p (drawing q i) x =
-    pick (eqb (o .tag) 0x44)
+    pick (eqb (o .tag) EndPage)
     (record { held = x .held; opened = x .opened; busy = resting })
     (record { held = x .held; opened = x .opened; busy = drawing p (pictureAfter (set .high) s o i) })
 
 -- BeginSession begins one, EndSession drops all
 unfoldable pub placeAfter : Setting → List ℕ → Operator → Page → Place → Place
 placeAfter set s o p (outside b) = inside opening
-placeAfter set s o p (inside x) = pick (eqb (o .tag) 0x42) (outside true) (inside (sessionAfter set s o p (x .busy) x))
+placeAfter set s o p (inside x) = pick (eqb (o .tag) EndSession) (outside true) (inside (sessionAfter set s o p (x .busy) x))

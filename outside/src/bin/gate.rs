@@ -1,10 +1,12 @@
-//! Makes the input and the expected output of the program `vectors` anew: `crates/vectors/stdin` and `stdout`.
+//! Makes what the gate's programs are run with anew: the input and the expected output of `vectors` (`crates/vectors/stdin` and
+//! `stdout`), and the files and arguments of `explain` (`crates/explain/data` and `args`) from the texts of `examples`.
 //!
 //! The five numbers of a line are those of the vector's file; the bytes of the buffers, of which a line has two checksums,
 //! are those of the plain checker, which must hold against the vector. Behind the vectors comes every start of a job that has
 //! every operator, with the plain checker's numbers.
 
 use outside::generate::{valid, write, Rng, TAGS};
+use outside::text::assemble;
 use outside::{plain, vectors};
 use std::path::Path;
 
@@ -75,9 +77,44 @@ fn make() -> Result<usize, String> {
     Ok(all.len() + whole.len() + 1)
 }
 
+/// The texts of a folder of `examples` as jobs, in the order of their names.
+fn assembled(folder: &Path) -> Result<Vec<(String, Vec<u8>)>, String> {
+    let mut all = Vec::new();
+    for entry in std::fs::read_dir(folder).map_err(|e| e.to_string())? {
+        let path = entry.map_err(|e| e.to_string())?.path();
+        let name = path.file_stem().expect("a file").to_string_lossy().into_owned();
+        let text = std::fs::read_to_string(&path).map_err(|e| e.to_string())?;
+        all.push((name.clone(), assemble(&text).map_err(|e| format!("{name}: {e}"))?));
+    }
+    all.sort();
+    Ok(all)
+}
+
+/// Writes the jobs of `examples`; a refused one has the code that its name starts with.
+fn examples() -> Result<usize, String> {
+    let here = Path::new(env!("CARGO_MANIFEST_DIR"));
+    let folder = here.join("../crates/explain");
+    let (refused, jobs) = (assembled(&here.join("../examples/refused"))?, assembled(&here.join("../examples/jobs"))?);
+    let mut args = String::new();
+    for (name, job) in &refused {
+        let code = plain::check(job, &mut vec![0; 16_384], &mut vec![0; BUFFER]).code;
+        if !name.starts_with(&format!("{code:02}-")) {
+            return Err(format!("{name}: code {code}"));
+        }
+        args.push_str(&format!("{name}.pxl\n"));
+    }
+    args.push_str("empty.pxl\ngone.pxl\nlist\n");
+    jobs.iter().for_each(|(name, _)| args.push_str(&format!("{name}.pxl\n")));
+    for (name, job) in refused.iter().chain(&jobs).chain([&("empty".to_string(), Vec::new())]) {
+        std::fs::write(folder.join("data").join(format!("{name}.pxl")), job).map_err(|e| e.to_string())?;
+    }
+    std::fs::write(folder.join("args"), args).map_err(|e| e.to_string())?;
+    Ok(refused.len() + jobs.len())
+}
+
 fn main() {
-    match make() {
-        Ok(n) => println!("{n} vectors"),
+    match make().and_then(|n| Ok((n, examples()?))) {
+        Ok((n, k)) => println!("{n} vectors, {k} examples"),
         Err(e) => {
             eprintln!("{e}");
             std::process::exit(1);

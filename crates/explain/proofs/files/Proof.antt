@@ -6,39 +6,53 @@ use Rattle.explain.proofs.files.Statement.{statement}
 use Rattle.explain.proofs.files.Tie as tie
 use Rattle.explain.proofs.files.Reads as reads
 use Rattle.explain.proofs.files.Lts as lts
+use Rattle.explain.proofs.asks_list.Reads as asks-list-reads
 use Rattle.explain.proofs.file.Reads as file-reads
 
 abbrev Inv-loop : tie.InvT-loop
-Inv-loop first n listed i₀ i = Unit {0}
+Inv-loop n listed₀ i₀ listed i = Unit {0}
 
 abbrev μ-loop : tie.MeasureT-loop
-μ-loop first n listed i₀ i = n - i
+μ-loop n listed₀ i₀ listed i = n - i
 
--- src/main.rt:59:5
+-- src/main.rt:90:5
 loop-holds : tie.Need-loop-holds Inv-loop μ-loop
 loop-holds c = search needs
 
--- src/main.rt:60:9
+-- src/main.rt:91:12
+asks-list-requires : tie.Need-asks-list-requires Inv-loop μ-loop
+asks-list-requires c κs = search needs
+
+-- src/main.rt:94:13
 file-requires : tie.Need-file-requires Inv-loop μ-loop
 file-requires c κs = search needs
 
--- src/main.rt:61:9
+-- src/main.rt:96:9
 add-i : tie.Need-add-i Inv-loop μ-loop
 add-i c = search needs
 
--- src/main.rt:59:5
+-- src/main.rt:90:5
 loop-less : tie.Need-loop-less Inv-loop μ-loop
 loop-less c = search needs
 
--- src/main.rt:59:5
+-- src/main.rt:90:5
 loop-again : tie.Need-loop-again Inv-loop μ-loop
 loop-again c = search needs
 
--- src/main.rt:57:1
+-- src/main.rt:87:1
 returns : tie.Need-returns Inv-loop μ-loop
 returns c = search needs
 
 pub files-spec : {M : Type 1} → statement M
 files-spec =
     tie.close
-    (tie.spec Inv-loop μ-loop loop-holds file-requires add-i loop-less loop-again returns)
+    (tie.spec
+    Inv-loop
+    μ-loop
+    loop-holds
+    asks-list-requires
+    file-requires
+    add-i
+    loop-less
+    loop-again
+    returns)

@@ -8,41 +8,58 @@ use Rattle.explain.proofs.values.name.Reads as reads
 use Rattle.explain.proofs.values.name.Lts as lts
 use Rattle.explain.proofs.bytes.after.Reads as after-reads
 use Rattle.explain.proofs.bytes.byte_at.Reads as byte-at-reads
+use Rattle.explain.proofs.out.say.Reads as say-reads
 use Rattle.explain.proofs.values.glyph.Reads as glyph-reads
 
 abbrev Inv-loop : tie.InvT-loop
-Inv-loop job count at i₀ i = Unit {0}
+Inv-loop job count at i₀ t6 i = Unit {0}
 
 abbrev μ-loop : tie.MeasureT-loop
-μ-loop job count at i₀ i = count - i
+μ-loop job count at i₀ t6 i = count - i
 
--- src/values.rt:104:5
+-- src/values.rt:103:9
+slice-aggregate-say : tie.Need-slice-aggregate-say Inv-loop μ-loop
+slice-aggregate-say c = search needs
+
+-- src/values.rt:103:5
+say-requires : tie.Need-say-requires Inv-loop μ-loop
+say-requires c κs = search needs
+
+-- src/values.rt:105:5
 loop-holds : tie.Need-loop-holds Inv-loop μ-loop
 loop-holds c = search needs
 
--- src/values.rt:105:28
+-- src/values.rt:106:28
 after-requires : tie.Need-after-requires Inv-loop μ-loop
 after-requires c κs = search needs
 
--- src/values.rt:105:15
+-- src/values.rt:106:15
 byte-at-requires : tie.Need-byte-at-requires Inv-loop μ-loop
 byte-at-requires c κs = search needs
 
--- src/values.rt:105:9
+-- src/values.rt:106:9
 glyph-requires : tie.Need-glyph-requires Inv-loop μ-loop
 glyph-requires c κs = search needs
 
--- src/values.rt:106:9
+-- src/values.rt:107:9
 add-i : tie.Need-add-i Inv-loop μ-loop
 add-i c = search needs
 
--- src/values.rt:104:5
+-- src/values.rt:105:5
 loop-less : tie.Need-loop-less Inv-loop μ-loop
 loop-less c = search needs
 
--- src/values.rt:104:5
+-- src/values.rt:105:5
 loop-again : tie.Need-loop-again Inv-loop μ-loop
 loop-again c = search needs
+
+-- src/values.rt:109:9
+slice-aggregate-say-2 : tie.Need-slice-aggregate-say-2 Inv-loop μ-loop
+slice-aggregate-say-2 c = search needs
+
+-- src/values.rt:109:5
+say-requires-2 : tie.Need-say-requires-2 Inv-loop μ-loop
+say-requires-2 c κs = search needs
 
 -- src/values.rt:102:1
 returns : tie.Need-returns Inv-loop μ-loop
@@ -54,6 +71,8 @@ name-spec =
     (tie.spec
     Inv-loop
     μ-loop
+    slice-aggregate-say
+    say-requires
     loop-holds
     after-requires
     byte-at-requires
@@ -61,4 +80,6 @@ name-spec =
     add-i
     loop-less
     loop-again
+    slice-aggregate-say-2
+    say-requires-2
     returns)

@@ -1,0 +1,59 @@
+-- The motif's buffer keeps its length; each turn brings the end one nearer.
+-- Assumes nothing.
+use Prim.Native.Nat.{_-_}
+use mathlib.Core.Path.{_≡_}
+use lib.ListN.{length}
+use borrow.Author.Needs.{needs}
+use Rattle.explain.proofs.inside.gather.Statement.{statement}
+use Rattle.explain.proofs.inside.gather.Tie as tie
+use Rattle.explain.proofs.inside.gather.Reads as reads
+use Rattle.explain.proofs.inside.gather.Lts as lts
+use Rattle.explain.proofs.inside.onward.Reads as onward-reads
+
+abbrev Inv-loop : tie.InvT-loop
+Inv-loop job list records motif₀ used₀ i₀ motif used i = length motif ≡ length motif₀
+
+abbrev μ-loop : tie.MeasureT-loop
+μ-loop job list records motif₀ used₀ i₀ motif used i = records - i
+
+-- src/inside.rt:41:5
+loop-holds : tie.Need-loop-holds Inv-loop μ-loop
+loop-holds c = search needs
+
+-- src/inside.rt:42:9
+onward-requires : tie.Need-onward-requires Inv-loop μ-loop
+onward-requires c κs = search needs
+
+-- src/inside.rt:43:9
+add-i : tie.Need-add-i Inv-loop μ-loop
+add-i c = search needs
+
+-- src/inside.rt:41:5
+loop-less : tie.Need-loop-less Inv-loop μ-loop
+loop-less c = search needs
+
+-- src/inside.rt:41:5
+loop-again : tie.Need-loop-again Inv-loop μ-loop
+loop-again c = search needs
+
+-- src/inside.rt:38:1
+same-length : tie.Need-same-length Inv-loop μ-loop
+same-length c = search needs
+
+-- src/inside.rt:38:1
+returns : tie.Need-returns Inv-loop μ-loop
+returns c = search needs
+
+pub gather-spec : {M : Type 1} → statement M
+gather-spec =
+    tie.close
+    (tie.spec
+    Inv-loop
+    μ-loop
+    loop-holds
+    onward-requires
+    add-i
+    loop-less
+    loop-again
+    same-length
+    returns)
