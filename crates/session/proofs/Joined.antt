@@ -2,15 +2,17 @@
 -- Assumes nothing.
 use Prim.Native.Nat.{ℕ, _+_, _≤_}
 use mathlib.Core.Path.{_≡_, refl, sym, ap, _∙_}
-use mathlib.Core.Bool.{Bool, true, false}
+use mathlib.Core.Bool.{Bool, true, false, _&&_, true≢false}
 use mathlib.Core.List.{List, [], _++_}
 use native.Mathlib.Omega.{arith}
 use lib.ListN.{length, take, drop, length-take, length-drop, drop-of-length-le}
 use lib.Seq.{drop-drop, drop-at, take-add, length-take-le}
 use lib.Dec.{leb}
 use borrow.Author.Tests.{le-leb, leb-true, leb-false}
+use Rattle.scope.proofs.Ends.{pick-all}
 use Rattle.buffer.specs.Over.{over, joinedAt}
 use Rattle.buffer.proofs.Parts.{length-over, drop-over, take-under, part-over}
+use Rattle.session.specs.Kept.{blockJoined}
 
 -- a part in the middle is the end of a part from the start
 mid : (w : List ℕ) (u j : ℕ) → u ≤ length w → take j (drop u w) ≡ drop u (take (u + j) w)
@@ -57,17 +59,44 @@ module _ (w b : List ℕ) (a : ℕ) where
           let n : length (over w a b) ≤ 16384 = rw l m in
           drop-of-length-le (over w a b) n ∙ sym (drop-of-length-le w m)
 
+both : (a b : Bool) → a && b ≡ true → (a ≡ true) × (b ≡ true)
+both true b e = (refl, e)
+both false b e = absurd (true≢false (sym e))
+
+-- count bytes of a job from first on, joined from `at` on in the work buffer
+module _ (s w : List ℕ) (first count at : ℕ) where
+  block-all : (Q : List ℕ → Type 0)
+      → (first + count ≤ length s → at + count ≤ 16384 → Q (joinedAt (leb (at + count) (length w)) w at (take count (drop first s)))) → Q w
+      → Q (blockJoined s first count at w)
+  unfolding blockJoined
+  block-all Q f q =
+      let a : Bool = leb (first + count) (length s) in
+      let b : Bool = leb (at + count) 16384 in
+      pick-all Q (a && b) (λ t. let z = both a b t in f (leb-true _ _ (z .0)) (leb-true _ _ (z .1))) (λ t. q)
+
+  -- without room for it nothing changes
+  pub block-out : (first + count ≤ length s → at + count ≤ 16384 → ⊥) → blockJoined s first count at w ≡ w
+  block-out f = block-all (λ (x : List ℕ). x ≡ w) (λ h k. absurd (f h k)) refl
+
+  pub block-long : length (blockJoined s first count at w) ≡ length w
+  block-long =
+      block-all (λ (x : List ℕ). length x ≡ length w)
+      (λ h k. joined-length w (take count (drop first s)) at (leb (at + count) (length w)) (rw (block-length s first count h))) refl
+
+  pub block-past : drop 16384 (blockJoined s first count at w) ≡ drop 16384 w
+  block-past =
+      block-all (λ (x : List ℕ). drop 16384 x ≡ drop 16384 w)
+      (λ h k. joined-past w (take count (drop first s)) at (leb (at + count) (length w)) (rw (block-length s first count h)) (rw (block-length s first count h) k)) refl
+
 -- what a join of count bytes of a job from first on, behind those held and those joined, did to the work buffer
 module _ (s w W : List ℕ) (first count used joined k : ℕ) (t : Bool) (e : k ≡ count) (hw : first + count ≤ length s) (hl : used + joined + count ≤ 16384)
     (r : t ≡ leb (used + joined + length (take k (drop first s))) (length w)) (j : W ≡ joinedAt t w (used + joined) (take k (drop first s))) where
   part-length : length (take k (drop first s)) ≡ count
   part-length = rw e (block-length s first count hw)
 
-  pub work-length : length W ≡ length w
-  work-length = rw j (joined-length w (take k (drop first s)) (used + joined) t r)
-
-  pub work-past : drop 16384 W ≡ drop 16384 w
-  work-past = rw j (joined-past w (take k (drop first s)) (used + joined) t r (rw part-length hl))
+  pub work-is : W ≡ blockJoined s first count (used + joined) w
+  unfolding blockJoined
+  work-is = rw (j, r, part-length, e, le-leb (first + count) (length s) hw, le-leb (used + joined + count) 16384 hl)
 
   pub work-joined : 16384 ≤ length w → take (joined + count) (drop used W) ≡ take joined (drop used w) ++ take count (drop first s)
   work-joined h =

@@ -1,3 +1,4 @@
 pub mod Places
 pub mod Earlier
 pub mod Afterwards
+pub mod Kept

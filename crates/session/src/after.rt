@@ -5,6 +5,7 @@ ghost use mathlib.Core.List.{List};
 ghost use Prim.Native.Nat.{ℕ, _+_, _≤_};
 ghost use lib.ListN.{length, drop};
 ghost use Rattle.session.specs.Afterwards.{openedAfter, Begins, Draws, Joins, After};
+ghost use Rattle.session.specs.Kept.{blockJoined, workAfter, rowsEnded, rowsAfter, sumsEnded, sumsAfter};
 ghost use Rattle.session.specs.declared.early.Early.the-variants as early-is;
 ghost use Rattle.session.specs.declared.place.Busy.the-variants as busy-is;
 ghost use Rattle.session.specs.declared.place.Place.the-variants as place-is;
@@ -111,8 +112,7 @@ fn fits(len: usize, first: usize, count: usize, used: usize, joined: usize) -> b
 
 // ReadStream joins its data to what was read of the motif; the answer is how many bytes that makes.
 fn join_block(job: &[u8], o: Operator, work: &mut [u8], used: usize, joined: usize) -> usize
-    ensures { λ _. ⌜ length (now (work .exit)) ≡ length (now (work .entry)) ⌝ }
-    ensures { λ _. ⌜ drop 16384 (now (work .exit)) ≡ drop 16384 (now (work .entry)) ⌝ }
+    ensures { λ _. ⌜ now (work .exit) ≡ blockJoined (now (job .entry)) (o .first) (o .length) (used + joined) (now (work .entry)) ⌝ }
     ensures { λ r. ⌜ Joins (now (job .entry)) o used joined (now (work .entry)) (now (work .exit)) r ⌝ }
 {
     let first = o.first;
@@ -137,8 +137,8 @@ fn hold(
     rows: &mut [usize; 192],
     sums: &mut [u64; 64],
 ) -> Place
-    ensures { λ _. ⌜ length (now (rows .exit)) ≡ length (now (rows .entry)) ⌝ }
-    ensures { λ _. ⌜ length (now (sums .exit)) ≡ length (now (sums .entry)) ⌝ }
+    ensures { λ _. ⌜ now (rows .exit) ≡ rowsEnded (early-is.Held depth sum) held used first count joined (now (rows .entry)) ⌝ }
+    ensures { λ _. ⌜ now (sums .exit) ≡ sumsEnded (early-is.Held depth sum) held used joined (now (sums .entry)) ⌝ }
     ensures { λ r. ⌜ ((job attrs work : List ℕ) (high gray : Bool) (o : Operator) (page : Page) → (o .tag ≡ 0x5c → ⊥)
         → After job attrs high gray o (early-is.Held depth sum) page (now (rows .entry)) (now (sums .entry)) work (place-is.Inside opened held used (busy-is.Reading first count joined))
         (now (rows .exit)) (now (sums .exit)) work r) ⌝ }
@@ -171,8 +171,8 @@ fn ended(
     rows: &mut [usize; 192],
     sums: &mut [u64; 64],
 ) -> Place
-    ensures { λ _. ⌜ length (now (rows .exit)) ≡ length (now (rows .entry)) ⌝ }
-    ensures { λ _. ⌜ length (now (sums .exit)) ≡ length (now (sums .entry)) ⌝ }
+    ensures { λ _. ⌜ now (rows .exit) ≡ rowsEnded early held used first count joined (now (rows .entry)) ⌝ }
+    ensures { λ _. ⌜ now (sums .exit) ≡ sumsEnded early held used joined (now (sums .entry)) ⌝ }
     ensures { λ r. ⌜ ((job attrs work : List ℕ) (high gray : Bool) (o : Operator) (page : Page) → (o .tag ≡ 0x5c → ⊥)
         → After job attrs high gray o early page (now (rows .entry)) (now (sums .entry)) work (place-is.Inside opened held used (busy-is.Reading first count joined))
         (now (rows .exit)) (now (sums .exit)) work r) ⌝ }
@@ -211,10 +211,9 @@ fn reading_after(
     rows: &mut [usize; 192],
     sums: &mut [u64; 64],
 ) -> Place
-    ensures { λ _. ⌜ length (now (work .exit)) ≡ length (now (work .entry)) ⌝ }
-    ensures { λ _. ⌜ length (now (rows .exit)) ≡ length (now (rows .entry)) ⌝ }
-    ensures { λ _. ⌜ length (now (sums .exit)) ≡ length (now (sums .entry)) ⌝ }
-    ensures { λ _. ⌜ drop 16384 (now (work .exit)) ≡ drop 16384 (now (work .entry)) ⌝ }
+    ensures { λ _. ⌜ now (work .exit) ≡ workAfter (now (job .entry)) o (place-is.Inside opened held used (busy-is.Reading first count joined)) (now (work .entry)) ⌝ }
+    ensures { λ _. ⌜ now (rows .exit) ≡ rowsAfter o early (place-is.Inside opened held used (busy-is.Reading first count joined)) (now (rows .entry)) ⌝ }
+    ensures { λ _. ⌜ now (sums .exit) ≡ sumsAfter o early (place-is.Inside opened held used (busy-is.Reading first count joined)) (now (sums .entry)) ⌝ }
     ensures { λ r. ⌜ ((attrs : List ℕ) (high gray : Bool) (page : Page)
         → After (now (job .entry)) attrs high gray o early page (now (rows .entry)) (now (sums .entry)) (now (work .entry))
         (place-is.Inside opened held used (busy-is.Reading first count joined)) (now (rows .exit)) (now (sums .exit)) (now (work .exit)) r) ⌝ }
@@ -243,10 +242,9 @@ fn inside_after(
     rows: &mut [usize; 192],
     sums: &mut [u64; 64],
 ) -> Place
-    ensures { λ _. ⌜ length (now (work .exit)) ≡ length (now (work .entry)) ⌝ }
-    ensures { λ _. ⌜ length (now (rows .exit)) ≡ length (now (rows .entry)) ⌝ }
-    ensures { λ _. ⌜ length (now (sums .exit)) ≡ length (now (sums .entry)) ⌝ }
-    ensures { λ _. ⌜ drop 16384 (now (work .exit)) ≡ drop 16384 (now (work .entry)) ⌝ }
+    ensures { λ _. ⌜ now (work .exit) ≡ workAfter (now (job .entry)) o (place-is.Inside opened held used busy) (now (work .entry)) ⌝ }
+    ensures { λ _. ⌜ now (rows .exit) ≡ rowsAfter o early (place-is.Inside opened held used busy) (now (rows .entry)) ⌝ }
+    ensures { λ _. ⌜ now (sums .exit) ≡ sumsAfter o early (place-is.Inside opened held used busy) (now (sums .entry)) ⌝ }
     ensures { λ r. ⌜ After (now (job .entry)) (now (attrs .entry)) high gray o early page (now (rows .entry)) (now (sums .entry)) (now (work .entry))
         (place-is.Inside opened held used busy) (now (rows .exit)) (now (sums .exit)) (now (work .exit)) r ⌝ }
 {
@@ -295,6 +293,9 @@ pub fn place_after(
     ensures { λ _. ⌜ drop 16384 (now (work .exit)) ≡ drop 16384 (now (work .entry)) ⌝ }
     ensures { λ r. ⌜ After (now (job .entry)) (now (attrs .entry)) high gray o early page (now (rows .entry)) (now (sums .entry)) (now (work .entry)) place
         (now (rows .exit)) (now (sums .exit)) (now (work .exit)) r ⌝ }
+    ensures { λ _. ⌜ now (work .exit) ≡ workAfter (now (job .entry)) o place (now (work .entry)) ⌝ }
+    ensures { λ _. ⌜ now (rows .exit) ≡ rowsAfter o early place (now (rows .entry)) ⌝ }
+    ensures { λ _. ⌜ now (sums .exit) ≡ sumsAfter o early place (now (sums .entry)) ⌝ }
 {
     match place {
         Place::Outside(_) => Place::Inside(false, 0, 0, Busy::Resting),

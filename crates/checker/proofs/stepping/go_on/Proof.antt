@@ -85,7 +85,7 @@ returns-2 c =
             let y = e .list-operator .ensures .1 .0 z (comes-bytes (a .job .now) list₀ set d o (a .early) (a .page) (a .performed) m) in
             listed-go (a .job .now) list₀ _ (a .st) d set o (a .o .count) h (sym (length-rows (a .attrs .now) (a .o .count))) l (m .rules) _ _
             (sym f ∙ y .0) refl
-            (k .1 .1 .1 .1 .keeps (d .place) d (comes-in (a .job .now) (a .attrs .now) _ _ _ list₀ set d (a .o) (a .early) (a .page) (a .performed) (a .st .place) (h .place) z (h .rows-long) (h .sums-long) (st .pre .1) w m))
+            (k .1 .1 .1 .1 .0 .keeps (d .place) d (comes-in (a .job .now) (a .attrs .now) _ _ _ list₀ set d (a .o) (a .early) (a .page) (a .performed) (a .st .place) (h .place) z (h .rows-long) (h .sums-long) (st .pre .1) w m))
             (m .counts) refl (rw f at (y .1)) (k .1 .0) (k .1 .1 .0),
       ),
     )

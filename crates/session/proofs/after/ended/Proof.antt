@@ -1,6 +1,7 @@
 -- `session::after::ended` meets its contract: only a valid motif comes.
 -- Assumes nothing.
 use Rattle.session.proofs.Going.{fine-after, call-after, no-after}
+use Rattle.session.specs.Kept.{rowsEnded, sumsEnded}
 use mathlib.Core.Path.{refl}
 use borrow.Author.Needs.{needs}
 use Rattle.session.proofs.after.ended.Statement.{statement}
@@ -25,24 +26,26 @@ enum-told-3 : tie.Need-enum-told-3
 enum-told-3 c = search needs
 
 returns : tie.Need-returns
+unfolding rowsEnded sumsEnded
 returns c =
     let a = c .before .before .args in
-    (refl, (refl, rw (c .enum-told .given .1) (λ job attrs work high gray o page nr. fine-after job attrs high gray o (a .rows .now) (a .sums .now) work nr)))
+    rw (c .enum-told .given .1) (refl, (refl, λ job attrs work high gray o page nr. fine-after job attrs high gray o (a .rows .now) (a .sums .now) work nr))
 
 returns-2 : tie.Need-returns-2
+unfolding rowsEnded sumsEnded
 returns-2 c =
     let a = c .before .before .args in
-    (refl, (refl, rw (c .enum-told2 .given .1) (λ job attrs work high gray o page nr. call-after job attrs high gray o (a .rows .now) (a .sums .now) work nr)))
+    rw (c .enum-told2 .given .1) (refl, (refl, λ job attrs work high gray o page nr. call-after job attrs high gray o (a .rows .now) (a .sums .now) work nr))
 
 returns-3 : tie.Need-returns-3
 returns-3 c =
-    let h = c .hold in
-    (h .ensures .0, (h .ensures .1 .0, rw (c .before .before .before .before .early .given .1) (h .ensures .1 .1)))
+    rw (c .before .before .before .before .early .given .1) (c .hold .ensures)
 
 returns-4 : tie.Need-returns-4
+unfolding rowsEnded sumsEnded
 returns-4 c =
     let a = c .before .before .args in
-    (refl, (refl, rw (c .enum-told3 .given .1) (λ job attrs work high gray o page nr. no-after job attrs high gray o (a .rows .now) (a .sums .now) work nr)))
+    rw (c .enum-told3 .given .1) (refl, (refl, λ job attrs work high gray o page nr. no-after job attrs high gray o (a .rows .now) (a .sums .now) work nr))
 
 pub ended-spec : {M : Type 1} → statement M
 ended-spec =

@@ -1,7 +1,8 @@
 -- `session::after::hold` meets its contract: the row and the summary stored are those of the motif.
 -- Assumes nothing.
 use Rattle.session.proofs.Going.{hold-after, full-after}
-use lib.ListN.{length-set}
+use Rattle.session.specs.Kept.{mayHold, rowsEnded, sumsEnded}
+use borrow.Author.Tests.{le-ltb, lt-ltb, le-leb, lt-leb}
 use native.Mathlib.Omega.{arith}
 use mathlib.Core.Path.{refl}
 use borrow.Author.Needs.{needs}
@@ -11,19 +12,28 @@ use Rattle.session.proofs.after.hold.Reads as reads
 use Rattle.session.proofs.after.hold.Lts as lts
 
 returns : tie.Need-returns
+unfolding rowsEnded sumsEnded mayHold
 returns c =
     let a = c .before .args in
-    (refl, (refl, λ job attrs work high gray o page nr. full-after job attrs high gray o (a .rows .now) (a .sums .now) work nr (a .depth) (a .sum) (λ h k. omega arith)))
+    let e = le-ltb (a .held) 64 (omega arith) in
+    rw e (refl, (refl, λ job attrs work high gray o page nr. full-after job attrs high gray o (a .rows .now) (a .sums .now) work nr (a .depth) (a .sum) (λ h k. omega arith)))
 
 returns-2 : tie.Need-returns-2
+unfolding rowsEnded sumsEnded mayHold
 returns-2 c =
     let a = c .before .before .args in
-    (refl, (refl, λ job attrs work high gray o page nr. full-after job attrs high gray o (a .rows .now) (a .sums .now) work nr (a .depth) (a .sum) (λ h k. omega arith)))
+    let e = lt-ltb (a .held) 64 (omega arith) in
+    let f = lt-leb (a .used) 16384 (omega arith) in
+    rw (e, f) (refl, (refl, λ job attrs work high gray o page nr. full-after job attrs high gray o (a .rows .now) (a .sums .now) work nr (a .depth) (a .sum) (λ h k. omega arith)))
 
 returns-3 : tie.Need-returns-3
+unfolding rowsEnded sumsEnded mayHold
 returns-3 c =
     let a = c .before .before .before .args in
-    (refl, (refl, λ job attrs work high gray o page nr. full-after job attrs high gray o (a .rows .now) (a .sums .now) work nr (a .depth) (a .sum) (λ h k. omega arith)))
+    let e = lt-ltb (a .held) 64 (omega arith) in
+    let f = le-leb (a .used) 16384 (omega arith) in
+    let g = lt-leb (a .joined) 16384 (omega arith) in
+    rw (e, f, g) (refl, (refl, λ job attrs work high gray o page nr. full-after job attrs high gray o (a .rows .now) (a .sums .now) work nr (a .depth) (a .sum) (λ h k. omega arith)))
 
 mul-rows : tie.Need-mul-rows
 mul-rows c = search needs
@@ -71,9 +81,13 @@ add-t12 : tie.Need-add-t12
 add-t12 c = search needs
 
 returns-4 : tie.Need-returns-4
+unfolding rowsEnded sumsEnded mayHold
 returns-4 c =
     let a = c .before .before .before .args in
-    (simp length-set, (simp length-set, λ job attrs work high gray o page nr. hold-after job attrs high gray o (a .rows .now) (a .sums .now) work nr (a .depth) (a .sum)))
+    let e = lt-ltb (a .held) 64 (omega arith) in
+    let f = le-leb (a .used) 16384 (omega arith) in
+    let g = le-leb (a .joined) 16384 (omega arith) in
+    rw (e, f, g) (refl, (refl, λ job attrs work high gray o page nr. hold-after job attrs high gray o (a .rows .now) (a .sums .now) work nr (a .depth) (a .sum)))
 
 pub hold-spec : {M : Type 1} → statement M
 hold-spec =

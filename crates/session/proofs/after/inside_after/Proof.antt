@@ -1,6 +1,7 @@
 -- `session::after::inside_after` meets its contract: case by case of what the session is at.
 -- Assumes nothing.
 use Rattle.session.proofs.Going.{draw-after}
+use Rattle.session.specs.Kept.{workAfter, rowsAfter, sumsAfter}
 use mathlib.Core.Path.{refl}
 use borrow.Author.Needs.{needs}
 use Rattle.session.proofs.after.inside_after.Statement.{statement}
@@ -30,9 +31,11 @@ drawn-on-requires : tie.Need-drawn-on-requires
 drawn-on-requires c κs = search needs
 
 returns : tie.Need-returns
+unfolding workAfter rowsAfter sumsAfter
 returns c =
     let a = c .before .before .before .before .before .args in
-    (refl, (refl, (refl, (refl, rw (c .before .enum-told .given .1) (c .resting-after .ensures (a .high) (a .early) (a .page) (a .rows .now) (a .sums .now) (a .work .now))))))
+    rw (c .before .enum-told .given .1)
+    (refl, (refl, (refl, c .resting-after .ensures (a .high) (a .early) (a .page) (a .rows .now) (a .sums .now) (a .work .now))))
 
 same-length : tie.Need-same-length
 same-length c = search needs
@@ -41,37 +44,17 @@ returns-2 : tie.Need-returns-2
 returns-2 c =
     let r = c .before .before .reading-after in
     let y = c .before .before .before .before .before .before .before in
-    let a = y .before .before .before .before .args in (
-      r .ensures .0,
-      (
-        r .ensures .1 .0,
-        (
-          r .ensures .1 .1 .0,
-          (
-            r .ensures .1 .1 .1 .0,
-            rw (y .busy .given .1) (r .ensures .1 .1 .1 .1 (a .attrs .now) (a .high) (a .gray) (a .page)),
-          ),
-        ),
-      ),
-    )
+    let a = y .before .before .before .before .args in
+    rw (y .busy .given .1)
+    (r .ensures .0, (r .ensures .1 .0, (r .ensures .1 .1 .0, r .ensures .1 .1 .1 (a .attrs .now) (a .high) (a .gray) (a .page))))
 
 returns-3 : tie.Need-returns-3
+unfolding workAfter rowsAfter sumsAfter
 returns-3 c =
     let y = c .before .before in
-    let a = y .before .before .before .before .args in (
-      refl,
-      (
-        refl,
-        (
-          refl,
-          (
-            refl,
-            rw (y .busy2 .given .1) (draw-after (a .job .now) (a .attrs .now) (a .high) (a .gray) (a .o) (a .rows .now) (a .sums .now) (a .work .now)
-                (c .drawn-on .result) (c .drawn-on .ensures)),
-          ),
-        ),
-      ),
-    )
+    let a = y .before .before .before .before .args in
+    let k = draw-after (a .job .now) (a .attrs .now) (a .high) (a .gray) (a .o) (a .rows .now) (a .sums .now) (a .work .now) (c .drawn-on .result) (c .drawn-on .ensures) in
+    rw (y .busy2 .given .1) (refl, (refl, (refl, k)))
 
 pub inside-after-spec : {M : Type 1} → statement M
 inside-after-spec =

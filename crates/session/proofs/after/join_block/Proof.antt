@@ -1,7 +1,8 @@
 -- `session::after::join_block` meets its contract: the block stands behind the bytes joined before.
 -- Assumes nothing.
-use Rattle.session.proofs.Joined.{work-length, work-past, work-joined}
-use Prim.Native.Nat.{_+_, _-_}
+use Rattle.session.proofs.Joined.{block-out, work-is, work-joined}
+use Prim.Native.Nat.{_+_, _-_, _≤_}
+use lib.ListN.{length}
 use mathlib.Core.Path.{_≡_, refl, sym, _∙_}
 use borrow.Author.Tests.{not-true, not-false}
 use native.Mathlib.Omega.{arith}
@@ -19,8 +20,10 @@ fits-requires c κs = search needs
 
 returns : tie.Need-returns
 returns c =
-    let f = c .before .fits2 in
-    (refl, (refl, λ h w k. absurd (true≢false (sym (f .ensures .1 w k) ∙ not-true _ (c .if1 .taken)))))
+    let a = c .before .before .before .before .args in
+    let no : a .o .first + a .o .length ≤ length (a .job .now) → a .used + a .joined + a .o .length ≤ 16384 → ⊥ =
+    λ h k. true≢false (sym (c .before .fits2 .ensures .1 h k) ∙ not-true _ (c .if1 .taken)) in
+    (sym (block-out (a .job .now) (a .work .now) (a .o .first) (a .o .length) (a .used + a .joined) no), λ l h k. absurd (no h k))
 
 add-join : tie.Need-add-join
 add-join c =
@@ -65,11 +68,8 @@ returns-2 c =
     let l : a .o .first + a .o .length - a .o .first ≡ a .o .length = omega arith in
     let W = j .join .last .1 .0 in
     let n = a .o .first + a .o .length - a .o .first in (
-      work-length (a .job .now) (a .work .now) W (a .o .first) (a .o .length) (a .used) (a .joined) n (j .join .result) l (f .0) (f .1) (j .join .ensures .0) (j .join .ensures .1),
-      (
-        work-past (a .job .now) (a .work .now) W (a .o .first) (a .o .length) (a .used) (a .joined) n (j .join .result) l (f .0) (f .1) (j .join .ensures .0) (j .join .ensures .1),
-        λ h w k. (refl, work-joined (a .job .now) (a .work .now) W (a .o .first) (a .o .length) (a .used) (a .joined) n (j .join .result) l (f .0) (f .1) (j .join .ensures .0) (j .join .ensures .1) h),
-      ),
+      work-is (a .job .now) (a .work .now) W (a .o .first) (a .o .length) (a .used) (a .joined) n (j .join .result) l (f .0) (f .1) (j .join .ensures .0) (j .join .ensures .1),
+      λ h w k. (refl, work-joined (a .job .now) (a .work .now) W (a .o .first) (a .o .length) (a .used) (a .joined) n (j .join .result) l (f .0) (f .1) (j .join .ensures .0) (j .join .ensures .1) h),
     )
 
 pub join-block-spec : {M : Type 1} → statement M

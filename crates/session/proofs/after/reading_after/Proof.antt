@@ -1,7 +1,8 @@
 -- `session::after::reading_after` meets its contract: ReadStream, else EndStream.
 -- Assumes nothing.
 use Rattle.session.proofs.Going.{block-after}
-use mathlib.Core.Path.{refl}
+use Rattle.session.specs.Kept.{workAfter, rowsAfter, sumsAfter}
+use borrow.Author.Tests.{eq-eqb, ne-eqb}
 use borrow.Author.Needs.{needs}
 use Rattle.session.proofs.after.reading_after.Statement.{statement}
 use Rattle.session.proofs.after.reading_after.Tie as tie
@@ -17,20 +18,19 @@ same-length : tie.Need-same-length
 same-length c = search needs
 
 returns : tie.Need-returns
+unfolding workAfter rowsAfter sumsAfter
 returns c =
     let j = c .before .before in
     let t = j .before .before in
     let a = t .before .before .before .before .args in
-    let b = j .join-block in (
-      b .ensures .0,
+    let b = j .join-block in
+    let e = eq-eqb (a .o .tag) 0x5c (t .if1 .taken) in (
+      rw e (b .ensures .0),
       (
-        refl,
+        rw e,
         (
-          refl,
-          (
-            b .ensures .1 .0,
-            λ attrs high gray page. block-after (a .job .now) attrs high gray (a .o) (a .rows .now) (a .sums .now) (a .work .now) (b .last .1 .1 .0) (b .result) (t .if1 .taken) (b .ensures .1 .1),
-          ),
+          rw e,
+          λ attrs high gray page. block-after (a .job .now) attrs high gray (a .o) (a .rows .now) (a .sums .now) (a .work .now) (b .last .1 .1 .0) (b .result) (t .if1 .taken) (b .ensures .1),
         ),
       ),
     )
@@ -39,19 +39,18 @@ ended-requires : tie.Need-ended-requires
 ended-requires c κs = search needs
 
 returns-2 : tie.Need-returns-2
+unfolding workAfter rowsAfter sumsAfter
 returns-2 c =
     let l = c .before .before .before in
     let a = l .before .before .before .before .args in
-    let b = c .ended in (
-      refl,
+    let b = c .ended in
+    let e = ne-eqb (a .o .tag) 0x5c (l .if1 .left) in (
+      rw e,
       (
-        b .ensures .0,
+        rw e (b .ensures .0),
         (
-          b .ensures .1 .0,
-          (
-            refl,
-            λ attrs high gray page. b .ensures .1 .1 (a .job .now) attrs (a .work .now) high gray (a .o) page (l .if1 .left),
-          ),
+          rw e (b .ensures .1 .0),
+          λ attrs high gray page. b .ensures .1 .1 (a .job .now) attrs (a .work .now) high gray (a .o) page (l .if1 .left),
         ),
       ),
     )
