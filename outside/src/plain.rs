@@ -662,23 +662,33 @@ fn judge_motif(name: Vec<u8>, bytes: &[u8], held: &[Motif]) -> Result<Motif, Fau
     Ok(motif)
 }
 
-/// Performs a motif and the calls in it, one operator after the other, on an unlimited stack of saved states.
-fn walk(held: &[Motif], index: usize, stack: &mut Vec<Look>, found: &mut Walk) {
-    for &step in &held[index].steps {
-        found.cursor_broken |= step.breaks_cursor(found.look);
-        found.gray_broken |= step.breaks_gray(found.look);
+impl Walk {
+    /// One operator of a motif, without what a call comes to.
+    fn meet(&mut self, step: Step, stack: &mut Vec<Look>) {
+        self.cursor_broken |= step.breaks_cursor(self.look);
+        self.gray_broken |= step.breaks_gray(self.look);
         match step {
             Step::Save => {
-                stack.push(found.look);
-                found.saved = found.saved.max(stack.len());
+                stack.push(self.look);
+                self.saved = self.saved.max(stack.len());
             }
             Step::Restore => {
                 if let Some(look) = stack.pop() {
-                    found.look = look;
+                    self.look = look;
                 }
             }
-            Step::Call(called) => walk(held, called, stack, found),
-            _ => step.change(&mut found.look),
+            Step::Call(_) => {}
+            _ => step.change(&mut self.look),
+        }
+    }
+}
+
+/// Performs a motif and the calls in it, one operator after the other, on an unlimited stack of saved states.
+fn walk(held: &[Motif], index: usize, stack: &mut Vec<Look>, found: &mut Walk) {
+    for &step in &held[index].steps {
+        found.meet(step, stack);
+        if let Step::Call(called) = step {
+            walk(held, called, stack, found);
         }
     }
 }
@@ -703,26 +713,13 @@ impl<'a> Facts<'a> {
         let mut stack = Vec::new();
         let mut found = Walk { look, saved: 0, cursor_broken: false, gray_broken: false };
         for &step in &held[index].steps {
-            found.cursor_broken |= step.breaks_cursor(found.look);
-            found.gray_broken |= step.breaks_gray(found.look);
-            match step {
-                Step::Save => {
-                    stack.push(found.look);
-                    found.saved = found.saved.max(stack.len());
-                }
-                Step::Restore => {
-                    if let Some(look) = stack.pop() {
-                        found.look = look;
-                    }
-                }
-                Step::Call(called) => {
-                    let inside = self.of(called, found.look);
-                    found.look = inside.look;
-                    found.saved = found.saved.max(stack.len() + inside.saved);
-                    found.cursor_broken |= inside.cursor_broken;
-                    found.gray_broken |= inside.gray_broken;
-                }
-                _ => step.change(&mut found.look),
+            found.meet(step, &mut stack);
+            if let Step::Call(called) = step {
+                let inside = self.of(called, found.look);
+                found.look = inside.look;
+                found.saved = found.saved.max(stack.len() + inside.saved);
+                found.cursor_broken |= inside.cursor_broken;
+                found.gray_broken |= inside.gray_broken;
             }
         }
         self.known[index][slot] = Some(found);

@@ -5,6 +5,7 @@ use mathlib.Core.Path.{_≡_, refl}
 use mathlib.Core.Bool.{Bool}
 use mathlib.Core.List.{List}
 use lib.Dec.{eqb}
+use Rattle.scope.specs.Names.{BeginImage, ReadImage, EndImage, BlockHeight}
 use Rattle.scope.specs.Choice.{pick}
 use Rattle.scope.specs.Item.{Attribute}
 use Rattle.scope.specs.Attributes.{valueIn}
@@ -27,5 +28,5 @@ imageIn (Def.being i) = i
 -- the image after an operator of this tag with these attributes
 unfoldable pub pictureFor : Bool → List ℕ → ℕ → List Attribute → Def.Picture → Def.Picture
 pictureFor high s tag l p =
-    pick (eqb tag 0xb0) (Def.begun high s l)
-    (pick (eqb tag 0xb1) (Def.readOn (valueIn high s l 99) p) (pick (eqb tag 0xb2) Def.Picture.none p))
+    pick (eqb tag BeginImage) (Def.begun high s l)
+    (pick (eqb tag ReadImage) (Def.readOn (valueIn high s l BlockHeight) p) (pick (eqb tag EndImage) Def.Picture.none p))

@@ -7,6 +7,7 @@ use mathlib.Core.List.{List, [], _++_}
 use lib.ListN.{length, take, drop}
 use lib.Dec.{eqb}
 use Rattle.wire.specs.Rows.{rowsOf, Sized}
+use Rattle.scope.specs.Names.{OpenDataSource, CloseDataSource, BeginPage, EndPage, BeginStream, StreamName}
 use Rattle.scope.specs.Choice.{pick}
 use Rattle.scope.specs.Item.{Attribute}
 use Rattle.scope.specs.Attributes.{bytesIn}
@@ -32,17 +33,17 @@ use Rattle.session.specs.declared.place.Place.{Place}
 
 -- the source after an operator in a session at rest
 unfoldable pub openedAfter : ℕ → Bool → Bool
-openedAfter tag opened = pick (eqb tag 0x48) true (pick (eqb tag 0x49) false opened)
+openedAfter tag opened = pick (eqb tag OpenDataSource) true (pick (eqb tag CloseDataSource) false opened)
 
 -- what a session at rest is at after an operator
 unfoldable pub restingAfter : Bool → List ℕ → ℕ → List Attribute → scope.Busy
 restingAfter gray s tag l =
-    pick (eqb tag 0x43) (scope.drawing (blank gray) motif.Picture.none) (pick (eqb tag 0x5b) (scope.reading (bytesIn s l 139) []) scope.resting)
+    pick (eqb tag BeginPage) (scope.drawing (blank gray) motif.Picture.none) (pick (eqb tag BeginStream) (scope.reading (bytesIn s l StreamName) []) scope.resting)
 
 -- r is what a session at rest is at after the operator
 abbrev pub Begins : (job attrs : List ℕ) (gray : Bool) (o : Operator) → Busy → Type 0
 Begins job attrs gray o r =
-    (work : List ℕ) (n used : ℕ) → Sized attrs (o .count) → used ≤ 16384 → (o .tag ≡ 0x5b → n < 64)
+    (work : List ℕ) (n used : ℕ) → Sized attrs (o .count) → used ≤ 16384 → (o .tag ≡ BeginStream → n < 64)
     → BusyHolds job work n used r (restingAfter gray job (o .tag) (rowsOf attrs (o .count)))
 
 -- r is what a session in a page, perhaps with an image open, is at after the operator, which leaves the page so
@@ -51,7 +52,7 @@ Draws job attrs high o page picture r =
     (work : List ℕ) (n used : ℕ) (q : arm.Page) → Sized attrs (o .count) → PageHolds page q
     → rowsFit high job (imageIn (pictureAs picture)) (o .tag) (rowsOf attrs (o .count)) ≡ true
     → BusyHolds job work n used r
-    (pick (eqb (o .tag) 0x44) scope.resting (scope.drawing q (pictureFor high job (o .tag) (rowsOf attrs (o .count)) (pictureAs picture))))
+    (pick (eqb (o .tag) EndPage) scope.resting (scope.drawing q (pictureFor high job (o .tag) (rowsOf attrs (o .count)) (pictureAs picture))))
 
 -- the data of the operator stands in the work buffer behind the bytes joined before, and r bytes are joined then
 abbrev pub Joins : (job : List ℕ) (o : Operator) (used joined : ℕ) (work work₁ : List ℕ) → ℕ → Type 0

@@ -5,6 +5,7 @@ use mathlib.Core.Path.{_≡_}
 use mathlib.Core.Bool.{Bool, true, false}
 use mathlib.Core.List.{List, _∷_}
 use lib.Dec.{eqb}
+use Rattle.scope.specs.Names.{EndStream, ExecStream}
 use Rattle.scope.specs.Motif.{unfolded, Picture}
 use Rattle.scope.specs.Session.{Session, Busy, drawing}
 use Rattle.scope.specs.Arm.{Page}
@@ -31,9 +32,9 @@ pub record Unbroken (c : Case) : Type 0 where
 
 -- the answer of the code: none is broken, and what the operator goes on with; or the first that is
 pub data Earlies (c : Case) : Early → Type 0 where
-  early-fine : eqb (c .op .tag) 0x5e ≡ false → eqb (c .op .tag) 0x5d ≡ false → Unbroken c → Earlies c Fine
-  early-call : {v : ℕ} → eqb (c .op .tag) 0x5e ≡ true → SumsAs v (unfolded (c .session .held) (c .name)) → Unbroken c → Earlies c (Call v)
-  early-held : {n v : ℕ} → eqb (c .op .tag) 0x5d ≡ true → Judges (c .session .held) (Valid n v) (c .made) → Unbroken c → Earlies c (Held n v)
+  early-fine : eqb (c .op .tag) ExecStream ≡ false → eqb (c .op .tag) EndStream ≡ false → Unbroken c → Earlies c Fine
+  early-call : {v : ℕ} → eqb (c .op .tag) ExecStream ≡ true → SumsAs v (unfolded (c .session .held) (c .name)) → Unbroken c → Earlies c (Call v)
+  early-held : {n v : ℕ} → eqb (c .op .tag) EndStream ≡ true → Judges (c .session .held) (Valid n v) (c .made) → Unbroken c → Earlies c (Held n v)
   early-no : {code inner : ℕ} → ((rest : List Rule) → firstBroken every c (before rest) ≡ refused code inner) → Earlies c (No code inner)
 
 -- the answer of the code to an operator with these attributes in a session, whatever was performed before

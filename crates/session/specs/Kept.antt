@@ -8,6 +8,7 @@ use mathlib.Core.List.{List}
 use lib.ListN.{length, take, drop, set}
 use lib.Dec.{eqb, leb, ltb}
 use Rattle.scope.specs.Choice.{pick}
+use Rattle.scope.specs.Names.{ReadStream}
 use Rattle.reader.specs.declared.reading.Operator.{Operator}
 use Rattle.buffer.specs.Over.{joinedAt}
 use Rattle.session.specs.declared.early.Early.{Early}
@@ -26,7 +27,7 @@ unfoldable pub workAfter : (job : List ℕ) → Operator → Place → List ℕ 
 workAfter job o (Outside again) work = work
 workAfter job o (Inside opened held used Resting) work = work
 workAfter job o (Inside opened held used (Reading first count joined)) work =
-    pick (eqb (o .tag) 0x5c) (blockJoined job (o .first) (o .length) (used + joined) work) work
+    pick (eqb (o .tag) ReadStream) (blockJoined job (o .first) (o .length) (used + joined) work) work
 workAfter job o (Inside opened held used (Drawing page picture)) work = work
 
 -- there is a row for one motif more, and neither the bytes held nor those joined pass 16,384
@@ -46,7 +47,7 @@ unfoldable pub rowsAfter : Operator → Early → Place → List ℕ → List �
 rowsAfter o early (Outside again) rows = rows
 rowsAfter o early (Inside opened held used Resting) rows = rows
 rowsAfter o early (Inside opened held used (Reading first count joined)) rows =
-    pick (eqb (o .tag) 0x5c) rows (rowsEnded early held used first count joined rows)
+    pick (eqb (o .tag) ReadStream) rows (rowsEnded early held used first count joined rows)
 rowsAfter o early (Inside opened held used (Drawing page picture)) rows = rows
 
 -- the summaries after EndStream: that of a valid motif is written
@@ -60,5 +61,5 @@ sumsEnded (No code inner) held used joined sums = sums
 unfoldable pub sumsAfter : Operator → Early → Place → List ℕ → List ℕ
 sumsAfter o early (Outside again) sums = sums
 sumsAfter o early (Inside opened held used Resting) sums = sums
-sumsAfter o early (Inside opened held used (Reading first count joined)) sums = pick (eqb (o .tag) 0x5c) sums (sumsEnded early held used joined sums)
+sumsAfter o early (Inside opened held used (Reading first count joined)) sums = pick (eqb (o .tag) ReadStream) sums (sumsEnded early held used joined sums)
 sumsAfter o early (Inside opened held used (Drawing page picture)) sums = sums

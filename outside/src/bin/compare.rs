@@ -68,7 +68,7 @@ fn main() -> ExitCode {
         (None, _) => (100_000, 1),
         _ => {
             eprintln!("compare N S: N cases from seed S");
-            return ExitCode::from(2);
+            return ExitCode::FAILURE;
         }
     };
 
@@ -83,7 +83,7 @@ fn main() -> ExitCode {
         }
         Err(e) => {
             eprintln!("{e}");
-            return ExitCode::from(2);
+            return ExitCode::FAILURE;
         }
     }
 
