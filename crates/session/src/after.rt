@@ -69,7 +69,7 @@ fn resting_after(
     )
 }
 
-// EndPage ends a page; another operator leaves it as given, and perhaps an image open.
+// EndPage ends a page; another operator leaves it as given, and perhaps an image open. Few are of an image, so that is asked first.
 fn drawn_on(
     job: &[u8],
     high: bool,
@@ -83,6 +83,9 @@ fn drawn_on(
     let tag = o.tag;
     if tag == 0x44 {
         return Busy::Resting;
+    }
+    if tag < 0xb0 {
+        return Busy::Drawing(page, picture);
     }
     Busy::Drawing(
         page,

@@ -80,6 +80,31 @@ fn judged(
     })
 }
 
+/// 32 motifs, each of four calls of the one before: 4 to the 32nd, 2 to the 64th operators.
+fn tower() -> Vec<u8> {
+    let mut text = String::from(
+        "header low; BeginSession Measure=0 UnitsPerMeasure=(600,600); OpenDataSource SourceType=0 DataOrg=1\n",
+    );
+    text.push_str("motif [1] { header low; repeat 4 { PaintPath } }\n");
+    for k in 2..=32 {
+        text.push_str(&format!("motif [{k}] {{ header low; repeat 4 {{ ExecStream StreamName=[{}] }} }}\n", k - 1));
+    }
+    text.push_str(
+        "BeginPage Orientation=0 MediaSize=0; ExecStream StreamName=[32]; EndPage; CloseDataSource; EndSession\n",
+    );
+    assemble(&text).expect("a tower")
+}
+
+/// Judges jobs on a stack of 64 KiB; past its end the system kills the program.
+fn on_a_small_stack(jobs: Vec<Vec<u8>>) -> usize {
+    let judge = move || {
+        let (mut work, mut list) = (vec![0u8; plain::STORE], vec![0u8; 16 * (LONG + 1)]);
+        jobs.iter().map(|job| black_box(ffi::check(job, &mut work, &mut list))).count()
+    };
+    let thread = std::thread::Builder::new().stack_size(64 * 1024).spawn(judge);
+    thread.expect("a thread").join().expect("the thread ends")
+}
+
 fn micros(d: Duration) -> f64 {
     d.as_secs_f64() * 1e6
 }
@@ -126,18 +151,7 @@ fn main() {
     }
     println!("growth is the time for 61,440 bytes by that for 6,144; 10 is in proportion");
 
-    // 32 motifs, each of four calls of the one before: 4 to the 32nd, 2 to the 64th operators.
-    let mut tower = String::from(
-        "header low; BeginSession Measure=0 UnitsPerMeasure=(600,600); OpenDataSource SourceType=0 DataOrg=1\n",
-    );
-    tower.push_str("motif [1] { header low; repeat 4 { PaintPath } }\n");
-    for k in 2..=32 {
-        tower.push_str(&format!("motif [{k}] {{ header low; repeat 4 {{ ExecStream StreamName=[{}] }} }}\n", k - 1));
-    }
-    tower.push_str(
-        "BeginPage Orientation=0 MediaSize=0; ExecStream StreamName=[32]; EndPage; CloseDataSource; EndSession\n",
-    );
-    let tower = vec![assemble(&tower).expect("a tower")];
+    let tower = vec![tower()];
     let want = plain::check(&tower[0], &mut work, &mut list);
     let got = ffi::check(&tower[0], &mut work, &mut list);
     faulty |= want.code != 26 || got != want;
@@ -149,6 +163,8 @@ fn main() {
         micros(linked),
         micros(own)
     );
+    let jobs = kinds(LONG).into_iter().filter_map(|(_, jobs)| jobs.into_iter().next()).chain(tower).collect();
+    println!("on a stack of 64 KiB: {} jobs judged", on_a_small_stack(jobs));
     if faulty {
         std::process::exit(1);
     }
