@@ -4,7 +4,7 @@ use Prim.Native.Nat.{ℕ, zero, suc, _+_, _*_, _<_}
 use mathlib.Core.Bool.{Bool, false}
 use mathlib.Core.List.{List}
 use lib.ListN.{length, getD, take, drop}
-use lib.Dec.{leb}
+use lib.Dec.{leb, ltb}
 use Rattle.scope.specs.Choice.{pick, same}
 use Rattle.motif.specs.declared.names.Where.{Where}
 use Rattle.motif.specs.declared.names.Where.the-variants.{At, Nowhere}
@@ -17,6 +17,11 @@ isName job at long name = pick (leb (at + long) (length job)) (same (take long (
 unfoldable pub findIn : (job rows name : List ℕ) → ℕ → Where
 findIn job rows name zero = Nowhere
 findIn job rows name (suc i) = pick (isName job (getD rows (i * 3) 0) (getD rows (i * 3 + 1) 0) name) (At i) (findIn job rows name i)
+
+-- the row under which a name is found that is count bytes of s from first on; none where they do not lie within s
+unfoldable pub foundIn : (job rows : List ℕ) (held : ℕ) (s : List ℕ) (first count : ℕ) → Where
+foundIn job rows held s first count =
+    pick (leb (first + count) (length s)) (findIn job rows (take count (drop first s)) (pick (ltb held 64) held 64)) Nowhere
 
 -- a row that is found is one of 64
 abbrev pub Row : Where → Type 0

@@ -3,11 +3,11 @@ ghost use mathlib.Core.Path.{_≡_};
 ghost use mathlib.Core.List.{List};
 ghost use Prim.Native.Nat.{ℕ, _+_, _≤_, _<_};
 ghost use lib.ListN.{length, take, drop};
-ghost use lib.Dec.{leb};
-ghost use Rattle.scope.specs.Choice.{same};
+ghost use lib.Dec.{leb, ltb};
+ghost use Rattle.scope.specs.Choice.{same, pick};
 ghost use Rattle.scope.specs.Motif.{Motif};
 ghost use Rattle.motif.specs.Held.{Keeps, Finds};
-ghost use Rattle.motif.specs.Search.{Row, isName, findIn};
+ghost use Rattle.motif.specs.Search.{Row, isName, findIn, foundIn};
 
 // The row of a held motif, or none.
 pub enum Where {
@@ -75,6 +75,7 @@ fn search(job: &[u8], rows: &[usize; 192], n: usize, s: &[u8], first: usize, cou
 fn in_use(held: usize) -> usize
     ensures { λ r. ⌜ r ≤ 64 ⌝ }
     ensures { λ r. ⌜ (held ≤ 64 → r ≡ held) ⌝ }
+    ensures { λ r. ⌜ r ≡ pick (ltb held 64) held 64 ⌝ }
 {
     if held < 64 { held } else { 64 }
 }
@@ -90,6 +91,7 @@ pub fn find(
 ) -> Where
     ensures { λ r. ⌜ Row r ⌝ }
     ensures { λ r. ⌜ ((sums : List ℕ) (ms : List Motif) → held ≤ 64 → Keeps (now (job .entry)) (now (rows .entry)) sums held ms → first + count ≤ length (now (s .entry)) → Finds (now (rows .entry)) sums ms (take count (drop first (now (s .entry)))) r) ⌝ }
+    ensures { λ r. ⌜ r ≡ foundIn (now (job .entry)) (now (rows .entry)) held (now (s .entry)) first count ⌝ }
 {
     if !lies_within(first, count, s.len()) {
         return Where::Nowhere;

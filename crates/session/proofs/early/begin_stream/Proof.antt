@@ -33,7 +33,7 @@ returns-2 c =
     let n = f .before .name-in in
     let a = f .before .before .before .before .args in
     λ sums x h k z t. begin-at (a .job .now) (a .attrs .now) x (a .o) t (keeps-length k) (f .before .before .if1 .left) (n .ensures .1 z)
-    (rw (c .enum-told .given .1) at (f .find .ensures .1 sums (x .held) h k (n .ensures .0)))
+    (rw (c .enum-told .given .1) at (f .find .ensures .1 .0 sums (x .held) h k (n .ensures .0)))
 
 returns-3 : tie.Need-returns-3
 returns-3 c =
@@ -41,7 +41,7 @@ returns-3 c =
     let n = f .before .name-in in
     let a = f .before .before .before .before .args in
     λ sums x h k z t. begin-nowhere (a .job .now) (a .attrs .now) x (a .o) t (keeps-length k) (f .before .before .if1 .left) (n .ensures .1 z)
-    (rw (c .enum-told2 .given .1) at (f .find .ensures .1 sums (x .held) h k (n .ensures .0)))
+    (rw (c .enum-told2 .given .1) at (f .find .ensures .1 .0 sums (x .held) h k (n .ensures .0)))
 
 pub begin-stream-spec : {M : Type 1} → statement M
 begin-stream-spec =

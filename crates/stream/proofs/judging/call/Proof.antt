@@ -69,7 +69,7 @@ returns c =
     let f = c .before .before in
     let n = f .before in
     let a = n .before .before .before .args in
-    (tt, λ ms w z h k g. called-none ms (a .s .now) (operatorAs (a .o) (a .attrs .now)) w _ (n .name-in .ensures .1 z) (c .enum-told .given .1) (f .find .ensures .1 _ ms h k (n .name-in .ensures .0)))
+    (tt, λ ms w z h k g. called-none ms (a .s .now) (operatorAs (a .o) (a .attrs .now)) w _ (n .name-in .ensures .1 z) (c .enum-told .given .1) (f .find .ensures .1 .0 _ ms h k (n .name-in .ensures .0)))
 
 -- src/judging.rt:108:1
 returns-2 : tie.Need-returns-2
@@ -78,7 +78,7 @@ returns-2 c =
     let n = f .before in
     let a = n .before .before .before .args in (
       c .enter .ensures .0,
-      λ ms w z h k g. called-at ms (a .s .now) (operatorAs (a .o) (a .attrs .now)) w _ (n .name-in .ensures .1 z) _ _ (c .before .before .before .before .i .given .1) (f .find .ensures .1 _ ms h k (n .name-in .ensures .0))
+      λ ms w z h k g. called-at ms (a .s .now) (operatorAs (a .o) (a .attrs .now)) w _ (n .name-in .ensures .1 z) _ _ (c .before .before .before .before .i .given .1) (f .find .ensures .1 .0 _ ms h k (n .name-in .ensures .0))
           (λ m d u. c .enter .ensures .1 ms w m _ (a .attrs .now) g d u),
     )
 
