@@ -222,7 +222,7 @@ within-restored : (ss : List Saved) (p : Page) (k : ℕ) → length ss ≤ k →
 within-restored [] p k h j = j
 within-restored (s ∷ ss) p k h j = omega arith
 
-within-done : (e : Effect) (p : Page) (k m : ℕ) → length (p .saved) ≤ max k m → length (done e p .saved) ≤ max k (risen e p m)
+pub within-done : (e : Effect) (p : Page) (k m : ℕ) → length (p .saved) ≤ max k m → length (done e p .saved) ≤ max k (risen e p m)
 unfolding done risen
 within-done push p k m h = omega arith
 within-done pop p k m h = within-restored (p .saved) p (max k m) h h

@@ -3,3 +3,4 @@ pub mod Codes
 pub mod Holds
 pub mod Balance
 pub mod Sums
+pub mod Alone

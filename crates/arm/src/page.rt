@@ -2,7 +2,8 @@
 ghost use mathlib.Core.Path.{_≡_};
 ghost use Prim.Native.Nat.{ℕ, _≤_, _<_, min};
 ghost use Rattle.scope.specs.Arm.{done, risen, marked, push, pop, put};
-ghost use Rattle.scope.specs.Arm.{blank as Arm·blank};
+ghost use Rattle.scope.specs.Arm.{blank as Arm·blank, Page as Arm·Page};
+ghost use Rattle.arm.specs.Alone.{Leaves};
 ghost use Rattle.arm.specs.Holds.{PageHolds};
 ghost use Rattle.arm.specs.Views.{bitsOf, pageAs, markAs, effectAs};
 use crate::limits::higher;
@@ -41,6 +42,12 @@ pub struct Page {
     pub gray: bool,
     pub depth: u32,
     pub saved: u64,
+}
+
+// The page after an operator that is its tag alone; or another operator, or one that a rule of the page refuses.
+pub enum Passed {
+    To(Page),
+    No,
 }
 
 // A page as BeginPage starts it.
@@ -144,5 +151,34 @@ impl Page {
             Effect::Pop => most,
             Effect::Put(_, _) => most,
         }
+    }
+
+    // The page after CloseSubPath, NewPath, PaintPath, PushGS or PopGS, where that may come and no rule of the page refuses it.
+    pub fn past(self, tag: u8) -> Passed
+        ensures { λ r. ⌜ ((q : Arm·Page) → PageHolds self q → Leaves tag q r) ⌝ }
+    {
+        let depth = self.depth;
+        if tag == 0x84 {
+            return Passed::To(self);
+        }
+        if tag == 0x85 {
+            return Passed::To(self.put(Mark::To(false), Mark::Keep));
+        }
+        if tag == 0x86 {
+            return Passed::To(self);
+        }
+        if tag == 0x60 {
+            if depth == 0 {
+                return Passed::No;
+            }
+            return Passed::To(self.pop());
+        }
+        if tag == 0x61 {
+            if 24 <= depth {
+                return Passed::No;
+            }
+            return Passed::To(self.push());
+        }
+        Passed::No
     }
 }

@@ -5,5 +5,6 @@ mod listing;
 mod zeroing;
 
 pub use joining::join;
+pub use listing::list_alone;
 pub use listing::list_operator;
 pub use zeroing::zero;

@@ -1,5 +1,6 @@
 // An operator's records in the list: one for each of its attributes, then its own.
 ghost use mathlib.Core.Path.{_≡_};
+ghost use mathlib.Core.List.{[]};
 ghost use Prim.Native.Nat.{suc, _+_, _*_, _/_, _%_, _≤_, _<_};
 ghost use lib.Dec.{leb};
 ghost use lib.ListN.{length};
@@ -123,5 +124,19 @@ pub fn list_operator(
     list_attributes(list, records, attrs, n);
     let bytes = operator_row(tag, n, at, size, first);
     put(list, (records + n) * 16, bytes);
+    true
+}
+
+// The record of an operator with neither attributes nor data, after so many others, and the answer true.
+// Without room for it the list stays as it is, and the answer is false.
+pub fn list_alone(list: &mut [u8], records: usize, tag: u8, at: usize) -> bool
+    ensures { λ r. ⌜ r ≡ leb ((records + 1) * 16) (length (now (list .entry))) ⌝ }
+    ensures { λ r. ⌜ now (list .exit) ≡ joinedAt r (now (list .entry)) (records * 16) (recordsFor tag at 0 0 []) ⌝ }
+{
+    if list.len() / 16 <= records {
+        return false;
+    }
+    let bytes = operator_row(tag, 0, at, 0, 0);
+    put(list, records * 16, bytes);
     true
 }

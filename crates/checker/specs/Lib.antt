@@ -1,3 +1,4 @@
 pub mod Views
 pub mod Judged
 pub mod Standing
+pub mod Running

@@ -1,6 +1,7 @@
 // The checker: one call judges one job.
 mod entry;
 mod judging;
+mod running;
 mod stepping;
 mod verdict;
 

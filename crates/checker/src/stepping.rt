@@ -14,18 +14,26 @@ ghost use Rattle.scope.specs.Verdict as verdict;
 ghost use Rattle.scope.specs.Verdict.{every};
 ghost use Rattle.reader.specs.Reads.{operatorAs};
 ghost use Rattle.session.specs.Places.{PlaceHolds};
+ghost use Rattle.motif.specs.declared.picture.Picture.the-variants.{Nothing};
+ghost use Rattle.session.specs.declared.place.Busy.the-variants.{Drawing};
+ghost use Rattle.session.specs.declared.place.Place.the-variants.{Inside};
+ghost use Rattle.checker.specs.Running.{Runs};
 ghost use Rattle.checker.specs.Views.{verdictAs};
 ghost use Rattle.checker.specs.Standing.{Stands, Listed, Comes, Steps, Goes, Lasts, endCode};
 use crate::judging::inner_of;
 use crate::judging::judge;
+use crate::running::Run;
+use crate::running::run_from;
 use crate::verdict::OUTER;
 use crate::verdict::Verdict;
 use crate::verdict::told;
 use arm::moved::Moved;
 use arm::page::Page;
+use motif::Picture;
 use reader::Context;
 use reader::Operator;
 use reader::Read;
+use session::Busy;
 use session::Early;
 use session::Place;
 
@@ -221,6 +229,55 @@ fn advance(
     }
 }
 
+// In a page with no image open: past the run that stands next.
+fn past_run(
+    job: &[u8],
+    list: &mut [u8],
+    st: State,
+    opened: bool,
+    held: usize,
+    used: usize,
+    page: Page,
+) -> State
+    ensures { λ r. ⌜ (st .place ≡ Inside opened held used (Drawing page Nothing) → Runs (now (job .entry)) (now (list .entry)) (now (list .exit)) st r) ⌝ }
+{
+    let run = run_from(
+        job,
+        list,
+        Run {
+            at: st.at,
+            page,
+            performed: st.performed,
+            records: st.records,
+        },
+    );
+    let page = run.page;
+    State {
+        at: run.at,
+        place: Place::Inside(opened, held, used, Busy::Drawing(page, Picture::Nothing)),
+        performed: run.performed,
+        records: run.records,
+    }
+}
+
+// Past the run of operators that are their tag alone, if one stands next.
+fn run_on(job: &[u8], list: &mut [u8], st: State) -> State
+    ensures { λ r. ⌜ Runs (now (job .entry)) (now (list .entry)) (now (list .exit)) st r ⌝ }
+{
+    let place = st.place;
+    match place {
+        Place::Outside(_) => st,
+        Place::Inside(opened, held, used, busy) => match busy {
+            Busy::Resting => st,
+            Busy::Reading(_, _, _) => st,
+            Busy::Drawing(page, picture) => match picture {
+                Picture::Being(_) => st,
+                Picture::Nothing => past_run(job, list, st, opened, held, used, page),
+            },
+        },
+    }
+}
+
 // The whole of a job's items, from the first one on.
 pub(crate) fn judge_items(
     job: &[u8],
@@ -246,6 +303,7 @@ pub(crate) fn judge_items(
         records: 0,
     };
     loop {
+        let from = run_on(job, list, st);
         match advance(
             job,
             high,
@@ -256,7 +314,7 @@ pub(crate) fn judge_items(
             &mut sums,
             &mut attrs,
             &mut scratch,
-            st,
+            from,
         ) {
             Step::Go(on) => {
                 st = on;

@@ -14,9 +14,6 @@ use Rattle.checker.proofs.Turns.{starts, turned-go, turned-stop}
 use borrow.Author.Needs.{needs}
 use Rattle.checker.proofs.stepping.judge_items.Statement.{statement}
 use Rattle.checker.proofs.stepping.judge_items.Tie as tie
-use Rattle.checker.proofs.stepping.judge_items.Reads as reads
-use Rattle.checker.proofs.stepping.judge_items.Lts as lts
-use Rattle.checker.proofs.stepping.advance.Reads as advance-reads
 
 abbrev Inv-loop : tie.InvT-loop
 Inv-loop job high gray next work₀ list₀ rows₀ sums₀ attrs₀ scratch₀ st₀ work list rows sums attrs scratch st =
@@ -28,72 +25,87 @@ Inv-loop job high gray next work₀ list₀ rows₀ sums₀ attrs₀ scratch₀ 
 abbrev μ-loop : tie.MeasureT-loop
 μ-loop job high gray next work₀ list₀ rows₀ sums₀ attrs₀ scratch₀ st₀ work list rows sums attrs scratch st = length job - st .at
 
--- src/stepping.rt:222:5
 loop-holds : tie.Need-loop-holds Inv-loop μ-loop
 loop-holds c =
     let st = c .before .before .before in
     let a = st .args in
     (refl, refl, refl, refl, st .pre .2, omega arith, refl, (scope.starting (a .next), (starts (a .job .now) (a .list .now) _ _ (a .next) refl outside-holds refl refl refl refl refl, refl)))
 
--- src/stepping.rt:223:15
-advance-requires : tie.Need-advance-requires Inv-loop μ-loop
-advance-requires c κs = search needs
+run-on-requires : tie.Need-run-on-requires Inv-loop μ-loop
+run-on-requires c κs = search needs
 
--- src/stepping.rt:224:22
+-- past a run the bounds that `advance` asks for hold still
+past : (c : tie.After-run-on Inv-loop μ-loop)
+    → let h = c .before .before in
+    let r = c .run-on .result in
+    (r .at ≤ length (h .before .before .before .before .args .job .now)) × (r .records ≤ r .at * 17)
+past c =
+    let h = c .before .before in
+    let i = h .loop .inv in
+    let r = c .run-on .ensures in
+    (r .within (i .4), let x = r .counted in let y = r .on in omega arith)
+
+advance-requires : tie.Need-advance-requires Inv-loop μ-loop
+advance-requires c κs =
+    let p = past (c .before .before .before .before .before .before .before .before) in
+    (search needs, search needs, p .0, p .1)
+
 enum-known-on : tie.Need-enum-known-on Inv-loop μ-loop
 enum-known-on c = search needs
 
--- src/stepping.rt:222:5
 loop-less : tie.Need-loop-less Inv-loop μ-loop
 loop-less c =
-    let p = rw (c .before .on .given .1) at (c .before .before .before .before .before .before .before .advance .ensures .1 .1 .0) in
+    let d = c .before .before .before .before .before .before .before in
+    let p = rw (c .before .on .given .1) at (d .advance .ensures .1 .1 .0) in
+    let y = d .before .before .before .before .before .before .before .before .before .run-on .ensures .on in
     omega (arith, p)
 
--- src/stepping.rt:222:5
 loop-again : tie.Need-loop-again Inv-loop μ-loop
 loop-again c =
     let d = c .before .before .before .before .before .before .before in
-    let h = d .before .before .before .before .before .before .before in
+    let r = d .before .before .before .before .before .before .before .before .before in
+    let h = r .before .before in
     let i = h .loop .inv in
     let a = h .before .before .before .before .args in
     let e = c .before .on .given .1 in
     let n = d .advance .ensures in
     let p = rw e at (n .1 .1 .0) in
-    let set : Setting = record { high = a .high; gray = a .gray } in (
+    let set : Setting = record { high = a .high; gray = a .gray } in
+    let g = r .run-on .ensures .leads (a .list .now) _ _ _ set (i .7 .0) (sym (i .1)) (i .7 .1 .0) in
+    let l = r .run-on .ensures .long ∙ i .1 in (
       n .0 .work-long ∙ i .0,
-      n .0 .list-long ∙ i .1,
+      n .0 .list-long ∙ l,
       n .1 .0 .0 ∙ i .2,
       n .1 .0 .1 ∙ i .3,
       p .1,
       p .2,
       n .0 .rest ∙ i .6,
-      turned-go (a .job .now) (a .list .now) set _ _ _ (i .7 .0) (i .7 .1 .1) (rw e at (n .1 .1 .1 (i .7 .0) (a .list .now) (sym (i .1)) (i .2) (i .3) (i .7 .1 .0))),
+      turned-go (a .job .now) (a .list .now) set _ _ _ (g .there) (g .judged ∙ i .7 .1 .1) (rw e at (n .1 .1 .1 (g .there) (a .list .now) (sym l) (i .2) (i .3) (g .stands))),
     )
 
--- src/stepping.rt:227:24
 enum-known-verdict : tie.Need-enum-known-verdict Inv-loop μ-loop
 enum-known-verdict c = search needs
 
--- src/stepping.rt:228:17
 same-length : tie.Need-same-length Inv-loop μ-loop
 same-length c = search needs
 
--- src/stepping.rt:228:17
 same-length-2 : tie.Need-same-length-2 Inv-loop μ-loop
 same-length-2 c = search needs
 
--- src/stepping.rt:228:17
 returns : tie.Need-returns Inv-loop μ-loop
 returns c =
     let d = c .before .before .before .before .before .before .before in
-    let h = d .before .before .before .before .before .before .before in
+    let r = d .before .before .before .before .before .before .before .before .before in
+    let h = r .before .before in
     let i = h .loop .inv in
     let a = h .before .before .before .before .args in
     let e = c .before .verdict .given .1 in
     let n = d .advance .ensures in
-    let set : Setting = record { high = a .high; gray = a .gray } in (
-      record { work-long = n .0 .work-long ∙ i .0; list-long = n .0 .list-long ∙ i .1; rest = n .0 .rest ∙ i .6 },
-      turned-stop (a .job .now) (a .list .now) set _ _ _ (i .7 .0) (i .7 .1 .1) (rw e at (n .1 .1 .1 (i .7 .0) (a .list .now) (sym (i .1)) (i .2) (i .3) (i .7 .1 .0))),
+    let set : Setting = record { high = a .high; gray = a .gray } in
+    let g = r .run-on .ensures .leads (a .list .now) _ _ _ set (i .7 .0) (sym (i .1)) (i .7 .1 .0) in
+    let l = r .run-on .ensures .long ∙ i .1 in (
+      record { work-long = n .0 .work-long ∙ i .0; list-long = n .0 .list-long ∙ l; rest = n .0 .rest ∙ i .6 },
+      turned-stop (a .job .now) (a .list .now) set _ _ _ (g .there) (g .judged ∙ i .7 .1 .1) (rw e at (n .1 .1 .1 (g .there) (a .list .now) (sym l) (i .2) (i .3) (g .stands))),
     )
 
 pub judge-items-spec : {M : Type 1} → statement M
@@ -103,6 +115,7 @@ judge-items-spec =
     Inv-loop
     μ-loop
     loop-holds
+    run-on-requires
     advance-requires
     enum-known-on
     loop-less
