@@ -41,6 +41,14 @@ fn depth_behind(tag: u8, depth: u32) -> u32 {
     }
 }
 
+// StreamName and CommentData are said as text.
+fn is_text(n: u8) -> bool {
+    if n == 139 {
+        return true;
+    }
+    n == 129
+}
+
 // The attribute of record j.
 fn attribute(job: &[u8], list: &[u8], j: usize) {
     let n = field(list, j, 1);
@@ -48,7 +56,7 @@ fn attribute(job: &[u8], list: &[u8], j: usize) {
     say(b", ");
     names::attribute(n);
     say(b" ");
-    if n == 139 {
+    if is_text(n) {
         name(job, field_four(list, j, 8) as usize, at);
         return;
     }

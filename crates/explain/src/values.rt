@@ -63,12 +63,41 @@ fn four_sint16(job: &[u8], at: usize) {
     two_sint16(job, after(at, 4));
 }
 
-// An array by its length.
-fn array(tag: u8, count: u32) {
+// A long array, or one of other numbers than bytes, by its length.
+fn long_array(tag: u8, count: u32) {
     names::value(tag);
     say(b", ");
     number(count);
     say(b" long");
+}
+
+// What stands before number i.
+fn gap(i: u32) {
+    if i != 0 {
+        say(b" ");
+    }
+}
+
+// A short array of bytes as numbers.
+fn short_array(job: &[u8], count: u32, at: usize) {
+    let mut i: u32 = 0;
+    while i < count {
+        gap(i);
+        one_byte(job, after(at, i as usize));
+        i += 1;
+    }
+}
+
+fn array(job: &[u8], tag: u8, count: u32, at: usize) {
+    if tag != 0xc8 {
+        long_array(tag, count);
+        return;
+    }
+    if 16 < count {
+        long_array(tag, count);
+        return;
+    }
+    short_array(job, count, at);
 }
 
 // The value whose numbers start at a place of the job.
@@ -82,11 +111,11 @@ pub fn value(job: &[u8], tag: u8, count: u32, at: usize) {
         0xe0 => four_ubyte(job, at),
         0xe1 => four_uint16(job, at),
         0xe3 => four_sint16(job, at),
-        _ => array(tag, count),
+        _ => array(job, tag, count, at),
     }
 }
 
-// One byte of a motif's name: itself if it can be printed.
+// One byte of a text: itself if it can be printed.
 fn glyph(b: u8) {
     if 0x20 <= b {
         if b <= 0x7e {
@@ -98,7 +127,7 @@ fn glyph(b: u8) {
     byte(b);
 }
 
-// A motif's name, in quotes.
+// A motif's name or a comment, in quotes.
 pub fn name(job: &[u8], count: usize, at: usize) {
     say(b"'");
     let mut i: usize = 0;
