@@ -50,3 +50,7 @@ spaceAs Rgb = scope.rgb
 -- what an operator needs and does
 abbrev pub actAs : Act → scope.Act
 actAs a = record { source = a .source; cursor = a .cursor; space = spaceAs (a .space); effect = effectAs (a .effect) }
+
+-- what an operator needs and does that leaves the page as it is, and needs at most an open source and a set cursor
+abbrev pub keeping : (source cursor : Bool) → scope.Act
+keeping s c = record { source = s; cursor = c; space = scope.any; effect = scope.put scope.kept scope.kept }

@@ -5,12 +5,13 @@ ghost use lib.ListN.{length};
 ghost use mathlib.Core.List.{List, [], _∷_};
 ghost use Rattle.scope.specs.Arm.{walk, from, idle, Stroke};
 ghost use Rattle.scope.specs.Arm.{Page as Arm·Page};
-ghost use Rattle.arm.specs.Views.{actAs};
+ghost use Rattle.arm.specs.Views.{actAs, keeping};
 ghost use Rattle.arm.specs.Holds.{PageHolds, Holds, Moves};
 ghost use Rattle.arm.specs.Sums.{Sums};
 use crate::page::Act;
 use crate::page::Page;
 use crate::seen::Seen;
+use crate::seen::lacks;
 use crate::summary::Summary;
 
 // The page after it and the number performed, or the code of the refusal.
@@ -38,6 +39,22 @@ impl Page {
     {
         let seen = Seen::from(self, performed);
         answer(seen.step(act), opened)
+    }
+
+    // An operator that leaves the page as it is and needs at most an open source and a set cursor: most are so.
+    pub fn keep(self, source: bool, cursor: bool, opened: bool, performed: u32) -> Moved
+        ensures { λ r. ⌜ ((q : Arm·Page) (x : Stroke) → PageHolds self q → x .act ≡ keeping source cursor → Moves opened r (walk (x ∷ []) (from q performed))) ⌝ }
+    {
+        if lacks(source, opened) {
+            return Moved::No(17);
+        }
+        if lacks(cursor, self.cursor) {
+            return Moved::No(24);
+        }
+        if 1_000_000 <= performed {
+            return Moved::No(26);
+        }
+        Moved::To(self, performed + 1)
     }
 
     // A call, from what its motif comes to.

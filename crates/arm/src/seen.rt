@@ -34,7 +34,8 @@ fn either(a: bool, b: bool) -> bool
     if a { true } else { b }
 }
 
-fn lacks(need: bool, has: bool) -> bool
+// Something is needed and not there.
+pub(crate) fn lacks(need: bool, has: bool) -> bool
     ensures { λ r. ⌜ r ≡ (need && not has) ⌝ }
 {
     if need { !has } else { false }

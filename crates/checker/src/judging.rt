@@ -32,7 +32,7 @@ pub fn inner_of(early: Early) -> u32
     }
 }
 
-// An operator that is no call, in its page.
+// An operator that is no call, in its page. Most are plain, and have a shorter way.
 fn perform(
     job: &[u8],
     high: bool,
@@ -47,6 +47,9 @@ fn perform(
 {
     let page = session::page_in(place);
     let opened = session::opened_in(place);
+    if motif::is_plain(o.tag) {
+        return page.keep(o.reads, motif::needs_cursor(o.tag), opened, performed);
+    }
     let act = motif::act_of(job, high, o.tag, o.reads, attrs, o.count);
     page.perform(act, opened, performed)
 }
@@ -78,7 +81,6 @@ pub fn judge(
     match early {
         Early::No(code, _) => Moved::No(code),
         Early::Call(sum) => call(sum, place, performed),
-        Early::Fine => perform(job, high, attrs, place, o, performed),
-        Early::Held(_, _) => perform(job, high, attrs, place, o, performed),
+        _ => perform(job, high, attrs, place, o, performed),
     }
 }

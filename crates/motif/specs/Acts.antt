@@ -2,10 +2,11 @@
 -- Assumes nothing.
 use Prim.Native.Nat.{ℕ}
 use mathlib.Core.Path.{_≡_, refl}
-use mathlib.Core.Bool.{Bool}
-use mathlib.Core.List.{List}
+use mathlib.Core.Bool.{Bool, not}
+use mathlib.Core.List.{List, [], _∷_}
 use lib.Dec.{eqb}
-use Rattle.scope.specs.Choice.{pick}
+use Rattle.scope.specs.Choice.{pick, among}
+use Rattle.scope.specs.Names.{PopGS, PushGS, SetBrushSource, SetColorSpace, SetCursor, SetPenSource, NewPath, BeginImage}
 use Rattle.scope.specs.Item.{Attribute}
 use Rattle.scope.specs.Attributes.{has, valueIn}
 use Rattle.scope.specs.Reading.{Operator}
@@ -23,3 +24,7 @@ spaceEffect high s l = put kept (to (eqb (valueIn high s l 3) 1))
 unfoldable pub actFor : Bool → List ℕ → ℕ → Bool → List Attribute → Act
 actFor high s tag reads l =
     record { source = reads; cursor = needsCursor tag; space = needsSpace tag l; effect = effectOf high s tag l }
+
+-- these need a colour space or do something to the page; every other operator needs at most an open source and a set cursor, and leaves the page as it is
+unfoldable pub plain : ℕ → Bool
+plain tag = not (among (PopGS ∷ PushGS ∷ SetBrushSource ∷ SetColorSpace ∷ SetCursor ∷ SetPenSource ∷ NewPath ∷ BeginImage ∷ []) tag)

@@ -4,14 +4,31 @@ ghost use Prim.Native.Nat.{ℕ};
 ghost use Rattle.wire.specs.Rows.{rowsOf, Sized};
 ghost use Rattle.scope.specs.Arm.{needsCursor, needsSpace, effectOf};
 ghost use Rattle.arm.specs.Views.{spaceAs, effectAs, actAs};
-ghost use Rattle.motif.specs.Acts.{actFor, brushSpace, spaceEffect};
+ghost use Rattle.motif.specs.Acts.{actFor, brushSpace, spaceEffect, plain};
 use arm::page::Act;
 use arm::page::Effect;
 use arm::page::Mark;
 use arm::page::Space;
 
+// The operator needs no colour space and does nothing to the page, as most.
+pub fn is_plain(tag: u8) -> bool
+    ensures { λ r. ⌜ r ≡ plain tag ⌝ }
+{
+    match tag {
+        0x60 => false,
+        0x61 => false,
+        0x63 => false,
+        0x6a => false,
+        0x6b => false,
+        0x79 => false,
+        0x85 => false,
+        0xb0 => false,
+        _ => true,
+    }
+}
+
 // SetCursorRel, LinePath, LineRelPath and BeginImage need the cursor set.
-fn needs_cursor(tag: u8) -> bool
+pub fn needs_cursor(tag: u8) -> bool
     ensures { λ r. ⌜ r ≡ needsCursor tag ⌝ }
 {
     if tag == 0x6c {

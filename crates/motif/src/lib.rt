@@ -5,6 +5,8 @@ mod part;
 mod picture;
 
 pub use act::act_of;
+pub use act::is_plain;
+pub use act::needs_cursor;
 pub use names::Where;
 pub use names::find;
 pub use part::name_in;

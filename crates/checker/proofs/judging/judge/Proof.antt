@@ -1,6 +1,22 @@
+-- `judging::judge` meets its contract: an earlier rule that is broken, a call, or any other operator.
+-- Assumes nothing.
+use mathlib.Core.Path.{_≡_}
+use mathlib.Core.Bool.{false}
+use mathlib.Core.List.{[], _∷_}
+use mathlib.Core.Logic.{inl, inr}
+use native.Mathlib.Omega.{arith}
+use lib.Dec.{eqb}
+use types.Run.{OneOf}
+use denote.Enum.Declared.{tagOf}
 use Rattle.reader.specs.Reads.{operatorAs}
-use Rattle.scope.specs.Judge.{caseOf}
+use Rattle.scope.specs.Judge.{Case, caseOf, outer}
 use Rattle.scope.specs.Session.{sessionOf}
+use Rattle.arm.specs.declared.moved.Moved.{Moved}
+use Rattle.session.specs.Earlier.{Earlies, Unbroken}
+use Rattle.session.specs.declared.early.Early.{Early}
+use Rattle.session.specs.declared.early.Early.the-variants as Early-is
+use Rattle.session.proofs.early.Early.{the-type}
+use Rattle.checker.specs.Judged.{Judgement, innerOf}
 use Rattle.checker.proofs.Ruling.{early-judged, fine-call, fine-unbroken, held-no-call, held-unbroken}
 use borrow.Author.Needs.{needs}
 use Rattle.checker.proofs.judging.judge.Statement.{statement}
@@ -22,21 +38,8 @@ enum-known-early-2 c = search needs
 call-requires : tie.Need-call-requires
 call-requires c κs = search needs
 
--- src/judging.rt:66:24
-enum-told : tie.Need-enum-told
-enum-told c = search needs
-
--- src/judging.rt:66:24
 perform-requires : tie.Need-perform-requires
 perform-requires c κs = search needs
-
--- src/judging.rt:67:30
-enum-told-2 : tie.Need-enum-told-2
-enum-told-2 c = search needs
-
--- src/judging.rt:67:30
-perform-requires-2 : tie.Need-perform-requires-2
-perform-requires-2 c κs = search needs
 
 -- src/judging.rt:58:1
 returns : tie.Need-returns
@@ -50,19 +53,21 @@ returns-2 c =
     let a = c .before .before .before .before .before .args in
     λ q st rows sums work h z e f. rw (c .before .before .early2 .given .1) (c .call .ensures q st (a .job .now) rows sums work (a .high) (operatorAs (a .o) (a .attrs .now)) h e (rw (c .before .before .early2 .given .1) at f))
 
--- src/judging.rt:58:1
+-- none of the earlier rules is broken, and it is no call
+others-judged : (c : Case) {m : Moved} (early : Early) → OneOf (0 ∷ 2 ∷ []) (tagOf the-type early) → Earlies c early
+    → (eqb (c .op .tag) 0x5e ≡ false → Unbroken c → Judgement c outer m) → Judgement c (innerOf early) m
+others-judged c Early-is.Fine t f k = k (fine-call c f) (fine-unbroken c f)
+others-judged c (Early-is.Call v) t f k = absurd (elim t [ inl e ↦ omega arith | inr e ↦ omega arith ])
+others-judged c (Early-is.Held n v) t f k = k (held-no-call c f) (held-unbroken c f)
+others-judged c (Early-is.No a b) t f k = absurd (elim t [ inl e ↦ omega arith | inr e ↦ omega arith ])
+
 returns-3 : tie.Need-returns-3
 unfolding caseOf
 returns-3 c =
-    λ q st rows sums work h z e f. rw (c .before .enum-told .given .1)
-    (let g = rw (c .before .enum-told .given .1) at f in c .perform .ensures q st rows sums work h z e (fine-call _ g) (fine-unbroken _ g))
-
--- src/judging.rt:58:1
-returns-4 : tie.Need-returns-4
-unfolding caseOf
-returns-4 c =
-    λ q st rows sums work h z e f. rw (c .before .enum-told2 .given .1)
-    (let g = rw (c .before .enum-told2 .given .1) at f in c .perform2 .ensures q st rows sums work h z e (held-no-call _ g) (held-unbroken _ g))
+    let a = c .before .before .before .args in
+    λ q st rows sums work h z e f.
+    others-judged (caseOf (a .high) (a .job .now) st (sessionOf q) (operatorAs (a .o) (a .attrs .now))) (a .early) (c .before .match .keys3) f
+    (λ t u. c .perform .ensures q st rows sums work h z e t u)
 
 pub judge-spec : {M : Type 1} → statement M
 judge-spec =
@@ -71,11 +76,7 @@ judge-spec =
     enum-known-early
     enum-known-early-2
     call-requires
-    enum-told
     perform-requires
-    enum-told-2
-    perform-requires-2
     returns
     returns-2
-    returns-3
-    returns-4)
+    returns-3)

@@ -1,7 +1,10 @@
-use mathlib.Core.Path.{sym, _∙_}
+-- `judging::perform` meets its contract: the arm's own answer, of a plain operator by the shorter way.
+-- Assumes nothing.
+use mathlib.Core.Path.{sym, ap, _∙_}
+use Rattle.arm.specs.Views.{keeping}
 use Rattle.reader.specs.Reads.{operatorAs}
 use Rattle.scope.specs.Session.{sessionOf}
-use Rattle.motif.proofs.Operators.{act-is}
+use Rattle.motif.proofs.Operators.{act-is, plain-keeps}
 use Rattle.checker.proofs.Ruling.{plain-judged}
 use borrow.Author.Needs.{needs}
 use Rattle.checker.proofs.judging.perform.Statement.{statement}
@@ -9,37 +12,66 @@ use Rattle.checker.proofs.judging.perform.Tie as tie
 use Rattle.checker.proofs.judging.perform.Reads as reads
 use Rattle.checker.proofs.judging.perform.Lts as lts
 use Rattle.arm.proofs.page.Page.perform.Reads as perform-reads
+use Rattle.arm.proofs.page.Page.keep.Reads as keep-reads
 use Rattle.motif.proofs.act_of.Reads as act-of-reads
+use Rattle.motif.proofs.is_plain.Reads as is-plain-reads
+use Rattle.motif.proofs.needs_cursor.Reads as needs-cursor-reads
 use Rattle.session.proofs.opened_in.Reads as opened-in-reads
 use Rattle.session.proofs.page_in.Reads as page-in-reads
 
--- src/judging.rt:41:9
 page-in-requires : tie.Need-page-in-requires
 page-in-requires c κs = search needs
 
--- src/judging.rt:42:9
 opened-in-requires : tie.Need-opened-in-requires
 opened-in-requires c κs = search needs
 
--- src/judging.rt:43:9
+is-plain-requires : tie.Need-is-plain-requires
+is-plain-requires c κs = search needs
+
+needs-cursor-requires : tie.Need-needs-cursor-requires
+needs-cursor-requires c κs = search needs
+
+keep-requires : tie.Need-keep-requires
+keep-requires c κs = search needs
+
+returns : tie.Need-returns
+returns c =
+    let p = c .before .before .before in
+    let i = p .before in
+    let a = i .before .before .before .args in
+    λ q st rows sums work h z e t u.
+    let o = operatorAs (a .o) (a .attrs .now) in
+    plain-judged (a .high) (a .job .now) st (sessionOf q) o (i .opened-in .result) (a .performed) (c .keep .result)
+    (i .opened-in .ensures q (a .job .now) rows sums work h) e u t
+    (c .keep .ensures _ _ (i .before .page-in .ensures q (a .job .now) rows sums work h)
+    (plain-keeps (a .high) (a .job .now) o (sym (p .is-plain .ensures) ∙ c .before .before .if1 .taken) ∙ ap (keeping (a .o .reads)) (sym (c .before .needs-cursor .ensures))))
+
 act-of-requires : tie.Need-act-of-requires
 act-of-requires c κs = search needs
 
--- src/judging.rt:44:5
 perform-requires : tie.Need-perform-requires
 perform-requires c κs = search needs
 
--- src/judging.rt:36:1
-returns : tie.Need-returns
-returns c =
-    let a = c .before .before .before .before .before .args in
+returns-2 : tie.Need-returns-2
+returns-2 c =
+    let i = c .before .before .before .before in
+    let a = i .before .before .before .args in
     λ q st rows sums work h z e t u.
     let o = operatorAs (a .o) (a .attrs .now) in
-    plain-judged (a .high) (a .job .now) st (sessionOf q) o (c .before .before .opened-in .result) (a .performed) (c .perform .result)
-    (c .before .before .opened-in .ensures q (a .job .now) rows sums work h) e u t
-    (c .perform .ensures _ _ (c .before .before .before .page-in .ensures q (a .job .now) rows sums work h) (sym (c .before .act-of .ensures z ∙ act-is (a .high) (a .job .now) o)))
+    plain-judged (a .high) (a .job .now) st (sessionOf q) o (i .opened-in .result) (a .performed) (c .perform .result)
+    (i .opened-in .ensures q (a .job .now) rows sums work h) e u t
+    (c .perform .ensures _ _ (i .before .page-in .ensures q (a .job .now) rows sums work h) (sym (c .before .act-of .ensures z ∙ act-is (a .high) (a .job .now) o)))
 
 pub perform-spec : {M : Type 1} → statement M
 perform-spec =
     tie.close
-    (tie.spec page-in-requires opened-in-requires act-of-requires perform-requires returns)
+    (tie.spec
+    page-in-requires
+    opened-in-requires
+    is-plain-requires
+    needs-cursor-requires
+    keep-requires
+    returns
+    act-of-requires
+    perform-requires
+    returns-2)
