@@ -144,15 +144,13 @@ fn perform(
     rows: &mut [usize; 192],
     sums: &mut [u64; 64],
     attrs: &[usize; 80],
-    scratch: &mut [usize; 80],
     st: State,
     o: Operator,
 ) -> Step
     requires { ⌜ (length (now job) ≤ 61440) × (16384 ≤ length (now work)) × (st .at ≤ o .at) × (o .at < o .next) × (o .next ≤ length (now job)) × (o .count ≤ 16) × (st .records ≤ st .at * 17) ⌝ }
     ensures { λ _. ⌜ Lasts (now (work .entry)) (now (list .entry)) (now (work .exit)) (now (list .exit)) ⌝ }
-    ensures { λ _. ⌜ length (now (scratch .exit)) ≡ length (now (scratch .entry)) ⌝ }
     ensures { λ r. ⌜ Goes (length (now (job .entry))) (st .at) r ⌝ }
-    ensures { λ r. ⌜ ((d : scope.State) (list₀ : List ℕ) → length list₀ ≡ length (now (list .entry)) → Sized (now (attrs .entry)) (o .count) → length (now (scratch .entry)) ≡ 80
+    ensures { λ r. ⌜ ((d : scope.State) (list₀ : List ℕ) → length list₀ ≡ length (now (list .entry)) → Sized (now (attrs .entry)) (o .count)
         → o .first + o .length ≤ length (now (job .entry))
         → Stands (now (job .entry)) list₀ (record { rows = now (rows .entry); sums = now (sums .entry); work = now (work .entry); list = now (list .entry) }) st d
         → operatorAt (contextOf every high (d .place)) (now (job .entry)) (d .at) ≡ operator (operatorAs o (now (attrs .entry)))
@@ -160,7 +158,7 @@ fn perform(
         (onRead every (record { high = high; gray = gray }) (now (job .entry)) (length list₀) d (operator (operatorAs o (now (attrs .entry)))))) ⌝ }
 {
     let place = st.place;
-    let early = session::early_of(job, work, rows, sums, attrs, scratch, place, o);
+    let early = session::early_of(job, work, rows, sums, attrs, place, o);
     match judge(job, high, attrs, early, place, o, st.performed) {
         Moved::No(code) => Step::Stop(stop(st, code, o.at, inner_of(early))),
         Moved::To(page, performed) => go_on(
@@ -191,14 +189,13 @@ fn advance(
     rows: &mut [usize; 192],
     sums: &mut [u64; 64],
     attrs: &mut [usize; 80],
-    scratch: &mut [usize; 80],
     st: State,
 ) -> Step
     requires { ⌜ (length (now job) ≤ 61440) × (16384 ≤ length (now work)) × (st .at ≤ length (now job)) × (st .records ≤ st .at * 17) ⌝ }
     ensures { λ _. ⌜ Lasts (now (work .entry)) (now (list .entry)) (now (work .exit)) (now (list .exit)) ⌝ }
-    ensures { λ _. ⌜ (length (now (attrs .exit)) ≡ length (now (attrs .entry))) × (length (now (scratch .exit)) ≡ length (now (scratch .entry))) ⌝ }
+    ensures { λ _. ⌜ length (now (attrs .exit)) ≡ length (now (attrs .entry)) ⌝ }
     ensures { λ r. ⌜ Goes (length (now (job .entry))) (st .at) r ⌝ }
-    ensures { λ r. ⌜ ((d : scope.State) (list₀ : List ℕ) → length list₀ ≡ length (now (list .entry)) → length (now (attrs .entry)) ≡ 80 → length (now (scratch .entry)) ≡ 80
+    ensures { λ r. ⌜ ((d : scope.State) (list₀ : List ℕ) → length list₀ ≡ length (now (list .entry)) → length (now (attrs .entry)) ≡ 80
         → Stands (now (job .entry)) list₀ (record { rows = now (rows .entry); sums = now (sums .entry); work = now (work .entry); list = now (list .entry) }) st d
         → Steps (now (job .entry)) list₀ (record { rows = now (rows .exit); sums = now (sums .exit); work = now (work .exit); list = now (list .exit) }) r
         (jobStep every (record { high = high; gray = gray }) (now (job .entry)) (length list₀) d)) ⌝ }
@@ -213,19 +210,7 @@ fn advance(
     match reader::operator_at(context, job, st.at, attrs) {
         Read::No(code, position) => Step::Stop(stop(st, code, position, OUTER)),
         Read::Ended => Step::Stop(stop(st, end_code(place), job.len(), OUTER)),
-        Read::Operator(o) => perform(
-            job,
-            high,
-            gray,
-            work,
-            list,
-            rows,
-            sums,
-            attrs,
-            scratch,
-            st,
-            o,
-        ),
+        Read::Operator(o) => perform(job, high, gray, work, list, rows, sums, attrs, st, o),
     }
 }
 
@@ -295,7 +280,6 @@ pub(crate) fn judge_items(
     let mut rows = [0usize; 192];
     let mut sums = [0u64; 64];
     let mut attrs = [0usize; 80];
-    let mut scratch = [0usize; 80];
     let mut st = State {
         at: next,
         place: Place::Outside(false),
@@ -313,7 +297,6 @@ pub(crate) fn judge_items(
             &mut rows,
             &mut sums,
             &mut attrs,
-            &mut scratch,
             from,
         ) {
             Step::Go(on) => {

@@ -94,14 +94,12 @@ fn end_stream(
     work: &[u8],
     rows: &[usize; 192],
     sums: &[u64; 64],
-    scratch: &mut [usize; 80],
     held: usize,
     used: usize,
     joined: usize,
 ) -> Early
-    ensures { λ _. ⌜ length (now (scratch .exit)) ≡ length (now (scratch .entry)) ⌝ }
     ensures { λ r. ⌜ ((attrs : List ℕ) (x : Session) (o : Operator) → held ≤ 64 → Keeps (now (job .entry)) (now (rows .entry)) (now (sums .entry)) held (x .held)
-        → length (now (scratch .entry)) ≡ 80 → 16384 ≤ length (now (work .entry)) → used + joined ≤ 16384
+        → 16384 ≤ length (now (work .entry)) → used + joined ≤ 16384
         → take joined (drop used (now (work .entry))) ≡ joinedOf (x .busy) → o .tag ≡ 0x5d → EarliesIn (now (job .entry)) attrs x o r) ⌝ }
 {
     if work.len() < used {
@@ -110,7 +108,7 @@ fn end_stream(
     if work.len() - used < joined {
         return Early::Fine;
     }
-    match stream::judge_motif(&work[used..used + joined], job, rows, sums, held, scratch) {
+    match stream::judge_motif(&work[used..used + joined], job, rows, sums, held) {
         Judged::Valid(depth, sum) => Early::Held(depth, sum),
         Judged::Faulty(code, place) => Early::No(code, (place % 4_294_967_296) as u32),
     }
@@ -122,23 +120,21 @@ fn reading_early(
     work: &[u8],
     rows: &[usize; 192],
     sums: &[u64; 64],
-    scratch: &mut [usize; 80],
     held: usize,
     used: usize,
     joined: usize,
     o: Operator,
 ) -> Early
-    ensures { λ _. ⌜ length (now (scratch .exit)) ≡ length (now (scratch .entry)) ⌝ }
     ensures { λ r. ⌜ ((attrs : List ℕ) (x : Session) (first count : ℕ) → held ≤ 64 → used ≡ bytesHeld (x .held)
         → Keeps (now (job .entry)) (now (rows .entry)) (now (sums .entry)) held (x .held)
         → BusyHolds (now (job .entry)) (now (work .entry)) held used (busy-is.Reading first count joined) (x .busy)
-        → length (now (scratch .entry)) ≡ 80 → 16384 ≤ length (now (work .entry)) → mayCome (phaseBusy (x .busy)) (x .opened) (o .tag) ≡ true
+        → 16384 ≤ length (now (work .entry)) → mayCome (phaseBusy (x .busy)) (x .opened) (o .tag) ≡ true
         → EarliesIn (now (job .entry)) attrs x o r) ⌝ }
 {
     if o.tag == 0x5c {
         return read_stream(used, joined, o);
     }
-    end_stream(job, work, rows, sums, scratch, held, used, joined)
+    end_stream(job, work, rows, sums, held, used, joined)
 }
 
 // ExecStream: 21 if the name is not held.
@@ -185,31 +181,19 @@ fn inside_early(
     rows: &[usize; 192],
     sums: &[u64; 64],
     attrs: &[usize; 80],
-    scratch: &mut [usize; 80],
     held: usize,
     used: usize,
     busy: Busy,
     o: Operator,
 ) -> Early
-    ensures { λ _. ⌜ length (now (scratch .exit)) ≡ length (now (scratch .entry)) ⌝ }
     ensures { λ r. ⌜ ((x : Session) → held ≤ 64 → used ≡ bytesHeld (x .held) → Keeps (now (job .entry)) (now (rows .entry)) (now (sums .entry)) held (x .held)
         → BusyHolds (now (job .entry)) (now (work .entry)) held used busy (x .busy) → Sized (now (attrs .entry)) (o .count)
-        → length (now (scratch .entry)) ≡ 80 → 16384 ≤ length (now (work .entry)) → mayCome (phaseBusy (x .busy)) (x .opened) (o .tag) ≡ true
+        → 16384 ≤ length (now (work .entry)) → mayCome (phaseBusy (x .busy)) (x .opened) (o .tag) ≡ true
         → EarliesIn (now (job .entry)) (now (attrs .entry)) x o r) ⌝ }
 {
     match busy {
         Busy::Resting => resting_early(job, rows, attrs, held, o),
-        Busy::Reading(_, _, joined) => reading_early(
-            job,
-            work,
-            rows,
-            sums,
-            scratch,
-            held,
-            used,
-            joined,
-            o,
-        ),
+        Busy::Reading(_, _, joined) => reading_early(job, work, rows, sums, held, used, joined, o),
         Busy::Drawing(_, _) => drawing_early(job, rows, sums, attrs, held, o),
     }
 }
@@ -221,13 +205,11 @@ pub fn early_of(
     rows: &[usize; 192],
     sums: &[u64; 64],
     attrs: &[usize; 80],
-    scratch: &mut [usize; 80],
     place: Place,
     o: Operator,
 ) -> Early
-    ensures { λ _. ⌜ length (now (scratch .exit)) ≡ length (now (scratch .entry)) ⌝ }
     ensures { λ r. ⌜ ((q : scope.Place) (st : State) (high : Bool) → PlaceHolds (now (job .entry)) (now (rows .entry)) (now (sums .entry)) (now (work .entry)) place q
-        → Sized (now (attrs .entry)) (o .count) → length (now (scratch .entry)) ≡ 80 → 16384 ≤ length (now (work .entry))
+        → Sized (now (attrs .entry)) (o .count) → 16384 ≤ length (now (work .entry))
         → mayCome (phaseOf q) (sessionOf q .opened) (o .tag) ≡ true
         → Earlies (caseOf high (now (job .entry)) st (sessionOf q) (operatorAs o (now (attrs .entry)))) r) ⌝ }
 {
@@ -239,7 +221,6 @@ pub fn early_of(
             rows,
             sums,
             attrs,
-            scratch,
             held,
             used,
             busy,

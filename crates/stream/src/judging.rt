@@ -253,14 +253,13 @@ pub fn judge_motif(
     rows: &[usize; 192],
     sums: &[u64; 64],
     held: usize,
-    attrs: &mut [usize; 80],
 ) -> Judged
-    ensures { λ _. ⌜ length (now (attrs .exit)) ≡ length (now (attrs .entry)) ⌝ }
-    ensures { λ r. ⌜ ((ms : List Motif) → length (now (attrs .entry)) ≡ 80 → held ≤ 64 → Keeps (now (job .entry)) (now (rows .entry)) (now (sums .entry)) held ms
+    ensures { λ r. ⌜ ((ms : List Motif) → held ≤ 64 → Keeps (now (job .entry)) (now (rows .entry)) (now (sums .entry)) held ms
         → Judges ms r (motifOf ms (now (s .entry)))) ⌝ }
 {
+    let mut attrs = [0usize; 80];
     match wire::header_of(s) {
         Header::No(code, place) => Judged::Faulty(code, place),
-        Header::Is(high, next) => operators(s, high, next, job, rows, sums, held, attrs),
+        Header::Is(high, next) => operators(s, high, next, job, rows, sums, held, &mut attrs),
     }
 }

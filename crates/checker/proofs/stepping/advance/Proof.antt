@@ -78,9 +78,9 @@ enum-known-o c = search needs
 -- src/stepping.rt:194:30
 perform-requires : tie.Need-perform-requires
 perform-requires c κs =
-    let f = c .before .before .before .before .before .before .before .before .before in
+    let f = c .before .before .before .before .before .before .before .before in
     let st = f .before .before .before .before .before .before .before in
-    let w = rw (c .before .before .before .before .before .before .before .o .given .1) at (f .operator-at .ensures .1 .1) in
+    let w = rw (c .before .before .before .before .before .before .o .given .1) at (f .operator-at .ensures .1 .1) in
     (st .pre .0, st .pre .1, w .0, w .1, w .2, w .4, st .pre .3)
 
 -- src/stepping.rt:163:1
@@ -91,10 +91,10 @@ returns c =
     let a = st .args in (
       record { work-long = refl; list-long = refl; rest = refl },
       (
-        (f .operator-at .ensures .0, refl),
+        f .operator-at .ensures .0,
         (
           tt,
-          λ d list₀ l z y h.
+          λ d list₀ l z h.
               let set : Setting = record { high = a .high; gray = a .gray } in
               let q = rw (c .before .before .code .given .1) at (read-is f list₀ _ d z refl h) in
               let p = read-placed (contextOf every (a .high) (d .place)) (a .job .now) (d .at) _ _ q in
@@ -112,10 +112,10 @@ returns-2 c =
     let a = st .args in (
       record { work-long = refl; list-long = refl; rest = refl },
       (
-        (f .operator-at .ensures .0, refl),
+        f .operator-at .ensures .0,
         (
           tt,
-          λ d list₀ l z y h.
+          λ d list₀ l z h.
               let set : Setting = record { high = a .high; gray = a .gray } in
               let q = rw (c .before .before .enum-told .given .1) at (read-is f list₀ _ d z refl h) in
               stopped (c .stop2 .result) (jobStep every set (a .job .now) (length list₀) d) (endCode (d .place)) (length (a .job .now)) outer h (step-ended set (a .job .now) (length list₀) d q)
@@ -137,20 +137,20 @@ same-length-2 c = search needs
 returns-3 : tie.Need-returns-3
 returns-3 c =
     let g = c .before .before .before .before in
-    let f = g .before .before .before .before .before .before .before .before .before .before in
+    let f = g .before .before .before .before .before .before .before .before .before in
     let st = f .before .before .before .before .before .before .before in
     let a = st .args in
-    let e = g .before .before .before .before .before .before .before .before .o .given .1 in
+    let e = g .before .before .before .before .before .before .before .o .given .1 in
     let w = rw e at (f .operator-at .ensures .1 .1) in (
       g .perform .ensures .0,
       (
-        (f .operator-at .ensures .0, g .perform .ensures .1 .0),
+        f .operator-at .ensures .0,
         (
-          g .perform .ensures .1 .1 .0,
-          λ d list₀ l z y h.
+          g .perform .ensures .1 .0,
+          λ d list₀ l z h.
               let set : Setting = record { high = a .high; gray = a .gray } in
               let q = rw e at (read-is f list₀ _ d z refl h) in
-              steps-read set d _ q (g .perform .ensures .1 .1 .1 d list₀ l (record { long = f .operator-at .ensures .0 ∙ z; few = w .4 }) y (w .3) h q),
+              steps-read set d _ q (g .perform .ensures .1 .1 d list₀ l (record { long = f .operator-at .ensures .0 ∙ z; few = w .4 }) (w .3) h q),
         ),
       ),
     )

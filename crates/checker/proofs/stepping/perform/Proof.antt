@@ -58,22 +58,19 @@ unfolding contextOf
 returns c =
     let j = c .before .before .before .before .before in
     let e = j .before in
-    let st = e .before .before .before .before .before .before .before .before in
+    let st = e .before .before .before .before .before .before .before in
     let a = st .args in (
       record { work-long = refl; list-long = refl; rest = refl },
       (
-        e .early-of .ensures .0,
-        (
-          tt,
-          λ d list₀ l z y w h q.
-              let o = operatorAs (a .o) (a .attrs .now) in
-              let set : Setting = record { high = a .high; gray = a .gray } in
-              let r = e .early-of .ensures .1 (d .place) d (a .high) (h .place) z y (st .pre .1) (read-may (contextOf every (a .high) (d .place)) (a .job .now) (d .at) o q) in
-              let n = rw (c .before .before .before .code .given .1) at (j .judge .ensures (d .place) d _ _ _ (h .place) z (h .performed) r) in
-              stopped (c .stop .result) (onRead every set (a .job .now) (length list₀) d (operator o)) _ (a .o .at) (innerOf (e .early-of .result)) h
-              (step-refused set (a .job .now) (length list₀) d o _ _ (judged-refused n (length list₀)))
-              (c .stop .ensures d (omega (arith, st .pre)) (omega (arith, st .pre)) (h .records) (h .performed) ∙ ap (λ i. told (refusedAt (c .before .before .before .code .given .0 .0) (a .o .at) i d)) (c .before .inner-of .ensures)),
-        ),
+        tt,
+        λ d list₀ l z w h q.
+            let o = operatorAs (a .o) (a .attrs .now) in
+            let set : Setting = record { high = a .high; gray = a .gray } in
+            let r = e .early-of .ensures (d .place) d (a .high) (h .place) z (st .pre .1) (read-may (contextOf every (a .high) (d .place)) (a .job .now) (d .at) o q) in
+            let n = rw (c .before .before .before .code .given .1) at (j .judge .ensures (d .place) d _ _ _ (h .place) z (h .performed) r) in
+            stopped (c .stop .result) (onRead every set (a .job .now) (length list₀) d (operator o)) _ (a .o .at) (innerOf (e .early-of .result)) h
+            (step-refused set (a .job .now) (length list₀) d o _ _ (judged-refused n (length list₀)))
+            (c .stop .ensures d (omega (arith, st .pre)) (omega (arith, st .pre)) (h .records) (h .performed) ∙ ap (λ i. told (refusedAt (c .before .before .before .code .given .0 .0) (a .o .at) i d)) (c .before .inner-of .ensures)),
       ),
     )
 
@@ -92,20 +89,17 @@ returns-2 c =
     let g = c .before .before .before .before in
     let j = g .before .before .before .before .before .before .before .before in
     let e = j .before in
-    let st = e .before .before .before .before .before .before .before .before in
+    let st = e .before .before .before .before .before .before .before in
     let a = st .args in (
       g .go-on .ensures .0,
       (
-        e .early-of .ensures .0,
-        (
-          g .go-on .ensures .1 .0,
-          λ d list₀ l z y w h q.
-              let o = operatorAs (a .o) (a .attrs .now) in
-              let r = e .early-of .ensures .1 (d .place) d (a .high) (h .place) z y (st .pre .1) (read-may (contextOf every (a .high) (d .place)) (a .job .now) (d .at) o q) in
-              let n = rw (g .before .before .before .before .before .before .page .given .1) at (j .judge .ensures (d .place) d _ _ _ (h .place) z (h .performed) r) in
-              g .go-on .ensures .1 .1 d list₀ l z w h
-              (record { read = q; passes = judged-passes (e .early-of .result) n r; earlier = r; drawn = judged-page n; counts = judged-count n; rules = judged-rules n (length list₀) }),
-        ),
+        g .go-on .ensures .1 .0,
+        λ d list₀ l z w h q.
+            let o = operatorAs (a .o) (a .attrs .now) in
+            let r = e .early-of .ensures (d .place) d (a .high) (h .place) z (st .pre .1) (read-may (contextOf every (a .high) (d .place)) (a .job .now) (d .at) o q) in
+            let n = rw (g .before .before .before .before .before .before .page .given .1) at (j .judge .ensures (d .place) d _ _ _ (h .place) z (h .performed) r) in
+            g .go-on .ensures .1 .1 d list₀ l z w h
+            (record { read = q; passes = judged-passes (e .early-of .result) n r; earlier = r; drawn = judged-page n; counts = judged-count n; rules = judged-rules n (length list₀) }),
       ),
     )
 

@@ -1,7 +1,6 @@
 -- `session::early::early_of` meets its contract: between sessions nothing is judged.
 -- Assumes nothing.
 use Rattle.session.proofs.Breaking.{outer-fine, inner-early}
-use mathlib.Core.Path.{refl}
 use borrow.Author.Needs.{needs}
 use Rattle.session.proofs.early.early_of.Statement.{statement}
 use Rattle.session.proofs.early.early_of.Tie as tie
@@ -21,16 +20,13 @@ inside-early-requires c κs = search needs
 returns : tie.Need-returns
 returns c =
     let a = c .before .before .before .before .args in
-    (refl, rw (c .enum-told .given .1) (λ q st high h s z w m. outer-fine (a .attrs .now) q (a .o) st high h m))
+    rw (c .enum-told .given .1) (λ q st high h s w m. outer-fine (a .attrs .now) q (a .o) st high h m)
 
 returns-2 : tie.Need-returns-2
 returns-2 c =
-    let b = c .before .before .before in
+    let b = c .before .before in
     let a = b .before .before .before .before .args in
-    let e = c .inside-early .ensures .1 in (
-      c .inside-early .ensures .0,
-      rw (b .place .given .1) (λ q st high h s z w m. inner-early q (a .o) st high (c .inside-early .result) (λ x f u k y s l m. e x f u k y s z l m) h s w m),
-    )
+    rw (b .place .given .1) (λ q st high h s w m. inner-early q (a .o) st high (c .inside-early .result) (c .inside-early .ensures) h s w m)
 
 pub early-of-spec : {M : Type 1} → statement M
 early-of-spec =

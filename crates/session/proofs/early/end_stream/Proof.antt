@@ -4,7 +4,7 @@ use Rattle.session.proofs.Joined.{part-same, part-short}
 use Rattle.session.proofs.Breaking.{end-valid, end-faulty}
 use Prim.Native.Nat.{_+_, _-_}
 use native.Mathlib.Omega.{arith}
-use mathlib.Core.Path.{_≡_, refl, _∙_}
+use mathlib.Core.Path.{_≡_, _∙_}
 use borrow.Author.Needs.{needs}
 use Rattle.session.proofs.early.end_stream.Statement.{statement}
 use Rattle.session.proofs.early.end_stream.Tie as tie
@@ -14,14 +14,14 @@ use Rattle.stream.proofs.judge_motif.Reads as judge-motif-reads
 
 returns : tie.Need-returns
 returns c =
-    (refl, λ attrs x o h k z w l e t. absurd (omega arith))
+    λ attrs x o h k w l e t. absurd (omega arith)
 
 sub-if2 : tie.Need-sub-if2
 sub-if2 c = search needs
 
 returns-2 : tie.Need-returns-2
 returns-2 c =
-    (refl, λ attrs x o h k z w l e t. absurd (omega arith))
+    λ attrs x o h k w l e t. absurd (omega arith)
 
 add-judge-motif : tie.Need-add-judge-motif
 add-judge-motif c = search needs
@@ -44,28 +44,24 @@ enum-known-depth c = search needs
 enum-known-code : tie.Need-enum-known-code
 enum-known-code c = search needs
 
-cast-t23 : tie.Need-cast-t23
-cast-t23 c = search needs
+cast-t21 : tie.Need-cast-t21
+cast-t21 c = search needs
 
 returns-3 : tie.Need-returns-3
 returns-3 c =
     let j = c .before .before .before in
-    let a = j .before .before .before .before .before .before .before .args in
-    let n : a .used + a .joined - a .used ≡ a .joined = omega arith in (
-      j .judge-motif .ensures .0,
-      λ attrs x o h k z w l e t. end-valid (a .job .now) attrs x o t (part-same (a .work .now) (a .used) n ∙ e)
-          (rw (c .before .depth .given .1) at (j .judge-motif .ensures .1 (x .held) z h k)),
-    )
+    let a = j .before .before .before .before .before .before .args in
+    let n : a .used + a .joined - a .used ≡ a .joined = omega arith in
+    λ attrs x o h k w l e t. end-valid (a .job .now) attrs x o t (part-same (a .work .now) (a .used) n ∙ e)
+    (rw (c .before .depth .given .1) at (j .judge-motif .ensures (x .held) h k))
 
 returns-4 : tie.Need-returns-4
 returns-4 c =
     let j = c .before .before .before in
-    let a = j .before .before .before .before .before .before .before .args in
-    let n : a .used + a .joined - a .used ≡ a .joined = omega arith in (
-      j .judge-motif .ensures .0,
-      λ attrs x o h k z w l e t. end-faulty (a .job .now) attrs x o t (part-same (a .work .now) (a .used) n ∙ e) (part-short (a .work .now) (a .used) n (omega arith))
-          (rw (c .before .code .given .1) at (j .judge-motif .ensures .1 (x .held) z h k)),
-    )
+    let a = j .before .before .before .before .before .before .args in
+    let n : a .used + a .joined - a .used ≡ a .joined = omega arith in
+    λ attrs x o h k w l e t. end-faulty (a .job .now) attrs x o t (part-same (a .work .now) (a .used) n ∙ e) (part-short (a .work .now) (a .used) n (omega arith))
+    (rw (c .before .code .given .1) at (j .judge-motif .ensures (x .held) h k))
 
 pub end-stream-spec : {M : Type 1} → statement M
 end-stream-spec =
@@ -81,6 +77,6 @@ end-stream-spec =
     judge-motif-requires
     enum-known-depth
     enum-known-code
-    cast-t23
+    cast-t21
     returns-3
     returns-4)

@@ -1,7 +1,6 @@
 -- `session::early::inside_early` meets its contract: case by case of what the session is at.
 -- Assumes nothing.
 use Rattle.session.proofs.Standing.{rest-phase, is-drawn}
-use mathlib.Core.Path.{refl}
 use borrow.Author.Needs.{needs}
 use Rattle.session.proofs.early.inside_early.Statement.{statement}
 use Rattle.session.proofs.early.inside_early.Tie as tie
@@ -32,17 +31,17 @@ drawing-early-requires c κs = search needs
 returns : tie.Need-returns
 returns c =
     let a = c .before .before .before .before .before .args in
-    (refl, rw (c .before .enum-told .given .1) (λ x h u k y s z w m. c .resting-early .ensures (a .sums .now) x h k s (rw (← rest-phase y) at m)))
+    rw (c .before .enum-told .given .1) (λ x h u k y s w m. c .resting-early .ensures (a .sums .now) x h k s (rw (← rest-phase y) at m))
 
 returns-2 : tie.Need-returns-2
 returns-2 c =
-    let b = c .before .before .before in
+    let b = c .before .before in
     let a = b .before .before .before .before .args in
-    (c .reading-early .ensures .0, rw (b .busy .given .1) (λ x h u k y s z w m. c .reading-early .ensures .1 (a .attrs .now) x _ _ h u k y z w m))
+    rw (b .busy .given .1) (λ x h u k y s w m. c .reading-early .ensures (a .attrs .now) x _ _ h u k y w m)
 
 returns-3 : tie.Need-returns-3
 returns-3 c =
-    (refl, rw (c .before .enum-told2 .given .1) (λ x h u k y s z w m. c .drawing-early .ensures x h k s (is-drawn y) m))
+    rw (c .before .enum-told2 .given .1) (λ x h u k y s w m. c .drawing-early .ensures x h k s (is-drawn y) m)
 
 pub inside-early-spec : {M : Type 1} → statement M
 inside-early-spec =

@@ -30,14 +30,14 @@ returns : tie.Need-returns
 unfolding motifOf motifFrom
 returns c =
     let h = rw (c .before .code .given .1) at (c .before .before .before .header-of .ensures .0) in
-    (refl, λ ms l k q. rw (← h) judges-faulty)
+    λ ms k q. rw (← h) judges-faulty
 
 -- src/judging.rt:223:1
 returns-2 : tie.Need-returns-2
 unfolding motifOf motifFrom
 returns-2 c =
     let h = rw (c .before .before .before .high .given .1) at (c .before .before .before .before .before .header-of .ensures .0) in
-    (c .operators .ensures .0, λ ms l k q. rw (← h) (c .operators .ensures .1 ms l k q))
+    λ ms k q. rw (← h) (c .operators .ensures .1 ms refl k q)
 
 pub judge-motif-spec : {M : Type 1} → statement M
 judge-motif-spec =
