@@ -68,7 +68,7 @@ module _ (c : Case) (u : Unbroken c) where
 -- one of the earlier rules is broken
 pub early-judged : (c : Case) {code inner : ℕ} → Earlies c (Early-is.No code inner) → Judgement c inner (No code)
 unfolding rules
-early-judged c (early-no f) = judged-no (λ room. f (later room))
+early-judged c (early-no f l) = judged-no (λ room. f (later room))
 
 held-call : (tag : ℕ) → eqb tag 0x5d ≡ true → eqb tag 0x5e ≡ false
 held-call tag e = rw (eqb-true tag 0x5d e) refl

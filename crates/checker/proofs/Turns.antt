@@ -287,7 +287,7 @@ unfolding rules
 judged-passes Early-is.Fine j e = tt
 judged-passes (Early-is.Call v) j e = tt
 judged-passes (Early-is.Held n v) j e = tt
-judged-passes {c} (Early-is.No code inner) (judged-to f a b k) (early-no g) = unrefused (sym (g _) ∙ f (c .records * 16) ∙ enough c)
+judged-passes {c} (Early-is.No code inner) (judged-to f a b k) (early-no g l) = unrefused (sym (g _) ∙ f (c .records * 16) ∙ enough c)
 
 -- a step over an operator that was read
 pub steps-read : {job list₀ : List ℕ} {l : Lent} {t : Step} (set : Setting) (d : State) (o : Operator) → operatorAt (contextOf every (set .high) (d .place)) job (d .at) ≡ Read.operator o

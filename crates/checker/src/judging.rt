@@ -8,7 +8,7 @@ ghost use Rattle.wire.specs.Rows.{Sized};
 ghost use Rattle.scope.specs.Reading as reading;
 ghost use Rattle.scope.specs.Session as scope;
 ghost use Rattle.scope.specs.Session.{sessionOf};
-ghost use Rattle.scope.specs.Judge.{State, caseOf, outer};
+ghost use Rattle.scope.specs.Judge.{State, Case, caseOf, outer};
 ghost use Rattle.reader.specs.Reads.{operatorAs};
 ghost use Rattle.session.specs.Places.{PlaceHolds};
 ghost use Rattle.session.specs.Earlier.{Earlies, Unbroken};
@@ -22,13 +22,13 @@ use session::Place;
 
 // The inner position of a refusal.
 pub fn inner_of(early: Early) -> u32
-    ensures { λ r. ⌜ r ≡ innerOf early ⌝ }
+    ensures { λ r. ⌜ ((c : Case) → Earlies c early → r ≡ innerOf early) ⌝ }
 {
     match early {
         Early::Fine => OUTER,
         Early::Call(_) => OUTER,
         Early::Held(_, _) => OUTER,
-        Early::No(_, inner) => inner,
+        Early::No(_, inner) => (inner % 4_294_967_296) as u32,
     }
 }
 

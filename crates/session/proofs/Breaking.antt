@@ -44,7 +44,7 @@ pub passes-unbroken : {c : Case} {e : Early} → Earlies c e → Passes e → Un
 passes-unbroken (early-fine a b u) p = u
 passes-unbroken (early-call a b u) p = u
 passes-unbroken (early-held a b u) p = u
-passes-unbroken (early-no f) p = absurd p
+passes-unbroken (early-no f l) p = absurd p
 
 first-not : (t : Bool) → t || false ≡ false → t ≡ false
 first-not true e = e
@@ -53,19 +53,19 @@ first-not false e = refl
 module _ (c : Case) where
   no-19 : tooMuch c ≡ true → Earlies c (No 19 outer)
   unfolding firstBroken
-  no-19 e = early-no {code = 19} {inner = outer} (λ rest. rw e)
+  no-19 e = early-no {code = 19} {inner = outer} (λ rest. rw e) (omega arith)
 
   no-20 : tooMuch c ≡ false → nameHeld c ≡ true → Earlies c (No 20 outer)
   unfolding firstBroken
-  no-20 a e = early-no {code = 20} {inner = outer} (λ rest. rw (a, e))
+  no-20 a e = early-no {code = 20} {inner = outer} (λ rest. rw (a, e)) (omega arith)
 
   no-21 : tooMuch c ≡ false → nameHeld c ≡ false → nameMissing c ≡ true → Earlies c (No 21 outer)
   unfolding firstBroken
-  no-21 a b e = early-no {code = 21} {inner = outer} (λ rest. rw (a, b, e))
+  no-21 a b e = early-no {code = 21} {inner = outer} (λ rest. rw (a, b, e)) (omega arith)
 
-  no-own : {code inner : ℕ} → tooMuch c ≡ false → nameHeld c ≡ false → nameMissing c ≡ false → c .made ≡ faulty code inner → Earlies c (No code inner)
+  no-own : {code inner : ℕ} → tooMuch c ≡ false → nameHeld c ≡ false → nameMissing c ≡ false → c .made ≡ faulty code inner → inner < 4_294_967_296 → Earlies c (No code inner)
   unfolding firstBroken
-  no-own {code} {inner} a b d e = early-no {code = code} {inner = inner} (λ rest. rw (a, b, d, e))
+  no-own {code} {inner} a b d e l = early-no {code = code} {inner = inner} (λ rest. rw (a, b, d, e)) l
 
   much : (k : Bool) (l : Bool) → eqb (c .op .tag) 0x5b ≡ k → eqb (c .op .tag) 0x5c ≡ l
       → tooMuch c ≡ (k && leb 64 (length (c .session .held))) || (l && ltb 16384 (bytesHeld (c .session .held) + (length (joinedOf (c .session .busy)) + c .op .length)))
@@ -270,16 +270,15 @@ module _ (job attrs : List ℕ) (x : Session) (o : Operator) where
         early-held (eq-eqb (o .tag) 0x5d b) j
         (record { room = ends-free st high; new = ends-new st high; known = ends-known st high; sound = valid-sound j })
 
-    -- EndStream of a faulty one: its place lies within it, so it is not cut off
+    -- EndStream of a faulty one: its place lies within it
     pub end-faulty : {s : List ℕ} {code place : ℕ} → s ≡ joinedOf (x .busy) → length s ≤ 16384 → Judges (x .held) (Faulty code place) (motifOf (x .held) s)
-        → EarliesIn job attrs x o (No code (place % 4_294_967_296))
+        → EarliesIn job attrs x o (No code place)
     unfolding EarliesIn
     end-faulty {s} {code} {place} e l h =
         let f : motifOf (x .held) s ≡ faulty code place = faulty-is h in
         let k : place ≤ length s = motif-placed (x .held) s code place f in
-        let m : place % 4_294_967_296 ≡ place = omega arith in
         let g : motifOf (x .held) (joinedOf (x .busy)) ≡ faulty code place = rw e at f in
-        rw m (λ st high. no-own (of-it st high) (ends-free st high) (ends-new st high) (ends-known st high) (made-end st high ∙ g))
+        λ st high. no-own (of-it st high) (ends-free st high) (ends-new st high) (ends-known st high) (made-end st high ∙ g) (omega arith)
 
 -- an operator between sessions
 pub outer-fine : {job rows sums work : List ℕ} {b : Bool} (attrs : List ℕ) (q : scope.Place) (o : Operator) (st : State) (high : Bool) → PlaceHolds job rows sums work (Outside b) q

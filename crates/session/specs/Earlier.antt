@@ -1,6 +1,6 @@
 -- What the rules of codes 19 to 21 and those of a motif at EndStream come to.
 -- Assumes nothing.
-use Prim.Native.Nat.{ℕ}
+use Prim.Native.Nat.{ℕ, _<_}
 use mathlib.Core.Path.{_≡_}
 use mathlib.Core.Bool.{Bool, true, false}
 use mathlib.Core.List.{List, _∷_}
@@ -30,12 +30,12 @@ pub record Unbroken (c : Case) : Type 0 where
   pub known : nameMissing c ≡ false
   pub sound : (r : Refusal) → ownOr (c .made) r ≡ r
 
--- the answer of the code: none is broken, and what the operator goes on with; or the first that is
+-- the answer of the code: none is broken, and what the operator goes on with; or the first that is, with an inner position that fits a verdict
 pub data Earlies (c : Case) : Early → Type 0 where
   early-fine : eqb (c .op .tag) ExecStream ≡ false → eqb (c .op .tag) EndStream ≡ false → Unbroken c → Earlies c Fine
   early-call : {v : ℕ} → eqb (c .op .tag) ExecStream ≡ true → SumsAs v (unfolded (c .session .held) (c .name)) → Unbroken c → Earlies c (Call v)
   early-held : {n v : ℕ} → eqb (c .op .tag) EndStream ≡ true → Judges (c .session .held) (Valid n v) (c .made) → Unbroken c → Earlies c (Held n v)
-  early-no : {code inner : ℕ} → ((rest : List Rule) → firstBroken every c (before rest) ≡ refused code inner) → Earlies c (No code inner)
+  early-no : {code inner : ℕ} → ((rest : List Rule) → firstBroken every c (before rest) ≡ refused code inner) → inner < 4_294_967_296 → Earlies c (No code inner)
 
 -- the answer of the code to an operator with these attributes in a session, whatever was performed before
 unfoldable pub EarliesIn : (job attrs : List ℕ) → Session → Operator → Early → Type 0

@@ -22,14 +22,14 @@ use reader::Operator;
 use stream::Judged;
 
 // Inner, unless said otherwise.
-const OUTER: u32 = 4_294_967_295;
+const OUTER: usize = 4_294_967_295;
 
 // None of these rules is broken (of a call with its motif's summary; of EndStream with how deep the motif nests and its summary); or a code and an inner position.
 pub enum Early {
     Fine,
     Call(u64),
     Held(usize, u64),
-    No(u32, u32),
+    No(u32, usize),
 }
 
 // BeginStream: 19 with 64 held, 20 with a held name.
@@ -110,7 +110,7 @@ fn end_stream(
     }
     match stream::judge_motif(&work[used..used + joined], job, rows, sums, held) {
         Judged::Valid(depth, sum) => Early::Held(depth, sum),
-        Judged::Faulty(code, place) => Early::No(code, (place % 4_294_967_296) as u32),
+        Judged::Faulty(code, place) => Early::No(code, place),
     }
 }
 

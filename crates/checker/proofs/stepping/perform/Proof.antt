@@ -70,7 +70,7 @@ returns c =
             let n = rw (c .before .before .before .code .given .1) at (j .judge .ensures (d .place) d _ _ _ (h .place) z (h .performed) r) in
             stopped (c .stop .result) (onRead every set (a .job .now) (length list₀) d (operator o)) _ (a .o .at) (innerOf (e .early-of .result)) h
             (step-refused set (a .job .now) (length list₀) d o _ _ (judged-refused n (length list₀)))
-            (c .stop .ensures d (omega (arith, st .pre)) (omega (arith, st .pre)) (h .records) (h .performed) ∙ ap (λ i. told (refusedAt (c .before .before .before .code .given .0 .0) (a .o .at) i d)) (c .before .inner-of .ensures)),
+            (c .stop .ensures d (omega (arith, st .pre)) (omega (arith, st .pre)) (h .records) (h .performed) ∙ ap (λ i. told (refusedAt (c .before .before .before .code .given .0 .0) (a .o .at) i d)) (c .before .inner-of .ensures _ r)),
       ),
     )
 

@@ -44,9 +44,6 @@ enum-known-depth c = search needs
 enum-known-code : tie.Need-enum-known-code
 enum-known-code c = search needs
 
-cast-t21 : tie.Need-cast-t21
-cast-t21 c = search needs
-
 returns-3 : tie.Need-returns-3
 returns-3 c =
     let j = c .before .before .before in
@@ -77,6 +74,5 @@ end-stream-spec =
     judge-motif-requires
     enum-known-depth
     enum-known-code
-    cast-t21
     returns-3
     returns-4)
