@@ -1,7 +1,7 @@
 -- Laws of the walk over pairs: each turn of it, and that a pair is read only where there is room for it.
 -- Assumes nothing.
-use Prim.Native.Nat.{ℕ, _+_, _≤_, _<_}
-use mathlib.Core.Path.{_≡_, sym, ap, _∙_}
+use Prim.Native.Nat.{ℕ, suc, _+_, _*_, _≤_, _<_}
+use mathlib.Core.Path.{_≡_, refl, sym, ap, _∙_}
 use mathlib.Core.Bool.{Bool, true, false}
 use mathlib.Core.List.{List}
 use native.Mathlib.Omega.{arith}
@@ -9,10 +9,24 @@ use borrow.Author.Tests.{le-leb, lt-leb}
 use lib.ListN.{length, getD}
 use Rattle.scope.specs.Choice.{between}
 use Rattle.scope.specs.Iterate.{onward}
-use Rattle.scope.specs.Item.{Attribute, Kind, plain, array, other, kindOf, Value, valueOf, Pair, pairOf, pairAt, Scan, white, endedWith, onPair, scanItem, scanStep, scanFrom}
+use Rattle.scope.specs.Item.{Attribute, Kind, plain, array, other, kindOf, Value, numbersAt, valueOf, Pair, pairOf, pairAt, Scan, white, endedWith, onPair, scanItem, scanStep, scanFrom}
 use Rattle.scope.proofs.Ends.{GoodPair, pair-good}
 use Rattle.scope.proofs.Falls.{scan-step}
+use Rattle.wire.specs.Rows.{rowsOf, withPair}
+use Rattle.wire.specs.Values.{answerTo}
+use Rattle.wire.specs.declared.pair.Pair.{Pair as CodePair}
+use Rattle.wire.specs.declared.pair.Pair.the-variants.{Next, No, Waits}
+use Rattle.wire.proofs.Rows.{length-rows, rows-stored}
 use Rattle.wire.proofs.Spaces.{after-white, after-black, after-end}
+
+-- the numbers of a value are not all there, or they are
+pub numbers-short : (s : List ℕ) (at first n w : ℕ) → length s < first + n * w → numbersAt s at first n w ≡ Value.no 5 at
+unfolding numbersAt
+numbers-short s at first n w h = rw (lt-leb _ _ h)
+
+pub numbers-all : (s : List ℕ) (at first n w : ℕ) → first + n * w ≤ length s → numbersAt s at first n w ≡ Value.is n first (first + n * w)
+unfolding numbersAt
+numbers-all s at first n w h = rw (le-leb _ _ h)
 
 -- a value that was refused
 data Refused : Value → Type 0 where
@@ -24,9 +38,17 @@ IsNo (Pair.is r next) = ⊥
 IsNo (Pair.no code place) = Unit {0}
 IsNo Pair.waits = ⊥
 
--- what a pair that was read says of its end
-good-is : {len at : ℕ} {r : Attribute} {next : ℕ} → GoodPair len at (Pair.is r next) → (at < next) × (next ≤ len)
-good-is (GoodPair.is h k) = (h, k)
+-- what the code's answer to the pair at `at`, after n pairs, says: a pair that was read ends past its value's tag and within the
+-- bytes, and fewer than 16 come before it
+abbrev Ends : ℕ → ℕ → ℕ → CodePair → Type 0
+Ends len at n (Next next) = (at < next) × (next ≤ len) × (n < 16)
+Ends len at n (No code place) = Unit {0}
+Ends len at n Waits = Unit {0}
+
+ends : {len at n : ℕ} {p : Pair} → GoodPair len at p → (16 ≤ n → IsNo p) → Ends len at n (answerTo p)
+ends (GoodPair.is h k) f = (h, k, omega (arith, f))
+ends (GoodPair.no h) f = tt
+ends GoodPair.waits f = tt
 
 module _ (high : Bool) (s : List ℕ) where
   full-value : (at n : ℕ) (k : Kind) → 16 ≤ n → Refused (valueOf high s at n k)
@@ -39,13 +61,24 @@ module _ (high : Bool) (s : List ℕ) where
   unfolding pairOf
   full-pair at refused = tt
 
-  -- a pair that was read ends past its value's tag and within the bytes, and there were fewer than 16 before it
-  pub pair-read : (at n : ℕ) (r : Attribute) (next : ℕ) → pairAt high s at n ≡ Pair.is r next → (at < next) × (next ≤ length s) × (n < 16)
+  pub pair-ends : (at n : ℕ) (r : CodePair) → r ≡ answerTo (pairAt high s at n) → Ends (length s) at n r
   unfolding pairAt
-  pair-read at n r next e =
-      let g = good-is (rw e at (pair-good high s at n)) in
-      let f : 16 ≤ n → ⊥ = λ h. rw e at (full-pair at (full-value at n (kindOf (getD s at 0)) h)) in
-      (g .0, g .1, omega arith)
+  pair-ends at n r e = rw e (ends (pair-good high s at n) (λ h. full-pair at (full-value at n (kindOf (getD s at 0)) h)))
+
+  -- the scan after a pair, by the code's answer and the array that it left
+  abbrev pub afterPair : CodePair → List ℕ → ℕ → Scan
+  afterPair (Next next) a n = scanFrom high s (record { at = next; attrs = rowsOf a (suc n) })
+  afterPair (No code place) a n = Scan.no code place
+  afterPair Waits a n = Scan.no 27 (length s)
+
+  on-pair : (at : ℕ) (a : List ℕ) (n : ℕ) → length a ≡ 80 → (p : Pair) → Ends (length s) at n (answerTo p)
+      → onward (scanFrom high s) (onPair s (rowsOf a n) p) ≡ afterPair (answerTo p) (withPair a n p) n
+  unfolding onPair
+  on-pair at a n z (Pair.is r next) h =
+      ap (λ (l : List Attribute). scanFrom high s (record { at = next; attrs = l }))
+      (sym (rows-stored a n (r .number) (r .tag) (r .at) (r .count) (r .first) (omega arith)))
+  on-pair at a n z (Pair.no code place) h = refl
+  on-pair at a n z Pair.waits h = refl
 
   module _ (at : ℕ) (l : List Attribute) where
     -- a white byte is passed
@@ -67,7 +100,15 @@ module _ (high : Bool) (s : List ℕ) where
       unfolding scanStep scanItem
       scan-tag e = scan-step high s (record { at = at; attrs = l }) ∙ rw (after-black s at h black, lt-leb _ _ h, e)
 
-      pub scan-pair : between 0x41 0xbf (getD s at 0) ≡ false → (r : Pair) → r ≡ pairAt high s at (length l)
-          → scanFrom high s (record { at = at; attrs = l }) ≡ onward (scanFrom high s) (onPair s l r)
+      black-item : between 0x41 0xbf (getD s at 0) ≡ false
+          → scanFrom high s (record { at = at; attrs = l }) ≡ onward (scanFrom high s) (onPair s l (pairAt high s at (length l)))
       unfolding scanStep scanItem
-      scan-pair e r f = scan-step high s (record { at = at; attrs = l }) ∙ rw (after-black s at h black, lt-leb _ _ h, e, f)
+      black-item e = scan-step high s (record { at = at; attrs = l }) ∙ rw (after-black s at h black, lt-leb _ _ h, e)
+
+  -- a pair is read, and the scan goes on with it stored, or ends
+  pub scan-pair : (at : ℕ) (a : List ℕ) (n : ℕ) → at < length s → white (getD s at 0) ≡ false → between 0x41 0xbf (getD s at 0) ≡ false
+      → length a ≡ 80 → (r : CodePair) (b : List ℕ) → r ≡ answerTo (pairAt high s at n) → b ≡ withPair a n (pairAt high s at n)
+      → scanFrom high s (record { at = at; attrs = rowsOf a n }) ≡ afterPair r b n
+  scan-pair at a n h black e z r b f g =
+      black-item at (rowsOf a n) h black e
+      ∙ rw (length-rows a n, f, g) (on-pair at a n z (pairAt high s at n) (pair-ends at n _ refl))

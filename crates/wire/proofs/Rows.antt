@@ -8,8 +8,8 @@ use native.Mathlib.Nat.{add-zero, zero-add, suc-add}
 use native.Mathlib.Numerals.{add-one}
 use lib.ListN.{length, getD, set, take, drop, length-set}
 use lib.Seq.{getD-set-same, getD-set-other, take-at, drop-at}
-use Rattle.scope.specs.Item.{Attribute, Scan, endedWith}
-use Rattle.wire.specs.Rows.{rowAt, rowsFrom, rowsOf, withRow}
+use Rattle.scope.specs.Item.{Attribute, Pair, Scan, endedWith}
+use Rattle.wire.specs.Rows.{rowAt, rowsFrom, rowsOf, withRow, withPair}
 
 module _ (a : List ℕ) where
   -- none
@@ -152,6 +152,12 @@ module _ (a : List ℕ) (n number tag at count first : ℕ) where
     rows-stored =
         rows-more (withRow a n number tag at count first) n
         ∙ rw (rows-kept 0 n (omega arith), row-stored)
+
+-- a pair that was read is stored, and the array keeps its length
+pub length-pair : (a : List ℕ) (n : ℕ) (p : Pair) → length (withPair a n p) ≡ length a
+length-pair a n (Pair.is r next) = length-stored a n (r .number) (r .tag) (r .at) (r .count) (r .first)
+length-pair a n (Pair.no code place) = refl
+length-pair a n Pair.waits = refl
 
 -- 27 if attributes wait
 pub ended-none : (a s : List ℕ) (n : ℕ) → n ≡ 0 → endedWith s (rowsOf a n) ≡ Scan.ended

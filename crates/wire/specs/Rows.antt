@@ -4,7 +4,7 @@ use Prim.Native.Nat.{ℕ, zero, suc, _+_, _*_, _≤_}
 use mathlib.Core.Path.{_≡_}
 use mathlib.Core.List.{List, [], _∷_}
 use lib.ListN.{length, getD, set}
-use Rattle.scope.specs.Item.{Attribute}
+use Rattle.scope.specs.Item.{Attribute, Pair}
 
 -- attribute i
 unfoldable pub rowAt : List ℕ → ℕ → Attribute
@@ -35,3 +35,9 @@ pub record Sized (a : List ℕ) (n : ℕ) : Type 0 where
 unfoldable pub withRow : List ℕ → ℕ → ℕ → ℕ → ℕ → ℕ → ℕ → List ℕ
 withRow a n number tag at count first =
     set (set (set (set (set a (n * 5) number) (n * 5 + 1) tag) (n * 5 + 2) at) (n * 5 + 3) count) (n * 5 + 4) first
+
+-- the array with a pair that was read stored as attribute n; as it was, where none was read
+abbrev pub withPair : List ℕ → ℕ → Pair → List ℕ
+withPair a n (Pair.is r next) = withRow a n (r .number) (r .tag) (r .at) (r .count) (r .first)
+withPair a n (Pair.no code place) = a
+withPair a n Pair.waits = a

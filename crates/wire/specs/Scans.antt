@@ -9,12 +9,12 @@ use Rattle.wire.specs.declared.scan.Scan.the-variants.{Tagged, Ended, No
 
 -- what the code found, with the array that it left the attributes in
 abbrev pub scanAs : CodeScan → List ℕ → Scan
-scanAs (Tagged t p n) a = tagged t p (rowsOf a n)
+scanAs (Tagged t n p) a = tagged t p (rowsOf a n)
 scanAs Ended a = ended
 scanAs (No code place) a = Scan.no code place
 
 -- a tag stands within the bytes, not before the start, and is a byte; it has at most 16 attributes
 abbrev pub Within : ℕ → ℕ → CodeScan → Type 0
-Within len start (Tagged t p n) = (start ≤ p) × (p < len) × (n ≤ 16) × (t < 256)
+Within len start (Tagged t n p) = (start ≤ p) × (p < len) × (n ≤ 16) × (t < 256)
 Within len start Ended = Unit {0}
 Within len start (No code place) = Unit {0}

@@ -10,9 +10,6 @@ ghost use Rattle.wire.specs.Headers.{formAs, FormWithin, headerAs, Heade
 use crate::number::byte_at;
 use crate::white::between;
 
-// `HP-PCL XL;`
-const TITLE: [u8; 10] = [0x48, 0x50, 0x2d, 0x50, 0x43, 0x4c, 0x20, 0x58, 0x4c, 0x3b];
-
 // High byte first or not, and where the items begin; or a refusal, a code and a place.
 pub enum Header {
     Is(bool, usize),
@@ -35,12 +32,23 @@ fn either(b: u8, x: u8, y: u8) -> bool
     b == y
 }
 
-// The byte of the title at a place.
+// The byte at a place of the title, `HP-PCL XL;`.
 fn title_at(k: usize) -> u8
     requires { ⌜ k < 10 ⌝ }
     ensures { λ r. ⌜ r ≡ getD title k 0 ⌝ }
 {
-    TITLE[k]
+    match k {
+        0 => 0x48,
+        1 => 0x50,
+        2 => 0x2d,
+        3 => 0x50,
+        4 => 0x43,
+        5 => 0x4c,
+        6 => 0x20,
+        7 => 0x58,
+        8 => 0x4c,
+        _ => 0x3b,
+    }
 }
 
 // Some header has the byte b at place i.

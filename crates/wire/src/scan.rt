@@ -4,16 +4,16 @@ ghost use mathlib.Core.List.{List};
 ghost use Prim.Native.Nat.{ℕ, _<_};
 ghost use lib.ListN.{length};
 ghost use Rattle.scope.specs.Item.{endedWith, scanAt};
-ghost use Rattle.wire.specs.Rows.{rowsOf, withRow};
+ghost use Rattle.wire.specs.Rows.{rowsOf};
 ghost use Rattle.wire.specs.Scans.{scanAs, Within};
 use crate::pair::Pair;
 use crate::pair::pair_at;
 use crate::white::between;
 use crate::white::is_white;
 
-// An operator's tag, its place and how many attributes it has; the end of the bytes with nothing waiting; or a refusal.
+// An operator's tag, how many attributes it has and its place; the end of the bytes with nothing waiting; or a refusal.
 pub enum Scan {
-    Tagged(u8, usize, usize),
+    Tagged(u8, u32, usize),
     Ended,
     No(u32, usize),
 }
@@ -27,27 +27,6 @@ fn ended_with(s: &[u8], n: usize) -> Scan
         return Scan::Ended;
     }
     Scan::No(27, s.len())
-}
-
-// Stores an attribute as attribute n.
-fn store(
-    attrs: &mut [usize; 80],
-    n: usize,
-    number: u32,
-    tag: u8,
-    at: usize,
-    count: usize,
-    first: usize,
-)
-    requires { ⌜ n < 16 ⌝ }
-    ensures { λ _. ⌜ now (attrs .exit) ≡ withRow (now (attrs .entry)) n number tag at count first ⌝ }
-{
-    let i = n * 5;
-    attrs[i] = number as usize;
-    attrs[i + 1] = tag as usize;
-    attrs[i + 2] = at;
-    attrs[i + 3] = count;
-    attrs[i + 4] = first;
 }
 
 // The items from `start` on up to the next operator's tag; the attributes go to `attrs`.
@@ -72,12 +51,11 @@ pub fn scan_at(s: &[u8], start: usize, high: bool, attrs: &mut [usize; 80]) -> S
         }
         let b = s[at];
         if between(0x41, 0xbf, b) {
-            end = Scan::Tagged(b, at, n);
+            end = Scan::Tagged(b, n as u32, at);
             break 'pairs;
         }
-        match pair_at(s, at, n, high) {
-            Pair::Is(number, count, first, next) => {
-                store(attrs, n, number, b, at, count, first);
+        match pair_at(s, at, n, high, attrs) {
+            Pair::Next(next) => {
                 n += 1;
                 at = next;
             }

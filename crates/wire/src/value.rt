@@ -1,25 +1,25 @@
 // Values: one, two or four numbers, or an array. Codes 5, 6, 7 and 8.
 ghost use mathlib.Core.Path.{_≡_};
-ghost use Prim.Native.Nat.{_+_, _^_, _≤_, _<_};
+ghost use Prim.Native.Nat.{ℕ, _≤_, _<_};
 ghost use lib.ListN.{length, getD};
-ghost use Rattle.scope.specs.Item.{widthOf, kindOf, numbersAt, elementsAt, countedAt, arrayAt, valueOf};
-ghost use Rattle.wire.specs.Widths.{bytesOf};
-ghost use Rattle.wire.specs.Values.{kindAs, KindFits, valueAs};
+ghost use Rattle.scope.specs.Item.{widthOf, kindOf, countedAt, arrayAt, valueOf};
+ghost use Rattle.wire.specs.Widths.{bytesOf, widthIn};
+ghost use Rattle.wire.specs.Values.{kindAs, KindFits, startsAs, Starts, Taken};
 use crate::number::Width;
 use crate::number::bytes_of;
 use crate::number::number_at;
 use crate::white::between;
 
-// What a value's tag starts: so many numbers of so many bytes, an array of numbers of so many bytes; or it is no value's tag.
+// What a value's tag starts: so many numbers, an array; or it is no value's tag.
 enum Kind {
-    Plain(usize, usize),
-    Array(usize),
+    Plain(u32),
+    Array,
     Other,
 }
 
-// How many numbers, the place of the first, the place after the value; or a refusal, a code and a place.
+// How many numbers a value has and the place of the first; or a refusal, a code and a place.
 pub enum Value {
-    Is(usize, usize, usize),
+    From(u32, usize),
     No(u32, usize),
 }
 
@@ -38,65 +38,54 @@ fn width_of(k: u8) -> usize
 
 // What a tag starts.
 fn kind_of(t: u8) -> Kind
-    ensures { λ r. ⌜ kindAs r ≡ kindOf t ⌝ }
+    ensures { λ r. ⌜ kindAs (widthIn t) r ≡ kindOf t ⌝ }
     ensures { λ r. ⌜ KindFits r ⌝ }
 {
     if between(0xc0, 0xc5, t) {
-        return Kind::Plain(1, width_of(t - 0xc0));
+        return Kind::Plain(1);
     }
     if between(0xc8, 0xcd, t) {
-        return Kind::Array(width_of(t - 0xc8));
+        return Kind::Array;
     }
     if between(0xd0, 0xd5, t) {
-        return Kind::Plain(2, width_of(t - 0xd0));
+        return Kind::Plain(2);
     }
     if between(0xe0, 0xe5, t) {
-        return Kind::Plain(4, width_of(t - 0xe0));
+        return Kind::Plain(4);
     }
     Kind::Other
 }
 
-// n numbers of w bytes from `first` on, of the item that starts at `at`.
-fn numbers_at(s: &[u8], at: usize, first: usize, n: usize, w: usize) -> Value
-    requires { ⌜ (first < 2 ^ 63 + 16) × (n ≤ 1024) × (w ≤ 4) ⌝ }
-    ensures { λ r. ⌜ valueAs r ≡ numbersAt (now (s .entry)) at first n w ⌝ }
+// The bytes of a number of a value by its tag.
+pub fn width_in(t: u8) -> usize
+    ensures { λ r. ⌜ r ≡ widthIn t ⌝ }
+    ensures { λ r. ⌜ r ≤ 4 ⌝ }
 {
-    let next = first + n * w;
-    if next <= s.len() {
-        Value::Is(n, first, next)
-    } else {
-        Value::No(5, at)
-    }
+    width_of(t % 8)
 }
 
-// An array of n elements: 8 before 5.
-fn elements_at(s: &[u8], at: usize, first: usize, w: usize, n: u32) -> Value
-    requires { ⌜ (first < 2 ^ 63 + 16) × (w ≤ 4) ⌝ }
-    ensures { λ r. ⌜ valueAs r ≡ elementsAt (now (s .entry)) at first w n ⌝ }
-{
-    if 1024 < n {
-        return Value::No(8, at);
-    }
-    numbers_at(s, at, first, n as usize, w)
-}
-
-// An array whose length is of a width.
-fn counted_at(s: &[u8], at: usize, w: usize, width: Width, high: bool) -> Value
-    requires { ⌜ (at < length (now s)) × (w ≤ 4) ⌝ }
-    ensures { λ r. ⌜ valueAs r ≡ countedAt high (now (s .entry)) at w (bytesOf width) ⌝ }
+// An array whose length is of a width: 8 if it has too many elements.
+fn counted_at(s: &[u8], at: usize, width: Width, high: bool) -> Value
+    requires { ⌜ at < length (now s) ⌝ }
+    ensures { λ r. ⌜ ((w : ℕ) → startsAs (now (s .entry)) at w r ≡ countedAt high (now (s .entry)) at w (bytesOf width)) ⌝ }
+    ensures { λ r. ⌜ Starts at r ⌝ }
 {
     let first = at + 2 + bytes_of(width);
     if s.len() < first {
         return Value::No(5, at);
     }
     let n = number_at(s, at + 2, width, high);
-    elements_at(s, at, first, w, n)
+    if 1024 < n {
+        return Value::No(8, at);
+    }
+    Value::From(n, first)
 }
 
 // An array: at once a 0xc0 or 0xc1 tag with the length; another byte there is 6.
-fn array_at(s: &[u8], at: usize, w: usize, high: bool) -> Value
-    requires { ⌜ (at < length (now s)) × (w ≤ 4) ⌝ }
-    ensures { λ r. ⌜ valueAs r ≡ arrayAt high (now (s .entry)) at w ⌝ }
+fn array_at(s: &[u8], at: usize, high: bool) -> Value
+    requires { ⌜ at < length (now s) ⌝ }
+    ensures { λ r. ⌜ ((w : ℕ) → startsAs (now (s .entry)) at w r ≡ arrayAt high (now (s .entry)) at w) ⌝ }
+    ensures { λ r. ⌜ Starts at r ⌝ }
 {
     let i = at + 1;
     if s.len() <= i {
@@ -104,34 +93,37 @@ fn array_at(s: &[u8], at: usize, w: usize, high: bool) -> Value
     }
     let b = s[i];
     if b == 0xc0 {
-        return counted_at(s, at, w, Width::One, high);
+        return counted_at(s, at, Width::One, high);
     }
     if b == 0xc1 {
-        return counted_at(s, at, w, Width::Two, high);
+        return counted_at(s, at, Width::Two, high);
     }
     Value::No(6, i)
 }
 
-// The value whose tag stands at `at`, after n pairs: 6 if it is no value's tag, then 7, then what the value itself has.
+// The value whose tag stands at `at`, after n pairs: 6 if it is no value's tag, then 7, then what the value itself has; but whether its
+// numbers are all there is not looked at.
 pub fn value_at(s: &[u8], at: usize, n: usize, high: bool) -> Value
-    ensures { λ r. ⌜ valueAs r ≡ valueOf high (now (s .entry)) at n (kindOf (getD (now (s .entry)) at 0)) ⌝ }
+    ensures { λ r. ⌜ startsAs (now (s .entry)) at (widthIn (getD (now (s .entry)) at 0)) r ≡ valueOf high (now (s .entry)) at n (kindOf (getD (now (s .entry)) at 0)) ⌝ }
+    ensures { λ r. ⌜ Starts at r ⌝ }
+    ensures { λ r. ⌜ Taken (length (now (s .entry))) at n r ⌝ }
 {
     if s.len() <= at {
         return Value::No(6, at);
     }
     match kind_of(s[at]) {
-        Kind::Plain(k, w) => {
+        Kind::Plain(k) => {
             if 16 <= n {
                 Value::No(7, at)
             } else {
-                numbers_at(s, at, at + 1, k, w)
+                Value::From(k, at + 1)
             }
         }
-        Kind::Array(w) => {
+        Kind::Array => {
             if 16 <= n {
                 Value::No(7, at)
             } else {
-                array_at(s, at, w, high)
+                array_at(s, at, high)
             }
         }
         Kind::Other => Value::No(6, at),

@@ -8,7 +8,7 @@ ghost use Rattle.scope.specs.Item.{white, after};
 // Low to high, both included.
 pub fn between(low: u8, high: u8, x: u8) -> bool
     ensures { λ r. ⌜ r ≡ Choice·between low high x ⌝ }
-    ensures { λ r. ⌜ (r ≡ true → low ≤ x) ⌝ }
+    ensures { λ r. ⌜ (r ≡ true → (low ≤ x) × (x ≤ high)) ⌝ }
 {
     if x < low {
         return false;

@@ -1,3 +1,4 @@
+use mathlib.Core.Path.{refl}
 use borrow.Author.Tests.{le-leb, lt-leb, eq-eqb, ne-eqb}
 use Rattle.scope.specs.Item.{numberAt}
 use borrow.Author.Needs.{needs}
@@ -9,7 +10,7 @@ use Rattle.wire.proofs.pair.numbered_at.Reads as numbered-at-reads
 
 returns : tie.Need-returns
 unfolding numberAt
-returns c = simp (le-leb _ _ (c .if1 .taken))
+returns c = rw (le-leb _ _ (c .if1 .taken)) (refl, refl)
 
 shared-slice-read-b : tie.Need-shared-slice-read-b
 shared-slice-read-b c = search needs
@@ -20,7 +21,8 @@ numbered-at-requires c κs = search needs
 returns-2 : tie.Need-returns-2
 unfolding numberAt
 returns-2 c =
-    simp (lt-leb _ _ (c .before .before .before .if1 .left), eq-eqb _ _ (c .before .if2 .taken)) (c .numbered-at .ensures)
+    let k = c .before .before in
+    rw (lt-leb _ _ (k .before .before .if1 .left), eq-eqb _ _ (k .if2 .taken)) (c .numbered-at .ensures)
 
 numbered-at-requires-2 : tie.Need-numbered-at-requires-2
 numbered-at-requires-2 c κs = search needs
@@ -28,12 +30,13 @@ numbered-at-requires-2 c κs = search needs
 returns-3 : tie.Need-returns-3
 unfolding numberAt
 returns-3 c =
-    simp (lt-leb _ _ (c .before .before .before .before .if1 .left), ne-eqb _ _ (c .before .before .if2 .left), eq-eqb _ _ (c .before .if3 .taken)) (c .numbered-at2 .ensures)
+    let k = c .before .before in
+    rw (lt-leb _ _ (k .before .before .before .if1 .left), ne-eqb _ _ (k .before .if2 .left), eq-eqb _ _ (k .if3 .taken)) (c .numbered-at2 .ensures)
 
 returns-4 : tie.Need-returns-4
 unfolding numberAt
 returns-4 c =
-    simp (lt-leb _ _ (c .before .before .before .if1 .left), ne-eqb _ _ (c .before .if2 .left), ne-eqb _ _ (c .if3 .left))
+    rw (lt-leb _ _ (c .before .before .before .if1 .left), ne-eqb _ _ (c .before .if2 .left), ne-eqb _ _ (c .if3 .left)) (refl, refl)
 
 pub after-value-spec : {M : Type 1} → statement M
 after-value-spec =

@@ -1,4 +1,5 @@
 use Prim.Native.Nat.{_+_, _≤_, _<_}
+use mathlib.Core.Path.{refl}
 use native.Mathlib.Omega.{arith}
 use borrow.Author.Tests.{le-leb, lt-leb}
 use lib.ListN.{length}
@@ -11,6 +12,7 @@ use Rattle.wire.proofs.pair.numbered_at.Reads as reads
 use Rattle.wire.proofs.pair.numbered_at.Lts as lts
 use Rattle.wire.proofs.number.bytes_of.Reads as bytes-of-reads
 use Rattle.wire.proofs.number.number_at.Reads as number-at-reads
+use Rattle.wire.proofs.pair.store.Reads as store-reads
 
 add-next : tie.Need-add-next
 add-next c = search needs
@@ -26,7 +28,7 @@ unfolding numbered
 returns c =
     let a = c .before .before .before .args in
     let h : length (a .s .now) < a .p + 1 + bytesOf (a .width) = omega arith in
-    simp (lt-leb _ _ h)
+    rw (lt-leb _ _ h) (refl, refl)
 
 add-number-at : tie.Need-add-number-at
 add-number-at c = search needs
@@ -34,12 +36,19 @@ add-number-at c = search needs
 number-at-requires : tie.Need-number-at-requires
 number-at-requires c κs = search needs
 
+shared-slice-read-store : tie.Need-shared-slice-read-store
+shared-slice-read-store c = search needs
+
+store-requires : tie.Need-store-requires
+store-requires c κs = search needs
+
 returns-2 : tie.Need-returns-2
 unfolding numbered
 returns-2 c =
-    let a = c .before .before .before .before .args in
+    let k = c .before .before .before in
+    let a = k .before .before .before .before .args in
     let h : a .p + 1 + bytesOf (a .width) ≤ length (a .s .now) = omega arith in
-    simp (le-leb _ _ h) (cc)
+    rw (le-leb _ _ h, ← k .number-at .ensures .0, ← k .before .before .bytes-of .ensures .0) (refl, c .store .ensures)
 
 pub numbered-at-spec : {M : Type 1} → statement M
 numbered-at-spec =
@@ -51,4 +60,6 @@ numbered-at-spec =
     returns
     add-number-at
     number-at-requires
+    shared-slice-read-store
+    store-requires
     returns-2)

@@ -1,6 +1,10 @@
-use mathlib.Core.Path.{sym, ap, _∙_}
-use Rattle.scope.specs.Item.{pairAt, pairOf}
-use Rattle.wire.specs.Values.{valueAs}
+use Prim.Native.Nat.{_+_, _*_, _≤_, _<_}
+use mathlib.Core.Path.{_≡_, refl, sym, ap, _∙_}
+use native.Mathlib.Omega.{arith}
+use native.Mathlib.Nat.{mul-le-mul}
+use lib.ListN.{length, getD}
+use Rattle.scope.specs.Item.{kindOf, numbersAt, valueOf, pairAt, pairOf}
+use Rattle.wire.proofs.Pairs.{numbers-short, numbers-all}
 use borrow.Author.Needs.{needs}
 use Rattle.wire.proofs.pair.pair_at.Statement.{statement}
 use Rattle.wire.proofs.pair.pair_at.Tie as tie
@@ -8,7 +12,30 @@ use Rattle.wire.proofs.pair.pair_at.Reads as reads
 use Rattle.wire.proofs.pair.pair_at.Lts as lts
 use Rattle.wire.proofs.pair.after_value.Reads as after-value-reads
 use Rattle.wire.proofs.value.value_at.Reads as value-at-reads
+use Rattle.wire.proofs.value.width_in.Reads as width-in-reads
 use Rattle.wire.proofs.white.after_white.Reads as after-white-reads
+
+-- what the start of a value that was found says: how many numbers and where they start, and that there is room for a row
+starts : (c : tie.After-count) → (c .count .given .0 .0 ≤ 1024) × (c .count .given .0 .1 .0 ≤ c .before .before .before .before .args .at + 6)
+starts c = rw (c .count .given .1) at (c .before .before .value-at .ensures .1 .0)
+
+taken : (c : tie.After-count) → (c .before .before .before .before .args .at < length (c .before .before .before .before .args .s .now)) × (c .before .before .before .before .args .n < 16)
+taken c = rw (c .count .given .1) at (c .before .before .value-at .ensures .1 .1)
+
+product : (c : tie.After-width-in) → c .before .before .before .count .given .0 .0 * c .width-in .result ≤ 1024 * 4
+product c = mul-le-mul (starts (c .before .before .before) .0) (c .width-in .ensures .1)
+
+-- the value, as the definitions have it
+value : (c : tie.After-width-in)
+    → let k = c .before .before .before in
+    let a = k .before .before .before .before .args in
+    valueOf (a .high) (a .s .now) (a .at) (a .n) (kindOf (getD (a .s .now) (a .at) 0))
+    ≡ numbersAt (a .s .now) (a .at) (k .count .given .0 .1 .0) (k .count .given .0 .0) (c .width-in .result)
+value c =
+    let k = c .before .before .before in
+    let a = k .before .before .before .before .args in
+    sym (rw (k .count .given .1) at (k .before .before .value-at .ensures .0))
+    ∙ ap (numbersAt (a .s .now) (a .at) (k .count .given .0 .1 .0) (k .count .given .0 .0)) (sym (c .width-in .ensures .0))
 
 value-at-requires : tie.Need-value-at-requires
 value-at-requires c κs = search needs
@@ -16,24 +43,46 @@ value-at-requires c κs = search needs
 enum-known-count : tie.Need-enum-known-count
 enum-known-count c = search needs
 
-after-white-requires : tie.Need-after-white-requires
-after-white-requires c κs = search needs
+cast-next : tie.Need-cast-next
+cast-next c = search needs
 
-after-value-requires : tie.Need-after-value-requires
-after-value-requires c κs = search needs
+shared-slice-read-width-in : tie.Need-shared-slice-read-width-in
+shared-slice-read-width-in c = taken (c .before .before) .0
 
-enum-known-code : tie.Need-enum-known-code
-enum-known-code c = search needs
+width-in-requires : tie.Need-width-in-requires
+width-in-requires c κs = search needs
+
+mul-next : tie.Need-mul-next
+mul-next c = omega (arith, product c)
+
+add-next : tie.Need-add-next
+add-next c = let k = c .before .before .before in omega (arith, product c, starts k, taken k)
 
 returns : tie.Need-returns
 unfolding pairAt pairOf
 returns c =
-    let k = c .before .before .before in
-    rw (sym (k .before .before .value-at .ensures) ∙ ap valueAs (k .count .given .1), ← c .before .after-white .ensures) (c .after-value .ensures)
+    rw (value (c .before) ∙ numbers-short _ _ _ _ _ (c .if1 .taken)) (refl, refl)
+
+after-white-requires : tie.Need-after-white-requires
+after-white-requires c κs = search needs
+
+after-value-requires : tie.Need-after-value-requires
+after-value-requires c κs = taken (c .before .before .before .before .before .before)
+
+enum-known-code : tie.Need-enum-known-code
+enum-known-code c = search needs
 
 returns-2 : tie.Need-returns-2
 unfolding pairAt pairOf
-returns-2 c = rw (sym (c .before .before .before .value-at .ensures) ∙ ap valueAs (c .before .code .given .1))
+returns-2 c =
+    let k = c .before .before in
+    rw (value (k .before .before) ∙ numbers-all _ _ _ _ _ (k .before .if1 .left), ← k .after-white .ensures) (c .after-value .ensures)
+
+returns-3 : tie.Need-returns-3
+unfolding pairAt pairOf
+returns-3 c =
+    let k = c .before in
+    rw (sym (rw (k .code .given .1) at (k .before .before .value-at .ensures .0))) (refl, refl)
 
 pub pair-at-spec : {M : Type 1} → statement M
 pair-at-spec =
@@ -41,8 +90,14 @@ pair-at-spec =
     (tie.spec
     value-at-requires
     enum-known-count
+    cast-next
+    shared-slice-read-width-in
+    width-in-requires
+    mul-next
+    add-next
+    returns
     after-white-requires
     after-value-requires
     enum-known-code
-    returns
-    returns-2)
+    returns-2
+    returns-3)

@@ -1,8 +1,6 @@
--- Both invariants say that the scan from here on is the scan from the start: past the white space, and with the attributes stored.
-use Rattle.wire.specs.Rows.{withRow}
 -- Both invariants say that the scan from here on is the scan from the start: the inner loop's that the white space passed does not
 -- matter, the outer loop's with the attributes stored so far.
-use Prim.Native.Nat.{ℕ, _+_, _-_, _*_, _≤_, _<_}
+use Prim.Native.Nat.{ℕ, _-_, _≤_, _<_}
 use mathlib.Core.Path.{_≡_, refl, sym, ap, _∙_}
 use mathlib.Core.Bool.{Bool, true, false}
 use mathlib.Core.List.{List}
@@ -10,13 +8,12 @@ use native.Mathlib.Omega.{arith}
 use native.Mathlib.Numerals.{add-one}
 use borrow.Author.Tests.{not-true, not-false}
 use lib.ListN.{length, getD}
-use Rattle.scope.specs.Iterate.{onward}
-use Rattle.scope.specs.Choice.{between}
-use Rattle.scope.specs.Item.{Attribute, Pair, white, onPair, scanFrom, scanAt}
+use Rattle.scope.specs.Item.{Attribute, white, pairAt, scanFrom, scanAt}
 use Rattle.wire.specs.Rows.{rowsOf, rowsFrom}
-use Rattle.wire.specs.Values.{pairAs}
-use Rattle.wire.proofs.Rows.{length-rows, length-stored, rows-stored}
-use Rattle.wire.proofs.Pairs.{pair-read, scan-white, scan-end, scan-tag, scan-pair}
+use Rattle.wire.specs.declared.pair.Pair.{Pair}
+use Rattle.wire.specs.declared.pair.Pair.the-variants.{Next}
+use Rattle.wire.proofs.Rows.{length-pair}
+use Rattle.wire.proofs.Pairs.{pair-ends, afterPair, scan-white, scan-end, scan-tag, scan-pair}
 use borrow.Author.Needs.{needs}
 use Rattle.wire.proofs.scan.scan_at.Statement.{statement}
 use Rattle.wire.proofs.scan.scan_at.Tie as tie
@@ -24,7 +21,6 @@ use Rattle.wire.proofs.scan.scan_at.Reads as reads
 use Rattle.wire.proofs.scan.scan_at.Lts as lts
 use Rattle.wire.proofs.pair.pair_at.Reads as pair-at-reads
 use Rattle.wire.proofs.scan.ended_with.Reads as ended-with-reads
-use Rattle.wire.proofs.scan.store.Reads as store-reads
 use Rattle.wire.proofs.white.between.Reads as between-reads
 use Rattle.wire.proofs.white.is_white.Reads as is-white-reads
 
@@ -72,34 +68,39 @@ W c = c .before .before .before .before
 black : (c : tie.Then2 Inv-white μ-white Inv-pairs μ-pairs) → white (getD (S (W c .before)) (W c .white .at) 0) ≡ false
 black c = sym (c .before .is-white .ensures) ∙ not-true _ (c .if2 .taken)
 
--- after `pair_at`
+-- after `pair_at`: where the white space was passed, and the array that is left
 abbrev T : tie.After-pair-at Inv-white μ-white Inv-pairs μ-pairs → tie.Then2 Inv-white μ-white Inv-pairs μ-pairs
-T c = c .before .before .before .before
+T c = c .before .before .before .before .before
 
--- the pair that was read, as the definitions have it
-abbrev P : tie.After-pair-at Inv-white μ-white Inv-pairs μ-pairs → Pair
-P c = pairAs (getD (S (W (T c) .before)) (W (T c) .white .at) 0) (W (T c) .white .at) (c .pair-at .result)
+abbrev A : tie.After-pair-at Inv-white μ-white Inv-pairs μ-pairs → List ℕ
+A c = c .pair-at .last .1 .1 .1 .1 .0
 
-onto : (c : tie.After-pair-at Inv-white μ-white Inv-pairs μ-pairs) → Long (W (T c) .before) → (r : Pair) → P c ≡ r
-    → onward (scanFrom (H (W (T c) .before)) (S (W (T c) .before))) (onPair (S (W (T c) .before)) (L (W (T c) .before)) r)
+sized : (c : tie.After-pair-at Inv-white μ-white Inv-pairs μ-pairs) → length (A c) ≡ length (W (T c) .before .before .before .args .attrs .now)
+sized c =
+    let w = W (T c) in
+    let p = w .before .pairs in
+    ap length (c .pair-at .ensures .1) ∙ length-pair (p .attrs) (p .n) (pairAt (H (w .before)) (S (w .before)) (w .white .at) (p .n)) ∙ p .inv .1
+
+-- by its answer r the scan goes on, or ends, as the scan from the start does
+onto : (c : tie.After-pair-at Inv-white μ-white Inv-pairs μ-pairs) → Long (W (T c) .before) → (r : Pair) → c .pair-at .result ≡ r
+    → afterPair (H (W (T c) .before)) (S (W (T c) .before)) r (A c) (W (T c) .before .pairs .n)
     ≡ scanAt (H (W (T c) .before)) (S (W (T c) .before)) (W (T c) .before .before .before .args .start)
 onto c z r f =
     let w = W (T c) in
     let p = w .before .pairs in
-    sym (scan-pair (H (w .before)) (S (w .before)) (w .white .at) (L (w .before)) (T c .before .before .before .if1 .left) (black (T c))
-    (sym (c .before .before .between .ensures .0) ∙ c .before .if3 .left) r (sym f ∙ rw (length-rows (p .attrs) (p .n)) (c .pair-at .ensures)))
+    sym (scan-pair (H (w .before)) (S (w .before)) (w .white .at) (p .attrs) (p .n) (T c .before .before .before .if1 .left) (black (T c))
+    (sym (c .before .before .before .between .ensures .0) ∙ c .before .before .if3 .left) (p .inv .1 ∙ z) r (A c) (sym f ∙ c .pair-at .ensures .0) (c .pair-at .ensures .1))
     ∙ from w z
 
--- a pair that was read ends past where the round began, and there is room for it
-room : (c : tie.After-number Inv-white μ-white Inv-pairs μ-pairs)
-    → (W (T (c .before .before)) .before .pairs .at < c .number .given .0 .1 .1 .1 .0)
-    × (c .number .given .0 .1 .1 .1 .0 ≤ length (S (W (T (c .before .before)) .before)))
+-- a pair that was read ends past where the round began, and there was room for it
+room : (c : tie.After-next Inv-white μ-white Inv-pairs μ-pairs)
+    → (W (T (c .before .before)) .before .pairs .at < c .next .given .0 .0)
+    × (c .next .given .0 .0 ≤ length (S (W (T (c .before .before)) .before)))
     × (W (T (c .before .before)) .before .pairs .n < 16)
 room c =
     let k = c .before .before in
     let w = W (T k) in
-    let g = pair-read (H (w .before)) (S (w .before)) (w .white .at) (w .before .pairs .n) _ _
-    (sym (k .pair-at .ensures) ∙ ap (pairAs (getD (S (w .before)) (w .white .at) 0) (w .white .at)) (c .number .given .1)) in
+    let g = pair-ends (H (w .before)) (S (w .before)) (w .white .at) (w .before .pairs .n) (Next (c .next .given .0 .0)) (sym (c .next .given .1) ∙ k .pair-at .ensures .0) in
     (omega arith, g .1, g .2)
 
 pairs-holds : tie.Need-pairs-holds Inv-white μ-white Inv-pairs μ-pairs
@@ -137,40 +138,26 @@ shared-slice-read-b c = search needs
 between-requires : tie.Need-between-requires Inv-white μ-white Inv-pairs μ-pairs
 between-requires c κs = search needs
 
+cast-t20 : tie.Need-cast-t20 Inv-white μ-white Inv-pairs μ-pairs
+cast-t20 c = search needs
+
 pair-at-requires : tie.Need-pair-at-requires Inv-white μ-white Inv-pairs μ-pairs
 pair-at-requires c κs = search needs
 
-enum-known-number : tie.Need-enum-known-number Inv-white μ-white Inv-pairs μ-pairs
-enum-known-number c = search needs
-
-store-requires : tie.Need-store-requires Inv-white μ-white Inv-pairs μ-pairs
-store-requires c κs = let r = room (c .before .before) in omega arith
+enum-known-next : tie.Need-enum-known-next Inv-white μ-white Inv-pairs μ-pairs
+enum-known-next c = search needs
 
 add-n : tie.Need-add-n Inv-white μ-white Inv-pairs μ-pairs
 add-n c = search needs
 
 pairs-less : tie.Need-pairs-less Inv-white μ-white Inv-pairs μ-pairs
-pairs-less c = let r = room (c .before .before .before) in omega arith
+pairs-less c = let r = room (c .before) in omega arith
 
 pairs-again : tie.Need-pairs-again Inv-white μ-white Inv-pairs μ-pairs
-unfolding onPair
 pairs-again c =
-    let m = c .before .before .before in
-    let k = m .before .before in
-    let w = W (T k) in
-    let p = w .before .pairs in
-    let r = room m in
-    let g = m .number .given .0 in
-    let b = getD (S (w .before)) (w .white .at) 0 in
-    let e : c .store .last .0 ≡ withRow (p .attrs) (p .n) (g .0) b (w .white .at) (g .1 .0) (g .1 .1 .0) = c .store .ensures in (
-      omega arith,
-      ap length e ∙ length-stored (p .attrs) (p .n) (g .0) b (w .white .at) (g .1 .0) (g .1 .1 .0) ∙ p .inv .1,
-      omega arith,
-      λ z.
-          let h : p .n * 5 + 4 < length (p .attrs) = omega arith in
-          rw (e, add-one, rows-stored (p .attrs) (p .n) (g .0) b (w .white .at) (g .1 .0) (g .1 .1 .0) h)
-          (onto k z _ (ap (pairAs b (w .white .at)) (m .number .given .1))),
-    )
+    let k = c .before .before .before in
+    let r = room (c .before) in
+    (omega arith, sized k, omega arith, λ z. rw add-one (onto k z _ (c .before .next .given .1)))
 
 enum-known-code : tie.Need-enum-known-code Inv-white μ-white Inv-pairs μ-pairs
 enum-known-code c = search needs
@@ -203,18 +190,14 @@ returns-2 c =
     )
 
 returns-3 : tie.Need-returns-3 Inv-white μ-white Inv-pairs μ-pairs
-unfolding onPair
 returns-3 c =
     let k = c .before .before .before in
-    let w = W (T k) in
-    (w .before .pairs .inv .1, (λ z. onto k z _ (ap (pairAs (getD (S (w .before)) (w .white .at) 0) (w .white .at)) (c .before .code .given .1)), tt))
+    (sized k, (λ z. onto k z _ (c .before .code .given .1), tt))
 
 returns-4 : tie.Need-returns-4 Inv-white μ-white Inv-pairs μ-pairs
-unfolding onPair
 returns-4 c =
     let k = c .before .before in
-    let w = W (T k) in
-    (w .before .pairs .inv .1, (λ z. onto k z _ (ap (pairAs (getD (S (w .before)) (w .white .at) 0) (w .white .at)) (c .enum-told .given .1)), tt))
+    (sized k, (λ z. onto k z _ (c .enum-told .given .1), tt))
 
 pub scan-at-spec : {M : Type 1} → statement M
 scan-at-spec =
@@ -234,9 +217,9 @@ scan-at-spec =
     white-again
     shared-slice-read-b
     between-requires
+    cast-t20
     pair-at-requires
-    enum-known-number
-    store-requires
+    enum-known-next
     add-n
     pairs-less
     pairs-again

@@ -1,8 +1,8 @@
 use Prim.Native.Nat.{_+_, _≤_, _<_}
 use native.Mathlib.Omega.{arith}
-use borrow.Author.Tests.{le-leb, lt-leb}
+use borrow.Author.Tests.{le-leb, lt-leb, le-ltb, lt-ltb}
 use lib.ListN.{length}
-use Rattle.scope.specs.Item.{countedAt}
+use Rattle.scope.specs.Item.{countedAt, elementsAt}
 use Rattle.wire.specs.Widths.{bytesOf}
 use borrow.Author.Needs.{needs}
 use Rattle.wire.proofs.value.counted_at.Statement.{statement}
@@ -11,7 +11,6 @@ use Rattle.wire.proofs.value.counted_at.Reads as reads
 use Rattle.wire.proofs.value.counted_at.Lts as lts
 use Rattle.wire.proofs.number.bytes_of.Reads as bytes-of-reads
 use Rattle.wire.proofs.number.number_at.Reads as number-at-reads
-use Rattle.wire.proofs.value.elements_at.Reads as elements-at-reads
 
 add-first : tie.Need-add-first
 add-first c = search needs
@@ -27,7 +26,7 @@ unfolding countedAt
 returns c =
     let a = c .before .before .before .args in
     let h : length (a .s .now) < a .at + 2 + bytesOf (a .width) = omega arith in
-    simp (lt-leb _ _ h)
+    (λ _. simp (lt-leb _ _ h), tt)
 
 add-number-at : tie.Need-add-number-at
 add-number-at c = search needs
@@ -35,15 +34,19 @@ add-number-at c = search needs
 number-at-requires : tie.Need-number-at-requires
 number-at-requires c κs = search needs
 
-elements-at-requires : tie.Need-elements-at-requires
-elements-at-requires c κs = search needs
-
 returns-2 : tie.Need-returns-2
-unfolding countedAt
+unfolding countedAt elementsAt
 returns-2 c =
     let a = c .before .before .before .before .before .args in
     let h : a .at + 2 + bytesOf (a .width) ≤ length (a .s .now) = omega arith in
-    simp (le-leb _ _ h) (cc)
+    (λ _. rw (le-leb _ _ h, ← c .before .number-at .ensures .0, lt-ltb _ _ (c .if2 .taken)), tt)
+
+returns-3 : tie.Need-returns-3
+unfolding countedAt elementsAt
+returns-3 c =
+    let a = c .before .before .before .before .before .args in
+    let h : a .at + 2 + bytesOf (a .width) ≤ length (a .s .now) = omega arith in
+    (λ _. rw (le-leb _ _ h, ← c .before .number-at .ensures .0, le-ltb _ _ (c .if2 .left), ← c .before .before .before .bytes-of .ensures .0), omega arith)
 
 pub counted-at-spec : {M : Type 1} → statement M
 counted-at-spec =
@@ -55,5 +58,5 @@ counted-at-spec =
     returns
     add-number-at
     number-at-requires
-    elements-at-requires
-    returns-2)
+    returns-2
+    returns-3)

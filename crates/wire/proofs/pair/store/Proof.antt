@@ -1,9 +1,9 @@
 use Rattle.wire.specs.Rows.{withRow}
 use borrow.Author.Needs.{needs}
-use Rattle.wire.proofs.scan.store.Statement.{statement}
-use Rattle.wire.proofs.scan.store.Tie as tie
-use Rattle.wire.proofs.scan.store.Reads as reads
-use Rattle.wire.proofs.scan.store.Lts as lts
+use Rattle.wire.proofs.pair.store.Statement.{statement}
+use Rattle.wire.proofs.pair.store.Tie as tie
+use Rattle.wire.proofs.pair.store.Reads as reads
+use Rattle.wire.proofs.pair.store.Lts as lts
 
 mul-i : tie.Need-mul-i
 mul-i c = search needs
