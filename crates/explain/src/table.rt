@@ -83,7 +83,7 @@ pub fn needs(tag: u8) {
     let form = row.0;
     let numbers = row.1;
     match form {
-        Form::Each => each(numbers),
+        Form::Each(_) => each(numbers),
         Form::One => choice(tag),
         Form::Line => choice(tag),
         Form::Unknown => say(b"take it out"),

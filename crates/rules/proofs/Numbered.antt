@@ -1,13 +1,14 @@
 -- A line's numbers, one by one, in place of its rules.
 -- Assumes nothing.
-use Prim.Native.Nat.{ℕ, _+_, _≤_, _<_}
+use Prim.Native.Nat.{ℕ, zero, suc, _+_, _≤_, _<_, min}
 use mathlib.Core.Path.{_≡_, refl, sym, ap, _∙_}
-use mathlib.Core.Bool.{Bool, true, false, not, _&&_}
+use mathlib.Core.Bool.{Bool, true, false, not}
 use mathlib.Core.List.{List, [], _∷_}
+use native.Mathlib.Nat.{le-of-suc-le-suc, not-suc-le-zero}
 use native.Mathlib.Omega.{arith}
 use native.Mathlib.Numerals.{add-one}
-use lib.ListN.{length, getD, drop, drop-of-length-le}
-use lib.Seq.{drop-cons}
+use lib.ListN.{length, getD, take, drop, length-take, drop-of-length-le}
+use lib.Seq.{drop-cons, getD-take}
 use lib.Dec.{eqb}
 use borrow.Author.Tests.{eq-eqb, ne-eqb, eqb-true, eqb-false}
 use Rattle.scope.specs.Choice.{pick, among}
@@ -15,7 +16,7 @@ use Rattle.scope.specs.Item.{Attribute}
 use Rattle.scope.specs.Table as scope
 use Rattle.scope.specs.Attributes.{has, allThere, howMany}
 use Rattle.rules.specs.Lines.{numbersIn, upToNo, ruleOf}
-use Rattle.rules.specs.Judging.{ruledIn, allIn, manyIn, Agreed, agreed-none, agreed-more}
+use Rattle.rules.specs.Judging.{ruledIn, allIn, manyIn, Agreed, agreed-none, agreed-more, Led, led-none, led-may, led-must}
 
 module _ (ns : List ℕ) (i : ℕ) where
   pub numbers-more : i < length ns → (getD ns i 0 ≡ 0 → ⊥) → upToNo (drop i ns) ≡ getD ns i 0 ∷ upToNo (drop (i + 1) ns)
@@ -42,11 +43,6 @@ module _ (ns : List ℕ) (i w : ℕ) (here : i < length ns) (some : getD ns i 0 
   unfolding among
   among-step x = ap (λ l. among l x) (numbers-more ns i here some) ∙ rw (← reads, eqb-turned x w)
 
-  pub all-step : (l : List Attribute) (b : Bool) → b ≡ (ruleOf w .must && not (has w l))
-      → allIn l (upToNo (drop i ns)) ≡ pick b false (allIn l (upToNo (drop (i + 1) ns)))
-  unfolding allIn
-  all-step l b e = ap (allIn l) (numbers-more ns i here some) ∙ rw (e, reads)
-
   pub many-step : (l : List Attribute) (b : Bool) → b ≡ has w l
       → manyIn l (upToNo (drop i ns)) ≡ pick b 1 0 + manyIn l (upToNo (drop (i + 1) ns))
   unfolding manyIn
@@ -54,6 +50,33 @@ module _ (ns : List ℕ) (i w : ℕ) (here : i < length ns) (some : getD ns i 0 
 
 pub many-on : (k o p x y t : ℕ) → k + x ≡ t → x ≡ p + y → o ≡ p → k + o + y ≡ t
 many-on k o p x y t e f g = omega arith
+
+-- the first so many numbers, of which i were looked at
+module _ (l : List Attribute) (must : ℕ) (ns : List ℕ) (i : ℕ) where
+  pub all-step : i < must → i < length ns → (w : ℕ) → w ≡ getD ns i 0 → (b : Bool) → b ≡ has w l
+      → allIn l (drop i (take must ns)) ≡ pick b (allIn l (drop (i + 1) (take must ns))) false
+  unfolding allIn
+  all-step early here w reads b e =
+      let h : i < length (take must ns) = rw (length-take must ns) (omega arith) in
+      rw (add-one, drop-cons (take must ns) i 0 h, getD-take must ns i 0 early, e, reads)
+
+  pub all-end : min must (length ns) ≤ i → allIn l (drop i (take must ns)) ≡ true
+  unfolding allIn
+  all-end h =
+      let e : length (take must ns) ≤ i = rw (length-take must ns) h in
+      rw (drop-of-length-le (take must ns) e)
+
+-- the first so many numbers are before the first 0 if so many are
+pub take-numbers : (k : ℕ) (ns : List ℕ) → k ≤ length (upToNo ns) → take k (upToNo ns) ≡ take k ns
+unfolding upToNo
+take-numbers zero ns h = refl
+take-numbers (suc k) [] h = refl
+take-numbers (suc k) (n ∷ ns) h = step (eqb n 0) (λ q. take-numbers k ns q) h
+  where
+    step : (b : Bool) → (k ≤ length (upToNo ns) → take k (upToNo ns) ≡ take k ns) → suc k ≤ length (pick b [] (n ∷ upToNo ns))
+        → take (suc k) (pick b [] (n ∷ upToNo ns)) ≡ n ∷ take k ns
+    step true q g = absurd (not-suc-le-zero g)
+    step false q g = ap (λ (x : List ℕ). n ∷ x) (q (le-of-suc-le-suc g))
 
 -- the rule in a line is the rule of its number
 pub ruled-by : (rules : List scope.Rule) → Agreed rules → (n : ℕ) → scope.ruleIn rules n ≡ ruledIn (numbersIn rules) n
@@ -67,10 +90,24 @@ ruled-by (r ∷ rs) (agreed-more e es) n = rw (eqb-turned n (r .number)) (hit (e
     hit true q k = ap scope.Ruled.is (sym e ∙ ap ruleOf (q refl))
     hit false q k = k
 
-pub all-by : (l : List Attribute) (rules : List scope.Rule) → Agreed rules → allThere l rules ≡ allIn l (numbersIn rules)
+not-lacking : (b x : Bool) → pick (not b) false x ≡ pick b x false
+not-lacking true x = refl
+not-lacking false x = refl
+
+-- where the rules that must be there come first, those are there that must be
+pub all-by : (l : List Attribute) (k : ℕ) (rules : List scope.Rule) → Led k rules → allThere l rules ≡ allIn l (take k (numbersIn rules))
 unfolding allThere allIn numbersIn
-all-by l [] agreed-none = refl
-all-by l (r ∷ rs) (agreed-more e es) = rw (e, all-by l rs es)
+all-by l zero [] led-none = refl
+all-by l zero (r ∷ rs) (led-may e es) = rw e (all-by l zero rs es)
+all-by l (suc k) (r ∷ rs) (led-must e es) = rw (e, all-by l k rs es) (not-lacking (has (r .number) l) (allIn l (take k (numbersIn rs))))
+
+-- a line has as many numbers as must be there
+pub led-long : (k : ℕ) (rules : List scope.Rule) → Led k rules → k ≤ length (numbersIn rules)
+unfolding numbersIn
+led-long zero rules led = omega arith
+led-long (suc k) (r ∷ rs) (led-must e es) =
+    let h : k ≤ length (numbersIn rs) = led-long k rs es in
+    omega arith
 
 pub many-by : (l : List Attribute) (rules : List scope.Rule) → howMany l rules ≡ manyIn l (numbersIn rules)
 unfolding howMany manyIn numbersIn

@@ -1,6 +1,7 @@
--- Two facts of the whole table, each by one test that is computed: a rule is that of its number in every line, and numbers are below 256.
+-- Facts of the whole table, each by one test that is computed: a rule is that of its number in every line, the rules that must be there come
+-- first, and numbers are below 256.
 -- Assumes nothing.
-use Prim.Native.Nat.{ℕ, _<_}
+use Prim.Native.Nat.{ℕ, suc, _<_}
 use mathlib.Core.Path.{_≡_, refl, sym, ap, _∙_, subst}
 use mathlib.Core.Bool.{Bool, true, false, not, false≢true}
 use mathlib.Core.List.{List, [], _∷_, _++_}
@@ -9,8 +10,8 @@ use borrow.Author.Tests.{eqb-true, ltb-true}
 use Rattle.scope.specs.Choice.{pick}
 use Rattle.scope.specs.Table as scope
 use Rattle.scope.specs.Table.{Takes, Rule, Row, table, lineIn, ruleIn}
-use Rattle.rules.specs.Lines.{isLine, rulesIn, ruleOf}
-use Rattle.rules.specs.Judging.{Agreed, agreed-none, agreed-more}
+use Rattle.rules.specs.Lines.{isLine, mustIn, rulesIn, ruleOf}
+use Rattle.rules.specs.Judging.{Agreed, agreed-none, agreed-more, Led, led-none, led-may, led-must}
 use Rattle.rules.proofs.Keys.{both-left, both-right}
 
 -- what a test that passes at each row says of a row that was found
@@ -136,6 +137,42 @@ table-agrees = refl
 
 pub row-agreed : (tag : ℕ) (r : Row) → lineIn table tag ≡ scope.Line.is r → Agreed (r .rules)
 row-agreed tag r e = agreed-by (r .rules) (row-passes (λ r. agrees (r .rules)) table table-agrees tag r e)
+
+-- none of these rules must be there
+mays : List Rule → Bool
+mays [] = true
+mays (r ∷ rs) = pick (r .must) false (mays rs)
+
+-- the rules of a line that must be there come first
+musts : List Rule → Bool
+musts [] = true
+musts (r ∷ rs) = pick (r .must) (musts rs) (mays rs)
+
+led-mays : (rules : List Rule) → mays rules ≡ true → Led 0 rules
+unfolding mays
+led-mays [] t = led-none
+led-mays (r ∷ rs) t = step (r .must) refl (λ q. led-mays rs q) t
+  where
+    step : (b : Bool) → r .must ≡ b → (mays rs ≡ true → Led 0 rs) → pick b false (mays rs) ≡ true → Led 0 (r ∷ rs)
+    step true e k q = absurd (false≢true q)
+    step false e k q = led-may e (k q)
+
+led-by : (rules : List Rule) → musts rules ≡ true → Led (mustIn rules) rules
+unfolding musts mustIn
+led-by [] t = led-none
+led-by (r ∷ rs) t = step (r .must) refl (λ q. led-by rs q) t
+  where
+    step : (b : Bool) → r .must ≡ b → (musts rs ≡ true → Led (mustIn rs) rs) → pick b (musts rs) (mays rs) ≡ true
+        → Led (pick b (suc (mustIn rs)) 0) (r ∷ rs)
+    step true e k q = led-must e (k q)
+    step false e k q = led-may e (led-mays rs q)
+
+table-led : everyRow (λ r. musts (r .rules)) table ≡ true
+unfolding everyRow musts mays table
+table-led = refl
+
+pub row-led : (tag : ℕ) (r : Row) → lineIn table tag ≡ scope.Line.is r → Led (mustIn (r .rules)) (r .rules)
+row-led tag r e = led-by (r .rules) (row-passes (λ r. musts (r .rules)) table table-led tag r e)
 
 -- a line's numbers are below 256
 small : List Rule → Bool

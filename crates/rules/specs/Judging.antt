@@ -1,11 +1,12 @@
 -- What the code judges of an operator's attributes, by the words of 01's definitions.
 -- Assumes nothing.
-use Prim.Native.Nat.{ℕ, _+_}
+use Prim.Native.Nat.{ℕ, suc, _+_}
 use mathlib.Core.Path.{_≡_}
 use mathlib.Core.List.{List, [], _∷_}
-use mathlib.Core.Bool.{Bool, true, false, not, _&&_}
+use mathlib.Core.Bool.{Bool, true, false}
 use lib.Dec.{eqb}
 use Rattle.scope.specs.Choice.{pick, among}
+use Rattle.scope.specs.Names.{EndPoint, NumberOfPoints, PointType}
 use Rattle.scope.specs.Item as item
 use Rattle.scope.specs.Table as scope
 use Rattle.scope.specs.Attributes as judged
@@ -38,15 +39,22 @@ attributeAs a = record { number = a .number; tag = a .tag; at = a .at; count = a
 unfoldable pub ruledIn : List ℕ → ℕ → scope.Ruled
 ruledIn ns n = pick (among ns n) (scope.Ruled.is (ruleOf n)) scope.Ruled.none
 
--- each of these numbers that must be there is there
+-- each of these numbers is there
 unfoldable pub allIn : List item.Attribute → List ℕ → Bool
 allIn l [] = true
-allIn l (n ∷ ns) = pick (ruleOf n .must && not (judged.has n l)) false (allIn l ns)
+allIn l (n ∷ ns) = pick (judged.has n l) (allIn l ns) false
 
 -- how many of these numbers are there
 unfoldable pub manyIn : List item.Attribute → List ℕ → ℕ
 manyIn l [] = 0
 manyIn l (n ∷ ns) = pick (judged.has n l) 1 0 + manyIn l ns
+
+-- a line's attributes as they are mostly given: EndPoint alone, or NumberOfPoints before PointType
+unfoldable pub asUsual : List item.Attribute → Bool
+asUsual [] = false
+asUsual (a ∷ []) = eqb (a .number) EndPoint
+asUsual (a ∷ b ∷ []) = pick (eqb (a .number) NumberOfPoints) (eqb (b .number) PointType) false
+asUsual (a ∷ b ∷ c ∷ l) = false
 
 -- a line's rules are those of their numbers
 pub data Agreed : List scope.Rule → Type 0 where
@@ -57,3 +65,9 @@ pub data Agreed : List scope.Rule → Type 0 where
 pub record Stands (ns : List ℕ) (rules : List scope.Rule) : Type 0 where
   pub numbers : upToNo ns ≡ numbersIn rules
   pub agreed : Agreed rules
+
+-- the first so many of a line's rules must be there, and no other
+pub data Led : ℕ → List scope.Rule → Type 0 where
+  led-none : Led 0 []
+  led-may : {r : scope.Rule} {rs : List scope.Rule} → r .must ≡ false → Led 0 rs → Led 0 (r ∷ rs)
+  led-must : {k : ℕ} {r : scope.Rule} {rs : List scope.Rule} → r .must ≡ true → Led k rs → Led (suc k) (r ∷ rs)

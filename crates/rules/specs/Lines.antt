@@ -1,6 +1,6 @@
 -- The code's lines and rules, as those of 01's table.
 -- Assumes nothing.
-use Prim.Native.Nat.{ℕ}
+use Prim.Native.Nat.{ℕ, suc}
 use mathlib.Core.List.{List, [], _∷_, _++_}
 use mathlib.Core.Bool.{Bool, true, false}
 use lib.Dec.{eqb}
@@ -18,17 +18,22 @@ abbrev pub isLine : scope.Line → Bool
 isLine (scope.Line.is r) = true
 isLine scope.Line.none = false
 
--- a line without its rules: the form, and the numbers of its attributes
+-- a line without its rules: the form, how many attributes at its head must be there, and the numbers of its attributes
 pub data Brief : Type 0 where
-  known : scope.Form → List ℕ → Brief
+  known : scope.Form → (must : ℕ) → List ℕ → Brief
   unknown : Brief
 
 unfoldable pub numbersIn : List scope.Rule → List ℕ
 numbersIn [] = []
 numbersIn (r ∷ rs) = r .number ∷ numbersIn rs
 
+-- how many rules at the head of a line must be there
+unfoldable pub mustIn : List scope.Rule → ℕ
+mustIn [] = 0
+mustIn (r ∷ rs) = pick (r .must) (suc (mustIn rs)) 0
+
 abbrev pub briefOf : scope.Line → Brief
-briefOf (scope.Line.is r) = known (r .form) (numbersIn (r .rules))
+briefOf (scope.Line.is r) = known (r .form) (mustIn (r .rules)) (numbersIn (r .rules))
 briefOf scope.Line.none = unknown
 
 -- the numbers before the first 0
@@ -38,23 +43,30 @@ upToNo (n ∷ ns) = pick (eqb n 0) [] (n ∷ upToNo ns)
 
 -- a form that a line of the table has
 abbrev pub isKnown : Form → Bool
-isKnown Each = true
+isKnown (Each k) = true
 isKnown One = true
 isKnown Line = true
 isKnown Unknown = false
 
 -- the form that a known form of the code stands for
 abbrev pub formAs : Form → scope.Form
-formAs Each = scope.each
+formAs (Each k) = scope.each
 formAs One = scope.one
 formAs Line = scope.line
 formAs Unknown = scope.each
 
--- the form and the numbers that a line of the code stands for
+-- how many attributes at a line's head must be there by its form
+abbrev pub mustAs : Form → ℕ
+mustAs (Each k) = k
+mustAs One = 0
+mustAs Line = 0
+mustAs Unknown = 0
+
+-- the line without its rules that a line of the code stands for
 abbrev pub briefBy : Form → List ℕ → Brief
-briefBy Each ns = known scope.each ns
-briefBy One ns = known scope.one ns
-briefBy Line ns = known scope.line ns
+briefBy (Each k) ns = known scope.each k ns
+briefBy One ns = known scope.one 0 ns
+briefBy Line ns = known scope.line 0 ns
 briefBy Unknown ns = unknown
 
 abbrev pub briefAs : Row → Brief

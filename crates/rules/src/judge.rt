@@ -5,11 +5,12 @@ ghost use mathlib.Core.List.{List, []};
 ghost use Prim.Native.Nat.{ℕ, _+_, _≤_, _<_};
 ghost use lib.Dec.{eqb};
 ghost use Rattle.scope.specs.Choice.{pick};
+ghost use Rattle.scope.specs.Names.{EndPoint, NumberOfPoints, PointType};
 ghost use Rattle.scope.specs.Table.{Rule as RuleIn, table, lineIn};
-ghost use Rattle.scope.specs.Attributes.{fine, bad, attributeCode, oneByOne, choiceCode, pairCode, formCode};
+ghost use Rattle.scope.specs.Attributes.{fine, bad, has as hasIn, attributeCode, oneByOne, choiceCode, pairCode, formCode};
 ghost use Rattle.wire.specs.Rows.{rowAt, rowsOf, Sized};
-ghost use Rattle.rules.specs.Lines.{upToNo, isKnown, formAs};
-ghost use Rattle.rules.specs.Judging.{attributeAs, ruledIn, Stands, faultAs, lineFault};
+ghost use Rattle.rules.specs.Lines.{upToNo, isKnown, formAs, mustAs};
+ghost use Rattle.rules.specs.Judging.{attributeAs, ruledIn, Stands, Led, asUsual, faultAs, lineFault};
 use crate::attributes::at_most;
 use crate::attributes::has;
 use crate::line::all_there;
@@ -115,14 +116,46 @@ fn pair_code(end: bool, points: bool, kind: bool) -> u32
     if kind { 14 } else { 13 }
 }
 
+// A line's attributes as they are mostly given: EndPoint alone, or NumberOfPoints before PointType.
+fn as_usual(attrs: &[usize; 80], n: usize) -> bool
+    ensures { λ r. ⌜ r ≡ asUsual (rowsOf (now (attrs .entry)) n) ⌝ }
+{
+    if n == 1 {
+        return attrs[0] == 69;
+    }
+    if n != 2 {
+        return false;
+    }
+    if attrs[0] != 77 {
+        return false;
+    }
+    attrs[5] == 80
+}
+
+// 13 and 14 of a line; 0 is none. Most lines are as usual, and those are not searched.
+fn line_code(attrs: &[usize; 80], n: usize) -> u32
+    ensures { λ r. ⌜ (Sized (now (attrs .entry)) n → r ≡ pairCode (hasIn EndPoint (rowsOf (now (attrs .entry)) n)) (hasIn NumberOfPoints (rowsOf (now (attrs .entry)) n)) (hasIn PointType (rowsOf (now (attrs .entry)) n))) ⌝ }
+{
+    if as_usual(attrs, n) {
+        return 0;
+    }
+    pair_code(has(attrs, n, 69), has(attrs, n, 77), has(attrs, n, 80))
+}
+
 // 13 and 14, by the form of the line; 0 is none.
 fn form_code(form: Form, numbers: [u8; 5], attrs: &[usize; 80], n: usize) -> u32
-    ensures { λ r. ⌜ (isKnown form ≡ true → (rules : List RuleIn) → Stands numbers rules → Sized (now (attrs .entry)) n → r ≡ formCode (rowsOf (now (attrs .entry)) n) rules (formAs form)) ⌝ }
+    ensures { λ r. ⌜ (isKnown form ≡ true → (rules : List RuleIn) → Stands numbers rules → Led (mustAs form) rules → Sized (now (attrs .entry)) n → r ≡ formCode (rowsOf (now (attrs .entry)) n) rules (formAs form)) ⌝ }
 {
     match form {
-        Form::Each => { if all_there(numbers, attrs, n) { 0 } else { 13 } }
+        Form::Each(must) => {
+            if all_there(must, numbers, attrs, n) {
+                0
+            } else {
+                13
+            }
+        }
         Form::One => choice_code(how_many(numbers, attrs, n)),
-        Form::Line => pair_code(has(attrs, n, 69), has(attrs, n, 77), has(attrs, n, 80)),
+        Form::Line => line_code(attrs, n),
         Form::Unknown => 0,
     }
 }

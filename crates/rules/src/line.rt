@@ -1,15 +1,13 @@
 // The numbers of an operator's line, against the attributes that are there.
 ghost use mathlib.Core.Path.{_≡_};
-ghost use mathlib.Core.Bool.{not, _&&_};
 ghost use Prim.Native.Nat.{_≤_};
+ghost use lib.ListN.{take};
 ghost use Rattle.scope.specs.Choice.{pick, among};
-ghost use Rattle.scope.specs.Attributes.{has as hasIn};
 ghost use Rattle.wire.specs.Rows.{rowsOf, Sized};
-ghost use Rattle.rules.specs.Lines.{upToNo, ruleOf};
+ghost use Rattle.rules.specs.Lines.{upToNo};
 ghost use Rattle.rules.specs.Judging.{allIn, manyIn};
 use crate::attributes::has;
 use crate::table::NO;
-use crate::table::rule_of;
 
 fn wide(n: u8) -> usize
     ensures { λ r. ⌜ r ≡ n ⌝ }
@@ -42,28 +40,16 @@ pub fn listed(numbers: [u8; 5], number: usize) -> bool
     false
 }
 
-// An attribute that must be there is not.
-fn lacks(attrs: &[usize; 80], n: usize, number: usize) -> bool
-    ensures { λ r. ⌜ (Sized (now (attrs .entry)) n → r ≡ (ruleOf number .must && not (hasIn number (rowsOf (now (attrs .entry)) n)))) ⌝ }
-{
-    let rule = rule_of(number);
-    if rule.3 {
-        return !has(attrs, n, number);
-    }
-    false
-}
-
-// Each attribute of the line that must be there is there.
-pub fn all_there(numbers: [u8; 5], attrs: &[usize; 80], n: usize) -> bool
-    ensures { λ r. ⌜ (Sized (now (attrs .entry)) n → r ≡ allIn (rowsOf (now (attrs .entry)) n) (upToNo numbers)) ⌝ }
+// The first so many numbers of the line are there.
+pub fn all_there(must: usize, numbers: [u8; 5], attrs: &[usize; 80], n: usize) -> bool
+    ensures { λ r. ⌜ (Sized (now (attrs .entry)) n → r ≡ allIn (rowsOf (now (attrs .entry)) n) (take must numbers)) ⌝ }
 {
     let mut i: usize = 0;
     while i < 5 {
-        let k = numbers[i];
-        if k == NO {
+        if i == must {
             return true;
         }
-        if lacks(attrs, n, wide(k)) {
+        if !has(attrs, n, wide(numbers[i])) {
             return false;
         }
         i += 1;

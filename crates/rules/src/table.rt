@@ -3,9 +3,10 @@ ghost use mathlib.Core.Path.{_≡_};
 ghost use Rattle.scope.specs.Table.{table, lineIn};
 ghost use Rattle.rules.specs.Lines.{isLine, isKnown, briefAs, briefOf, ruleAs, ruleOf};
 
-// How an operator's attributes belong together: each by itself, exactly one of them, or the first alone or both others.
+// How an operator's attributes belong together: each by itself, of which the first so many must be there; exactly one
+// of them; or the first alone or both others.
 pub enum Form {
-    Each,
+    Each(usize),
     One,
     Line,
     Unknown,
@@ -37,34 +38,34 @@ pub fn row_of(tag: u8) -> Row
     ensures { λ r. ⌜ briefAs r ≡ briefOf (lineIn table tag) ⌝ }
 {
     match tag {
-        0x41 => Row(Form::Each, [134, 137, 143, NO, NO]),
-        0x42 => Row(Form::Each, [NO, NO, NO, NO, NO]),
-        0x43 => Row(Form::Each, [40, 37, 38, NO, NO]),
-        0x44 => Row(Form::Each, [49, NO, NO, NO, NO]),
-        0x47 => Row(Form::Each, [129, NO, NO, NO, NO]),
-        0x48 => Row(Form::Each, [136, 130, NO, NO, NO]),
-        0x49 => Row(Form::Each, [NO, NO, NO, NO, NO]),
-        0x5b => Row(Form::Each, [139, NO, NO, NO, NO]),
-        0x5c => Row(Form::Each, [140, NO, NO, NO, NO]),
-        0x5d => Row(Form::Each, [NO, NO, NO, NO, NO]),
-        0x5e => Row(Form::Each, [139, NO, NO, NO, NO]),
-        0x60 => Row(Form::Each, [NO, NO, NO, NO, NO]),
-        0x61 => Row(Form::Each, [NO, NO, NO, NO, NO]),
+        0x41 => Row(Form::Each(2), [134, 137, 143, NO, NO]),
+        0x42 => Row(Form::Each(0), [NO, NO, NO, NO, NO]),
+        0x43 => Row(Form::Each(2), [40, 37, 38, NO, NO]),
+        0x44 => Row(Form::Each(0), [49, NO, NO, NO, NO]),
+        0x47 => Row(Form::Each(0), [129, NO, NO, NO, NO]),
+        0x48 => Row(Form::Each(2), [136, 130, NO, NO, NO]),
+        0x49 => Row(Form::Each(0), [NO, NO, NO, NO, NO]),
+        0x5b => Row(Form::Each(1), [139, NO, NO, NO, NO]),
+        0x5c => Row(Form::Each(1), [140, NO, NO, NO, NO]),
+        0x5d => Row(Form::Each(0), [NO, NO, NO, NO, NO]),
+        0x5e => Row(Form::Each(1), [139, NO, NO, NO, NO]),
+        0x60 => Row(Form::Each(0), [NO, NO, NO, NO, NO]),
+        0x61 => Row(Form::Each(0), [NO, NO, NO, NO, NO]),
         0x63 => Row(Form::One, [11, 9, 4, NO, NO]),
-        0x6a => Row(Form::Each, [3, NO, NO, NO, NO]),
-        0x6b => Row(Form::Each, [76, NO, NO, NO, NO]),
-        0x6c => Row(Form::Each, [76, NO, NO, NO, NO]),
+        0x6a => Row(Form::Each(1), [3, NO, NO, NO, NO]),
+        0x6b => Row(Form::Each(1), [76, NO, NO, NO, NO]),
+        0x6c => Row(Form::Each(1), [76, NO, NO, NO, NO]),
         0x79 => Row(Form::One, [11, 9, 5, NO, NO]),
-        0x7a => Row(Form::Each, [75, NO, NO, NO, NO]),
-        0x84 => Row(Form::Each, [NO, NO, NO, NO, NO]),
-        0x85 => Row(Form::Each, [NO, NO, NO, NO, NO]),
-        0x86 => Row(Form::Each, [NO, NO, NO, NO, NO]),
+        0x7a => Row(Form::Each(1), [75, NO, NO, NO, NO]),
+        0x84 => Row(Form::Each(0), [NO, NO, NO, NO, NO]),
+        0x85 => Row(Form::Each(0), [NO, NO, NO, NO, NO]),
+        0x86 => Row(Form::Each(0), [NO, NO, NO, NO, NO]),
         0x9b => Row(Form::Line, [69, 77, 80, NO, NO]),
         0x9d => Row(Form::Line, [69, 77, 80, NO, NO]),
-        0xa0 => Row(Form::Each, [66, NO, NO, NO, NO]),
-        0xb0 => Row(Form::Each, [100, 98, 108, 107, 103]),
-        0xb1 => Row(Form::Each, [109, 99, 101, NO, NO]),
-        0xb2 => Row(Form::Each, [NO, NO, NO, NO, NO]),
+        0xa0 => Row(Form::Each(1), [66, NO, NO, NO, NO]),
+        0xb0 => Row(Form::Each(5), [100, 98, 108, 107, 103]),
+        0xb1 => Row(Form::Each(3), [109, 99, 101, NO, NO]),
+        0xb2 => Row(Form::Each(0), [NO, NO, NO, NO, NO]),
         _ => Row(Form::Unknown, [NO, NO, NO, NO, NO]),
     }
 }
@@ -114,7 +115,7 @@ pub fn is_known(form: Form) -> bool
     ensures { λ r. ⌜ r ≡ isKnown form ⌝ }
 {
     match form {
-        Form::Each => true,
+        Form::Each(_) => true,
         Form::One => true,
         Form::Line => true,
         Form::Unknown => false,

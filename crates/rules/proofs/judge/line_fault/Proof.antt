@@ -67,7 +67,7 @@ returns-3 c =
     let k = sym (o .before .before .is-known .ensures) ∙ not-false _ (o .before .if1 .left) in
     λ z. c .whole .ensures ∙ fault-whole (a .high) (a .s .now) (a .at) (rowsOf (a .attrs .now) (a .n)) r (lineIn table (a .tag)) (stood r (a .tag) (w .row-of .ensures)) k
     (f .form-code .result) (λ rules st. sym (ap faultAs (f .before .enum-told .given .1)) ∙ o .one-by-one .ensures rules st z)
-    (λ rules st. f .form-code .ensures k rules st z)
+    (λ rules st led. f .form-code .ensures k rules st led z)
 
 pub line-fault-spec : {M : Type 1} → statement M
 line-fault-spec =

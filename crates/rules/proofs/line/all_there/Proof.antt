@@ -2,59 +2,63 @@
 -- Assumes nothing.
 use Prim.Native.Nat.{ℕ, _+_, _-_, _≤_, _<_}
 use mathlib.Core.Path.{_≡_, refl, sym, ap, _∙_}
-use mathlib.Core.List.{List}
+use mathlib.Core.Bool.{Bool, true, false}
 use native.Mathlib.Omega.{arith}
-use lib.ListN.{length, drop}
-use borrow.Author.Tests.{eq-eqb, ne-eqb}
+use lib.ListN.{length, take, drop}
+use borrow.Author.Tests.{not-true, not-false}
+use Rattle.scope.specs.Choice.{pick}
 use Rattle.wire.specs.Rows.{rowsOf, Sized}
-use Rattle.rules.specs.Lines.{upToNo}
 use Rattle.rules.specs.Judging.{allIn}
-use Rattle.rules.proofs.Numbered.{numbers-no, numbers-end, all-step}
+use Rattle.rules.proofs.Numbered.{all-step, all-end}
 use borrow.Author.Needs.{needs}
 use Rattle.rules.proofs.line.all_there.Statement.{statement}
 use Rattle.rules.proofs.line.all_there.Tie as tie
 use Rattle.rules.proofs.line.all_there.Reads as reads
 use Rattle.rules.proofs.line.all_there.Lts as lts
-use Rattle.rules.proofs.line.lacks.Reads as lacks-reads
+use Rattle.rules.proofs.attributes.has.Reads as has-reads
 use Rattle.rules.proofs.line.wide.Reads as wide-reads
 
 abbrev Inv-loop : tie.InvT-loop
-Inv-loop attrs n numbers i₀ i =
-    (i ≤ 5) × (Sized attrs n → allIn (rowsOf attrs n) (upToNo (drop i numbers)) ≡ allIn (rowsOf attrs n) (upToNo numbers))
+Inv-loop must attrs n numbers i₀ i =
+    (i ≤ 5) × (i ≤ must) × (Sized attrs n → allIn (rowsOf attrs n) (drop i (take must numbers)) ≡ allIn (rowsOf attrs n) (take must numbers))
 
 abbrev μ-loop : tie.MeasureT-loop
-μ-loop attrs n numbers i₀ i = 5 - i
+μ-loop must attrs n numbers i₀ i = 5 - i
 
 loop-holds : tie.Need-loop-holds Inv-loop μ-loop
 loop-holds c = search needs
 
-array-read-k : tie.Need-array-read-k Inv-loop μ-loop
-array-read-k c = search needs
-
 returns : tie.Need-returns Inv-loop μ-loop
-unfolding allIn
 returns c =
     let e = c .before .before in
     let a = e .before .args in
-    let f : length (a .t1) ≡ 5 = search needs in
-    λ z. sym (sym (e .loop .inv .1 z) ∙ ap (allIn (rowsOf (a .attrs .now) (a .n))) (numbers-no (a .t1) (e .loop .i) (omega arith) (c .if1 .taken)))
+    λ z. sym (sym (e .loop .inv .2 z) ∙ all-end (rowsOf (a .attrs .now) (a .n)) (a .must) (a .t2) (e .loop .i) (omega arith))
+
+array-read-wide : tie.Need-array-read-wide Inv-loop μ-loop
+array-read-wide c = search needs
 
 wide-requires : tie.Need-wide-requires Inv-loop μ-loop
 wide-requires c κs = search needs
 
-lacks-requires : tie.Need-lacks-requires Inv-loop μ-loop
-lacks-requires c κs = search needs
+has-requires : tie.Need-has-requires Inv-loop μ-loop
+has-requires c κs = search needs
+
+-- one number more was looked for
+looked : (c : tie.After-has Inv-loop μ-loop) (b : Bool) → c .has .result ≡ b
+    → let e = c .before .before .before .before in
+    let a = e .before .args in
+    Sized (a .attrs .now) (a .n)
+    → pick b (allIn (rowsOf (a .attrs .now) (a .n)) (drop (e .loop .i + 1) (take (a .must) (a .t2)))) false
+    ≡ allIn (rowsOf (a .attrs .now) (a .n)) (take (a .must) (a .t2))
+looked c b h z =
+    let e = c .before .before .before .before in
+    let a = e .before .args in
+    let w = c .before .wide in
+    let f : length (a .t2) ≡ 5 = search needs in
+    sym (all-step (rowsOf (a .attrs .now) (a .n)) (a .must) (a .t2) (e .loop .i) (omega arith) (omega arith) (w .result) (w .ensures) b (sym h ∙ c .has .ensures z)) ∙ e .loop .inv .2 z
 
 returns-2 : tie.Need-returns-2 Inv-loop μ-loop
-returns-2 c =
-    let e = c .before .before .before .before .before in
-    let a = e .before .args in
-    let w = c .before .before .wide in
-    let f : length (a .t1) ≡ 5 = search needs in
-    λ z. sym (sym (e .loop .inv .1 z)
-    ∙ all-step (a .t1) (e .loop .i) (w .result) (omega arith) (c .before .before .before .if1 .left) (w .ensures) (rowsOf (a .attrs .now) (a .n))
-    (c .before .lacks .result) (c .before .lacks .ensures z)
-    ∙ rw (c .if2 .taken))
+returns-2 c = looked (c .before) false (not-true _ (c .if2 .taken))
 
 add-i : tie.Need-add-i Inv-loop μ-loop
 add-i c = search needs
@@ -63,24 +67,14 @@ loop-less : tie.Need-loop-less Inv-loop μ-loop
 loop-less c = search needs
 
 loop-again : tie.Need-loop-again Inv-loop μ-loop
-loop-again c =
-    let e = c .before .before .before .before .before in
-    let a = e .before .args in
-    let w = c .before .before .wide in
-    let f : length (a .t1) ≡ 5 = search needs in (
-      omega arith,
-      λ z. sym (all-step (a .t1) (e .loop .i) (w .result) (omega arith) (c .before .before .before .if1 .left) (w .ensures) (rowsOf (a .attrs .now) (a .n))
-          (c .before .lacks .result) (c .before .lacks .ensures z)
-          ∙ rw (c .if2 .left)) ∙ e .loop .inv .1 z,
-    )
+loop-again c = (omega arith, omega arith, looked (c .before) true (not-false _ (c .if2 .left)))
 
 returns-3 : tie.Need-returns-3 Inv-loop μ-loop
-unfolding allIn
 returns-3 c =
     let e = c .before in
     let a = e .before .args in
-    let f : length (a .t1) ≡ 5 = search needs in
-    λ z. sym (sym (e .loop .inv .1 z) ∙ ap (allIn (rowsOf (a .attrs .now) (a .n))) (numbers-end (a .t1) (e .loop .i) (omega arith)))
+    let f : length (a .t2) ≡ 5 = search needs in
+    λ z. sym (sym (e .loop .inv .2 z) ∙ all-end (rowsOf (a .attrs .now) (a .n)) (a .must) (a .t2) (e .loop .i) (omega arith))
 
 pub all-there-spec : {M : Type 1} → statement M
 all-there-spec =
@@ -89,10 +83,10 @@ all-there-spec =
     Inv-loop
     μ-loop
     loop-holds
-    array-read-k
     returns
+    array-read-wide
     wide-requires
-    lacks-requires
+    has-requires
     returns-2
     add-i
     loop-less

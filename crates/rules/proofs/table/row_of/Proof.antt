@@ -5,121 +5,121 @@ use mathlib.Core.Path.{refl}
 use mathlib.Core.List.{List, [], _∷_}
 use Rattle.scope.specs.Choice.{among}
 use Rattle.scope.specs.Table.{table, lineIn, ruleIn}
-use Rattle.rules.specs.Lines.{numbersIn, upToNo, rulesIn, ruleOf}
+use Rattle.rules.specs.Lines.{mustIn, numbersIn, upToNo, rulesIn, ruleOf}
 use Rattle.rules.proofs.Keys.{within, opsIn, no-line, no-rule}
 use Rattle.rules.proofs.table.row_of.Statement.{statement}
 use Rattle.rules.proofs.table.row_of.Tie as tie
 
 returns : tie.Need-returns
-unfolding table lineIn numbersIn upToNo
+unfolding table lineIn mustIn numbersIn upToNo
 returns c = rw (c .match .keys1)
 
 returns-2 : tie.Need-returns-2
-unfolding table lineIn numbersIn upToNo
+unfolding table lineIn mustIn numbersIn upToNo
 returns-2 c = rw (c .match .keys2)
 
 returns-3 : tie.Need-returns-3
-unfolding table lineIn numbersIn upToNo
+unfolding table lineIn mustIn numbersIn upToNo
 returns-3 c = rw (c .match .keys3)
 
 returns-4 : tie.Need-returns-4
-unfolding table lineIn numbersIn upToNo
+unfolding table lineIn mustIn numbersIn upToNo
 returns-4 c = rw (c .match .keys4)
 
 returns-5 : tie.Need-returns-5
-unfolding table lineIn numbersIn upToNo
+unfolding table lineIn mustIn numbersIn upToNo
 returns-5 c = rw (c .match .keys5)
 
 returns-6 : tie.Need-returns-6
-unfolding table lineIn numbersIn upToNo
+unfolding table lineIn mustIn numbersIn upToNo
 returns-6 c = rw (c .match .keys6)
 
 returns-7 : tie.Need-returns-7
-unfolding table lineIn numbersIn upToNo
+unfolding table lineIn mustIn numbersIn upToNo
 returns-7 c = rw (c .match .keys7)
 
 returns-8 : tie.Need-returns-8
-unfolding table lineIn numbersIn upToNo
+unfolding table lineIn mustIn numbersIn upToNo
 returns-8 c = rw (c .match .keys8)
 
 returns-9 : tie.Need-returns-9
-unfolding table lineIn numbersIn upToNo
+unfolding table lineIn mustIn numbersIn upToNo
 returns-9 c = rw (c .match .keys9)
 
 returns-10 : tie.Need-returns-10
-unfolding table lineIn numbersIn upToNo
+unfolding table lineIn mustIn numbersIn upToNo
 returns-10 c = rw (c .match .keys10)
 
 returns-11 : tie.Need-returns-11
-unfolding table lineIn numbersIn upToNo
+unfolding table lineIn mustIn numbersIn upToNo
 returns-11 c = rw (c .match .keys11)
 
 returns-12 : tie.Need-returns-12
-unfolding table lineIn numbersIn upToNo
+unfolding table lineIn mustIn numbersIn upToNo
 returns-12 c = rw (c .match .keys12)
 
 returns-13 : tie.Need-returns-13
-unfolding table lineIn numbersIn upToNo
+unfolding table lineIn mustIn numbersIn upToNo
 returns-13 c = rw (c .match .keys13)
 
 returns-14 : tie.Need-returns-14
-unfolding table lineIn numbersIn upToNo
+unfolding table lineIn mustIn numbersIn upToNo
 returns-14 c = rw (c .match .keys14)
 
 returns-15 : tie.Need-returns-15
-unfolding table lineIn numbersIn upToNo
+unfolding table lineIn mustIn numbersIn upToNo
 returns-15 c = rw (c .match .keys15)
 
 returns-16 : tie.Need-returns-16
-unfolding table lineIn numbersIn upToNo
+unfolding table lineIn mustIn numbersIn upToNo
 returns-16 c = rw (c .match .keys16)
 
 returns-17 : tie.Need-returns-17
-unfolding table lineIn numbersIn upToNo
+unfolding table lineIn mustIn numbersIn upToNo
 returns-17 c = rw (c .match .keys17)
 
 returns-18 : tie.Need-returns-18
-unfolding table lineIn numbersIn upToNo
+unfolding table lineIn mustIn numbersIn upToNo
 returns-18 c = rw (c .match .keys18)
 
 returns-19 : tie.Need-returns-19
-unfolding table lineIn numbersIn upToNo
+unfolding table lineIn mustIn numbersIn upToNo
 returns-19 c = rw (c .match .keys19)
 
 returns-20 : tie.Need-returns-20
-unfolding table lineIn numbersIn upToNo
+unfolding table lineIn mustIn numbersIn upToNo
 returns-20 c = rw (c .match .keys20)
 
 returns-21 : tie.Need-returns-21
-unfolding table lineIn numbersIn upToNo
+unfolding table lineIn mustIn numbersIn upToNo
 returns-21 c = rw (c .match .keys21)
 
 returns-22 : tie.Need-returns-22
-unfolding table lineIn numbersIn upToNo
+unfolding table lineIn mustIn numbersIn upToNo
 returns-22 c = rw (c .match .keys22)
 
 returns-23 : tie.Need-returns-23
-unfolding table lineIn numbersIn upToNo
+unfolding table lineIn mustIn numbersIn upToNo
 returns-23 c = rw (c .match .keys23)
 
 returns-24 : tie.Need-returns-24
-unfolding table lineIn numbersIn upToNo
+unfolding table lineIn mustIn numbersIn upToNo
 returns-24 c = rw (c .match .keys24)
 
 returns-25 : tie.Need-returns-25
-unfolding table lineIn numbersIn upToNo
+unfolding table lineIn mustIn numbersIn upToNo
 returns-25 c = rw (c .match .keys25)
 
 returns-26 : tie.Need-returns-26
-unfolding table lineIn numbersIn upToNo
+unfolding table lineIn mustIn numbersIn upToNo
 returns-26 c = rw (c .match .keys26)
 
 returns-27 : tie.Need-returns-27
-unfolding table lineIn numbersIn upToNo
+unfolding table lineIn mustIn numbersIn upToNo
 returns-27 c = rw (c .match .keys27)
 
 returns-28 : tie.Need-returns-28
-unfolding table lineIn numbersIn upToNo
+unfolding table lineIn mustIn numbersIn upToNo
 returns-28 c = rw (c .match .keys28)
 
 -- the keys of the arms, the last one first
@@ -127,7 +127,7 @@ keys : List ℕ
 keys = 0xb2 ∷ 0xb1 ∷ 0xb0 ∷ 0xa0 ∷ 0x9d ∷ 0x9b ∷ 0x86 ∷ 0x85 ∷ 0x84 ∷ 0x7a ∷ 0x79 ∷ 0x6c ∷ 0x6b ∷ 0x6a ∷ 0x63 ∷ 0x61 ∷ 0x60 ∷ 0x5e ∷ 0x5d ∷ 0x5c ∷ 0x5b ∷ 0x49 ∷ 0x48 ∷ 0x47 ∷ 0x44 ∷ 0x43 ∷ 0x42 ∷ 0x41 ∷ []
 
 returns-29 : tie.Need-returns-29
-unfolding keys table lineIn numbersIn upToNo within opsIn among
+unfolding keys table lineIn mustIn numbersIn upToNo within opsIn among
 returns-29 c = rw (no-line _ keys (c .match .rest) table refl)
 
 pub row-of-spec : {M : Type 1} → statement M
