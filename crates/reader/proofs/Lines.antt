@@ -1,87 +1,64 @@
--- An operator by its line of the table, case by case.
+-- An operator by its line of the table, step by step.
 -- Assumes nothing.
-use Prim.Native.Nat.{ℕ, _≤_}
-use mathlib.Core.Path.{_≡_, refl, sym, ap, _∙_, subst⁻¹}
-use mathlib.Core.Bool.{Bool, true, false}
+use Prim.Native.Nat.{ℕ}
+use mathlib.Core.Path.{_≡_, refl}
+use mathlib.Core.Bool.{Bool, true, false, not, _&&_}
 use mathlib.Core.List.{List, []}
 use lib.Dec.{eqb}
 use Rattle.scope.specs.Choice.{pick}
 use Rattle.scope.specs.Item.{Attribute}
 use Rattle.scope.specs.Table.{Row, Line}
 use Rattle.scope.specs.Attributes.{Fault, fine, bad, oneByOne, formCode}
-use Rattle.scope.specs.Order.{mayCome}
-use Rattle.scope.specs.Reading.{Context, Read, asWhole, withAttributes, withLine}
-use Rattle.rules.specs.Lines.{isLine}
-use Rattle.reader.specs.Reads.{Within}
-use Rattle.reader.specs.declared.reading.Read as Code
-use native.Mathlib.Omega.{arith}
+use Rattle.scope.specs.Order.{mayCome, imageOf, rowsFit}
+use Rattle.scope.specs.Data.{Found, reads, dueOf}
+use Rattle.scope.specs.Reading.{Context, Read, withBlock, withData, asWhole, withAttributes, withLine}
 use Rattle.rules.specs.Judging.{thenWhole, lineFault}
-
--- two answers that differ
-abbrev IsFine : Fault → Type 0
-IsFine fine = Unit {0}
-IsFine (bad code place) = ⊥
-
-abbrev IsTrue : Bool → Type 0
-IsTrue true = Unit {0}
-IsTrue false = ⊥
-
-never : {A : Type 0} {c p : ℕ} → fine ≡ bad c p → A
-never e = absurd (subst⁻¹ (λ f. IsFine f) (sym e) tt)
-
-untrue : {A : Type 0} → false ≡ true → A
-untrue e = absurd (subst⁻¹ (λ b. IsTrue b) e tt)
-
--- a fault as the refusal that it is
-abbrev refusal : Fault → Read
-refusal fine = Read.ended
-refusal (bad code place) = Read.no code place
+use Rattle.reader.specs.Reads.{lineAt, dataAt}
 
 module _ (c : Context) (s : List ℕ) (tag at : ℕ) (l : List Attribute) where
-  pub line-unknown : (n : Line) → isLine n ≡ false → withLine c s tag at l n ≡ Read.no 9 at
-  unfolding withLine
-  line-unknown Line.none e = refl
-  line-unknown (Line.is r) e = untrue (sym e)
+  -- a fault is the refusal that it is; without one rows and data follow
+  abbrev pub afterLine : Fault → Read
+  afterLine fine = asWhole c s tag at l 0
+  afterLine (bad code place) = Read.no code place
 
-  pub line-order : (n : Line) → isLine n ≡ true → mayCome (c .phase) (c .opened) tag ≡ false → withLine c s tag at l n ≡ Read.no 10 at
-  unfolding withLine
-  line-order Line.none e f = untrue e
-  line-order (Line.is r) e f = rw f
-
-  whole-bad : (r : Row) (code : ℕ) (b : Bool) (x y : ℕ) → eqb code 0 ≡ b → pick b fine (bad code at) ≡ bad x y → asWhole c s tag at l code ≡ Read.no x y
+  -- 13, 14
+  whole-after : (code : ℕ) (b : Bool) → eqb code 0 ≡ b → asWhole c s tag at l code ≡ afterLine (pick b fine (bad code at))
   unfolding asWhole
-  whole-bad r code true x y e f = never f
-  whole-bad r code false x y e f = rw e (ap refusal f)
+  whole-after code true e = rw e
+  whole-after code false e = rw e
 
-  found-bad : (r : Row) (f : Fault) (x y : ℕ) → thenWhole at (formCode l (r .rules) (r .form)) f ≡ bad x y → withAttributes c s tag at l r f ≡ Read.no x y
+  -- attribute by attribute, then 13, 14
+  found-after : (r : Row) (f : Fault) → withAttributes c s tag at l r f ≡ afterLine (thenWhole at (formCode l (r .rules) (r .form)) f)
   unfolding withAttributes thenWhole
-  found-bad r fine x y e = whole-bad r (formCode l (r .rules) (r .form)) (eqb (formCode l (r .rules) (r .form)) 0) x y refl e
-  found-bad r (bad code place) x y e = ap refusal e
+  found-after r fine = whole-after (formCode l (r .rules) (r .form)) (eqb (formCode l (r .rules) (r .form)) 0) refl
+  found-after r (bad code place) = refl
 
-  pub line-bad : (n : Line) (x y : ℕ) → isLine n ≡ true → mayCome (c .phase) (c .opened) tag ≡ true → lineFault (c .high) s at l n ≡ bad x y
-      → withLine c s tag at l n ≡ Read.no x y
-  unfolding withLine lineFault
-  line-bad Line.none x y e f g = untrue e
-  line-bad (Line.is r) x y e f g = rw f (found-bad r (oneByOne (c .high) s (r .rules) [] l) x y g)
+  -- 10, then the attributes
+  order-after : (r : Row) (f : Fault) (b : Bool)
+      → pick b (withAttributes c s tag at l r f) (Read.no 10 at) ≡ afterLine (pick b (thenWhole at (formCode l (r .rules) (r .form)) f) (bad 10 at))
+  order-after r f true = found-after r f
+  order-after r f false = refl
 
-  whole-fine : (r : Row) (code : ℕ) (b : Bool) → eqb code 0 ≡ b → pick b fine (bad code at) ≡ fine → asWhole c s tag at l code ≡ asWhole c s tag at l 0
+  -- an operator is read by what is wrong with it before rows and data
+  pub line-after : (n : Line) → withLine c s tag at l n ≡ afterLine (lineAt c s tag at l n)
+  unfolding withLine lineAt lineFault
+  line-after Line.none = refl
+  line-after (Line.is r) = order-after r (oneByOne (c .high) s (r .rules) [] l) (mayCome (c .phase) (c .opened) tag)
+
+  -- without a fault: 14 for rows, then the data that is due
+  pub rows-after : asWhole c s tag at l 0
+      ≡ pick (rowsFit (c .high) s (imageOf (c .phase)) tag l) (withData c s tag at l (dueOf (c .high) s (imageOf (c .phase)) tag l)) (Read.no 14 at)
   unfolding asWhole
-  whole-fine r code true e f = rw e
-  whole-fine r code false e f = never (sym f)
+  rows-after = refl
 
-  found-fine : (r : Row) (f : Fault) → thenWhole at (formCode l (r .rules) (r .form)) f ≡ fine → withAttributes c s tag at l r f ≡ asWhole c s tag at l 0
-  unfolding withAttributes thenWhole
-  found-fine r fine e = whole-fine r (formCode l (r .rules) (r .form)) (eqb (formCode l (r .rules) (r .form)) 0) refl e
-  found-fine r (bad code place) e = never (sym e)
+  -- 17, then where the data is
+  block-after : (due : ℕ) (f : Found) (b : Bool)
+      → pick b (Read.no 17 at) (withBlock tag at l due f) ≡ withBlock tag at l due (pick b (Found.no 17 at) f)
+  unfolding withBlock
+  block-after due f true = refl
+  block-after due f false = refl
 
-  pub line-fine : (n : Line) → isLine n ≡ true → mayCome (c .phase) (c .opened) tag ≡ true → lineFault (c .high) s at l n ≡ fine
-      → withLine c s tag at l n ≡ asWhole c s tag at l 0
-  unfolding withLine lineFault
-  line-fine Line.none e f g = untrue e
-  line-fine (Line.is r) e f g = rw f (found-fine r (oneByOne (c .high) s (r .rules) [] l) g)
-
--- an operator that ends past a place ends past what stands before that place
-pub within-from : (len start p : ℕ) (r : Code.Read) → start ≤ p → Within len p r → Within len start r
-within-from len start p (Code.the-variants.Operator o) h k = (omega arith, k .1, k .2, k .3, k .4)
-within-from len start p Code.the-variants.Ended h k = tt
-within-from len start p (Code.the-variants.No code place) h k = tt
+  -- an operator that reads data is read by where that is
+  pub data-after : (due : ℕ) → withData c s tag at l (reads due) ≡ withBlock tag at l due (dataAt c s at due)
+  unfolding withData dataAt
+  data-after due = block-after due _ (c .asked && not (c .opened))

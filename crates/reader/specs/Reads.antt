@@ -1,8 +1,17 @@
 -- What the reader's answers say in 01's words.
 -- Assumes nothing.
-use Prim.Native.Nat.{ℕ, _+_, _≤_, _<_}
+use Prim.Native.Nat.{ℕ, suc, _+_, _≤_, _<_}
+use mathlib.Core.Bool.{not, _&&_}
 use mathlib.Core.List.{List}
 use Rattle.wire.specs.Rows.{rowsOf}
+use Rattle.rules.specs.Lines.{isLine}
+use Rattle.rules.specs.Judging.{lineFault}
+use Rattle.scope.specs.Choice.{pick}
+use Rattle.scope.specs.Item.{Attribute, after}
+use Rattle.scope.specs.Table.{Line}
+use Rattle.scope.specs.Attributes.{Fault, bad}
+use Rattle.scope.specs.Order.{mayCome}
+use Rattle.scope.specs.Data.{Found, no, blockAt}
 use Rattle.scope.specs.Reading as Def
 use Rattle.reader.specs.declared.reading.Context.{Context}
 use Rattle.reader.specs.declared.reading.Operator as Code-operator
@@ -31,6 +40,15 @@ abbrev pub readAs : Code-read.Read → List ℕ → Def.Read
 readAs (Code-read.the-variants.Operator o) attrs = Def.operator (operatorAs o attrs)
 readAs Code-read.the-variants.Ended attrs = Def.ended
 readAs (Code-read.the-variants.No code place) attrs = Def.no code place
+
+-- what is wrong with an operator before its rows and its data: 9, 10, then its attributes by its line of the table
+unfoldable pub lineAt : Def.Context → List ℕ → (tag at : ℕ) → List Attribute → Line → Fault
+lineAt c s tag at l n =
+    pick (isLine n) (pick (mayCome (c .phase) (c .opened) tag) (lineFault (c .high) s at l n) (bad 10 at)) (bad 9 at)
+
+-- the data of the operator at a place, of which so much is due: 17, then the data
+unfoldable pub dataAt : Def.Context → List ℕ → (at due : ℕ) → Found
+dataAt c s at due = pick (c .asked && not (c .opened)) (no 17 at) (blockAt (c .high) s at due (after s (suc at)))
 
 -- an operator has its tag, its data and its end within the bytes, its end past `start`, and at most 16 attributes
 abbrev pub Within : (len start : ℕ) → Code-read.Read → Type 0

@@ -68,13 +68,12 @@ pub fn due_of(s: &[u8], high: bool, image: Image, tag: u8, attrs: &[usize; 80], 
         let rows = rules::value_in(s, high, attrs, n, 99) as usize;
         return Due::Reads(rows * row_of(image.width, image.depth));
     }
-    if tag == 0x9b {
-        return points_due(s, high, attrs, n);
+    if tag != 0x9b {
+        if tag != 0x9d {
+            return Due::Nothing;
+        }
     }
-    if tag == 0x9d {
-        return points_due(s, high, attrs, n);
-    }
-    Due::Nothing
+    points_due(s, high, attrs, n)
 }
 
 // StartLine is the number of rows read so far, and rows do not exceed SourceHeight.

@@ -1,16 +1,15 @@
 // The next operator from a place on, for a job and for a motif.
 ghost use mathlib.Core.Path.{_≡_};
-ghost use Prim.Native.Nat.{ℕ, suc, _+_, _^_, _≤_, _<_};
-ghost use mathlib.Core.List.{List};
+ghost use Prim.Native.Nat.{_<_};
 ghost use mathlib.Core.Bool.{_&&_, not};
 ghost use lib.ListN.{length};
 ghost use Rattle.wire.specs.Rows.{rowsOf, Sized};
 ghost use Rattle.scope.specs.Order.{imageOf};
-ghost use Rattle.scope.specs.Reading.{withBlock, withData, asWhole, withLine, operatorAt};
+ghost use Rattle.scope.specs.Reading.{operatorAt};
 ghost use Rattle.scope.specs.Table.{table, lineIn};
-ghost use Rattle.scope.specs.Data.{reads};
-ghost use Rattle.reader.specs.Views.{phaseAs, imageAs, dueAs, foundAs, Placed};
-ghost use Rattle.reader.specs.Reads.{contextAs, readAs, Within};
+ghost use Rattle.rules.specs.Judging.{faultAs};
+ghost use Rattle.reader.specs.Views.{phaseAs, imageAs, foundAs, Placed};
+ghost use Rattle.reader.specs.Reads.{contextAs, readAs, dataAt, lineAt, Within};
 use crate::data::Found;
 use crate::data::block_at;
 use crate::due::Due;
@@ -48,6 +47,7 @@ pub enum Read {
     No(u32, usize),
 }
 
+// What is needed is not there.
 fn lacks(need: bool, has: bool) -> bool
     ensures { λ r. ⌜ r ≡ (need && not has) ⌝ }
 {
@@ -74,82 +74,31 @@ fn image_of(phase: Phase) -> Image
     }
 }
 
-// The operator, where its data was found.
-fn with_block(len: usize, tag: u8, at: usize, n: usize, due: usize, found: Found) -> Read
-    requires { ⌜ (Placed len at due found) × (len < 2 ^ 63) × (n ≤ 16) ⌝ }
-    ensures { λ r. ⌜ ((attrs : List ℕ) → readAs r attrs ≡ withBlock tag at (rowsOf attrs n) due (foundAs found)) ⌝ }
-    ensures { λ r. ⌜ Within len at r ⌝ }
-{
-    match found {
-        Found::At(first) => Read::Operator(Operator {
-            tag,
-            at,
-            count: n,
-            reads: true,
-            length: due,
-            first,
-            next: first + due,
-        }),
-        Found::No(code, place) => Read::No(code, place),
-    }
-}
-
-// An operator that reads so much data: 17, then the data.
-fn with_data(c: Context, s: &[u8], tag: u8, at: usize, n: usize, due: usize) -> Read
-    requires { ⌜ (at < length (now s)) × (n ≤ 16) ⌝ }
-    ensures { λ r. ⌜ ((attrs : List ℕ) → readAs r attrs ≡ withData (contextAs c) (now (s .entry)) tag at (rowsOf attrs n) (reads due)) ⌝ }
-    ensures { λ r. ⌜ Within (length (now (s .entry))) at r ⌝ }
+// The data of the operator at a place, of which so much is due: 17, then the data after white space.
+fn data_at(c: Context, s: &[u8], at: usize, due: usize) -> Found
+    requires { ⌜ at < length (now s) ⌝ }
+    ensures { λ r. ⌜ foundAs r ≡ dataAt (contextAs c) (now (s .entry)) at due ⌝ }
+    ensures { λ r. ⌜ Placed (length (now (s .entry))) at due r ⌝ }
 {
     if lacks(c.asked, c.opened) {
-        return Read::No(17, at);
+        return Found::No(17, at);
     }
     let p = wire::after_white(s, at + 1);
-    let found = block_at(s, c.high, at, due, p);
-    with_block(s.len(), tag, at, n, due, found)
+    block_at(s, c.high, at, due, p)
 }
 
-// 14 for rows, then how much data is due.
-fn with_rows(c: Context, s: &[u8], tag: u8, at: usize, attrs: &[usize; 80], n: usize) -> Read
-    requires { ⌜ (at < length (now s)) × (n ≤ 16) ⌝ }
-    ensures { λ r. ⌜ (Sized (now (attrs .entry)) n → readAs r (now (attrs .entry)) ≡ asWhole (contextAs c) (now (s .entry)) tag at (rowsOf (now (attrs .entry)) n) 0) ⌝ }
-    ensures { λ r. ⌜ Within (length (now (s .entry))) at r ⌝ }
-{
-    let phase = c.phase;
-    let image = image_of(phase);
-    if !rows_fit(s, c.high, image, tag, attrs, n) {
-        return Read::No(14, at);
-    }
-    match due_of(s, c.high, image, tag, attrs, n) {
-        Due::Reads(due) => with_data(c, s, tag, at, n, due),
-        Due::Nothing => Read::Operator(Operator {
-            tag,
-            at,
-            count: n,
-            reads: false,
-            length: 0,
-            first: 0,
-            next: at + 1,
-        }),
-    }
-}
-
-// 9, 10, then the attributes.
-fn with_line(c: Context, s: &[u8], tag: u8, at: usize, attrs: &[usize; 80], n: usize) -> Read
-    requires { ⌜ (at < length (now s)) × (n ≤ 16) ⌝ }
-    ensures { λ r. ⌜ (Sized (now (attrs .entry)) n → readAs r (now (attrs .entry)) ≡ withLine (contextAs c) (now (s .entry)) tag at (rowsOf (now (attrs .entry)) n) (lineIn table tag)) ⌝ }
-    ensures { λ r. ⌜ Within (length (now (s .entry))) at r ⌝ }
+// What is wrong with an operator, before rows and data: 9, 10, then the attributes.
+fn line_at(c: Context, s: &[u8], tag: u8, at: usize, attrs: &[usize; 80], n: usize) -> Fault
+    ensures { λ r. ⌜ (Sized (now (attrs .entry)) n → faultAs r ≡ lineAt (contextAs c) (now (s .entry)) tag at (rowsOf (now (attrs .entry)) n) (lineIn table tag)) ⌝ }
 {
     if !rules::is_operator(tag) {
-        return Read::No(9, at);
+        return Fault::Bad(9, at);
     }
     let phase = c.phase;
     if !may_come(phase, c.opened, tag) {
-        return Read::No(10, at);
+        return Fault::Bad(10, at);
     }
-    match rules::line_fault(s, c.high, tag, at, attrs, n) {
-        Fault::Fine => with_rows(c, s, tag, at, attrs, n),
-        Fault::Bad(code, place) => Read::No(code, place),
-    }
+    rules::line_fault(s, c.high, tag, at, attrs, n)
 }
 
 // The next operator from `start` on; its attributes go to `attrs`.
@@ -159,8 +108,40 @@ pub fn operator_at(c: Context, s: &[u8], start: usize, attrs: &mut [usize; 80]) 
     ensures { λ r. ⌜ Within (length (now (s .entry))) start r ⌝ }
 {
     match wire::scan_at(s, start, c.high, attrs) {
-        Scan::Tagged(tag, at, n) => with_line(c, s, tag, at, attrs, n),
         Scan::Ended => Read::Ended,
         Scan::No(code, place) => Read::No(code, place),
+        Scan::Tagged(tag, at, n) => match line_at(c, s, tag, at, attrs, n) {
+            Fault::Bad(code, place) => Read::No(code, place),
+            Fault::Fine => {
+                let phase = c.phase;
+                let image = image_of(phase);
+                if !rows_fit(s, c.high, image, tag, attrs, n) {
+                    return Read::No(14, at);
+                }
+                match due_of(s, c.high, image, tag, attrs, n) {
+                    Due::Nothing => Read::Operator(Operator {
+                        tag,
+                        at,
+                        count: n,
+                        reads: false,
+                        length: 0,
+                        first: 0,
+                        next: at + 1,
+                    }),
+                    Due::Reads(due) => match data_at(c, s, at, due) {
+                        Found::No(code, place) => Read::No(code, place),
+                        Found::At(first) => Read::Operator(Operator {
+                            tag,
+                            at,
+                            count: n,
+                            reads: true,
+                            length: due,
+                            first,
+                            next: first + due,
+                        }),
+                    },
+                }
+            }
+        },
     }
 }

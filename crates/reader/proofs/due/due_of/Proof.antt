@@ -1,4 +1,8 @@
 use Prim.Native.Nat.{ℕ, _*_, _≤_}
+use mathlib.Core.Path.{_≡_}
+use mathlib.Core.Bool.{true, _||_}
+use mathlib.Core.Logic.{⊎-elim}
+use lib.Dec.{eqb}
 use native.Mathlib.Nat.{mul-le-mul}
 use native.Mathlib.Omega.{arith}
 use borrow.Author.Tests.{eq-eqb, ne-eqb}
@@ -16,6 +20,10 @@ use Rattle.rules.proofs.value_in.Reads as value-in-reads
 -- rows of an image fit
 product : (x y : ℕ) → x ≤ 65535 → y ≤ 65536 → x * y ≤ 65535 * 65536
 product x y h k = mul-le-mul h k
+
+-- where points are read, the tag is one of a line's two
+is-line : (c : tie.Joined3) → let tag = c .before .before .before .before .args .tag in (eqb tag 0x9b || eqb tag 0x9d) ≡ true
+is-line c = ⊎-elim (λ w. simp (ne-eqb _ _ (w .0 .taken), eq-eqb _ _ (w .1 .left))) (λ w. simp (eq-eqb _ _ (w .left))) (c .if3 .came)
 
 -- src/due.rt:65:27
 value-in-requires : tie.Need-value-in-requires
@@ -53,28 +61,21 @@ returns-2 : tie.Need-returns-2
 unfolding dueOf
 returns-2 c = λ z. rw (ne-eqb _ _ (c .before .before .before .if1 .left), eq-eqb _ _ (c .before .before .if2 .taken), ← c .before .value-in2 .ensures .0 z, ← c .row-of .ensures .0)
 
--- src/due.rt:72:9
+-- src/due.rt:73:13
+returns-3 : tie.Need-returns-3
+unfolding dueOf
+returns-3 c = λ z. rw (ne-eqb _ _ (c .before .before .before .if1 .left), ne-eqb _ _ (c .before .before .if2 .left), ne-eqb _ _ (c .before .if3 .taken), ne-eqb _ _ (c .if4 .taken))
+
+-- src/due.rt:76:5
 points-due-requires : tie.Need-points-due-requires
 points-due-requires c κs = search needs
 
--- src/due.rt:72:9
-returns-3 : tie.Need-returns-3
-unfolding dueOf pointsDue
-returns-3 c = λ z. rw (ne-eqb _ _ (c .before .before .before .if1 .left), ne-eqb _ _ (c .before .before .if2 .left), eq-eqb _ _ (c .before .if3 .taken)) (c .points-due .ensures z)
-
--- src/due.rt:75:9
-points-due-requires-2 : tie.Need-points-due-requires-2
-points-due-requires-2 c κs = search needs
-
--- src/due.rt:75:9
+-- src/due.rt:61:1
 returns-4 : tie.Need-returns-4
 unfolding dueOf pointsDue
-returns-4 c = λ z. rw (ne-eqb _ _ (c .before .before .before .before .if1 .left), ne-eqb _ _ (c .before .before .before .if2 .left), ne-eqb _ _ (c .before .before .if3 .left), eq-eqb _ _ (c .before .if4 .taken)) (c .points-due2 .ensures z)
-
--- src/due.rt:61:1
-returns-5 : tie.Need-returns-5
-unfolding dueOf
-returns-5 c = λ z. rw (ne-eqb _ _ (c .before .before .before .if1 .left), ne-eqb _ _ (c .before .before .if2 .left), ne-eqb _ _ (c .before .if3 .left), ne-eqb _ _ (c .if4 .left))
+returns-4 c =
+    let j = c .before in
+    λ z. rw (ne-eqb _ _ (j .before .before .if1 .left), ne-eqb _ _ (j .before .if2 .left), is-line j) (c .points-due .ensures z)
 
 pub due-of-spec : {M : Type 1} → statement M
 due-of-spec =
@@ -88,8 +89,6 @@ due-of-spec =
     row-of-requires
     mul-t13
     returns-2
-    points-due-requires
     returns-3
-    points-due-requires-2
-    returns-4
-    returns-5)
+    points-due-requires
+    returns-4)

@@ -1,78 +1,290 @@
+use Prim.Native.Nat.{ℕ, _+_, _≤_, _<_}
+use mathlib.Core.Path.{_≡_, sym, ap, _∙_}
+use mathlib.Core.Bool.{Bool, true, false}
+use mathlib.Core.List.{List}
 use lib.ListN.{length}
-use mathlib.Core.Path.{sym, ap, _∙_, _≡_}
+use native.Mathlib.Numerals.{add-one}
 use native.Mathlib.Omega.{arith}
-use Rattle.scope.specs.Reading.{operatorAt, scanned}
-use Rattle.wire.specs.Rows.{Sized}
+use borrow.Author.Tests.{not-true, not-false}
+use Rattle.scope.specs.Choice.{pick}
+use Rattle.scope.specs.Item.{Attribute}
+use Rattle.scope.specs.Table.{table, lineIn}
+use Rattle.scope.specs.Data.{dueOf}
+use Rattle.scope.specs.Reading.{Context, Read, withBlock, withData, scanned, operatorAt}
+use Rattle.rules.specs.Judging.{faultAs}
+use Rattle.rules.specs.declared.judge.Fault.{Fault}
+use Rattle.wire.specs.Rows.{Sized, rowsOf}
+use Rattle.wire.specs.Scans.{scanAs}
+use Rattle.wire.specs.declared.scan.Scan.{Scan}
+use Rattle.reader.specs.Views.{imageAs, dueAs, foundAs}
 use Rattle.reader.specs.Reads.{contextAs}
-use Rattle.reader.proofs.Lines.{within-from}
+use Rattle.reader.specs.declared.due.Due.{Due}
+use Rattle.reader.specs.declared.data.Found.{Found}
+use Rattle.reader.proofs.Lines.{afterLine, line-after, rows-after, data-after}
 use borrow.Author.Needs.{needs}
 use Rattle.reader.proofs.reading.operator_at.Statement.{statement}
 use Rattle.reader.proofs.reading.operator_at.Tie as tie
 use Rattle.reader.proofs.reading.operator_at.Reads as reads
 use Rattle.reader.proofs.reading.operator_at.Lts as lts
-use Rattle.reader.proofs.reading.with_line.Reads as with-line-reads
+use Rattle.reader.proofs.due.due_of.Reads as due-of-reads
+use Rattle.reader.proofs.due.rows_fit.Reads as rows-fit-reads
+use Rattle.reader.proofs.reading.data_at.Reads as data-at-reads
+use Rattle.reader.proofs.reading.image_of.Reads as image-of-reads
+use Rattle.reader.proofs.reading.line_at.Reads as line-at-reads
 use Rattle.wire.proofs.scan_at.Reads as scan-at-reads
 
--- src/reading.rt:161:11
+-- what is read, and the array as the scan left it
+abbrev context : tie.After-scan-at → Context
+context c = contextAs (c .before .before .before .args .c)
+
+abbrev bytes : tie.After-scan-at → List ℕ
+bytes c = c .before .before .before .args .s .now
+
+abbrev array : tie.After-scan-at → List ℕ
+array c = c .scan-at .last .1 .1 .1 .0
+
+-- the array has its length
+abbrev Long : tie.After-scan-at → Type 0
+Long c = length (c .before .before .before .args .attrs .now) ≡ 80
+
+-- what the definition comes to
+abbrev Comes : tie.After-scan-at → Read → Type 0
+Comes c r = Long c → operatorAt (context c) (bytes c) (c .before .before .before .args .start) ≡ r
+
+-- what the scan found
+by-scan : (c : tie.After-scan-at) (r : Scan) → c .scan-at .result ≡ r → Comes c (scanned (context c) (bytes c) (scanAs r (array c)))
+unfolding operatorAt
+by-scan c r e z = sym (ap (scanned (context c) (bytes c)) (rw e at (c .scan-at .ensures .1 .0 z)))
+
+-- the operator that the scan found: its tag, the tag's place, how many attributes it has, and these
+abbrev scan : tie.After-tag → tie.After-scan-at
+scan t = t .before .before
+
+abbrev tag : tie.After-tag → ℕ
+tag t = t .tag .given .0 .0
+
+abbrev at : tie.After-tag → ℕ
+at t = t .tag .given .0 .1 .0
+
+abbrev many : tie.After-tag → ℕ
+many t = t .tag .given .0 .1 .1 .0
+
+abbrev attributes : tie.After-tag → List Attribute
+attributes t = rowsOf (array (scan t)) (many t)
+
+-- its tag stands within the bytes, and its attributes are few
+inside : (t : tie.After-tag) → (scan t .before .before .before .args .start ≤ at t) × (at t < length (bytes (scan t))) × (many t ≤ 16)
+inside t =
+    let w = rw (t .tag .given .1) at (t .before .before .scan-at .ensures .1 .1) in
+    (w .0, w .1, w .2)
+
+-- its attributes are in the array
+sized : (t : tie.After-tag) → Long (scan t) → Sized (array (scan t)) (many t)
+sized t z = record { long = scan t .scan-at .ensures .0 ∙ z; few = inside t .2 }
+
+-- the same operator, from the places after it
+abbrev lined : tie.After-line-at → tie.After-tag
+lined c = c .before .before .before
+
+abbrev fitted : tie.After-rows-fit → tie.After-tag
+fitted c = lined (c .before .before .before .before .before)
+
+abbrev owed : tie.After-due-of → tie.After-tag
+owed c = fitted (c .before .before .before)
+
+abbrev placed : tie.After-data-at → tie.After-tag
+placed c = owed (c .before .before .before .before)
+
+abbrev due : tie.After-data-at → ℕ
+due c = c .before .before .due .given .0 .0
+
+-- 9, 10, then the attributes
+by-line : (c : tie.After-line-at) (r : Fault) → c .line-at .result ≡ r
+    → let t = lined c in
+    Comes (scan t) (afterLine (context (scan t)) (bytes (scan t)) (tag t) (at t) (attributes t) (faultAs r))
+unfolding scanned
+by-line c r e z =
+    let t = lined c in
+    let f = scan t in
+    by-scan f _ (t .tag .given .1) z
+    ∙ line-after (context f) (bytes f) (tag t) (at t) (attributes t) (lineIn table (tag t))
+    ∙ ap (afterLine (context f) (bytes f) (tag t) (at t) (attributes t)) (sym (c .line-at .ensures (sized t z)) ∙ ap faultAs e)
+
+-- 14 for rows
+by-rows : (c : tie.After-rows-fit) (b : Bool) → c .rows-fit .result ≡ b
+    → let t = fitted c in
+    let f = scan t in
+    Comes f (pick b
+    (withData (context f) (bytes f) (tag t) (at t) (attributes t)
+    (dueOf (context f .high) (bytes f) (imageAs (c .before .before .image-of .result)) (tag t) (attributes t)))
+    (Read.no 14 (at t)))
+by-rows c b e z =
+    let t = fitted c in
+    let f = scan t in
+    by-line (c .before .before .before .before .before) _ (c .before .before .before .enum-told2 .given .1) z
+    ∙ rows-after (context f) (bytes f) (tag t) (at t) (attributes t)
+    ∙ rw (← c .before .before .image-of .ensures, sym (c .rows-fit .ensures (sized t z)) ∙ e)
+
+-- how much data is due
+by-due : (c : tie.After-due-of) (r : Due) → c .due-of .result ≡ r
+    → let t = owed c in
+    Comes (scan t) (withData (context (scan t)) (bytes (scan t)) (tag t) (at t) (attributes t) (dueAs r))
+by-due c r e z =
+    let t = owed c in
+    let f = scan t in
+    by-rows (c .before .before .before) true (not-false _ (c .before .before .if1 .left)) z
+    ∙ ap (withData (context f) (bytes f) (tag t) (at t) (attributes t)) (sym (c .due-of .ensures (sized t z)) ∙ ap dueAs e)
+
+-- 17, then the data
+by-data : (c : tie.After-data-at) (r : Found) → c .data-at .result ≡ r
+    → let t = placed c in
+    Comes (scan t) (withBlock (tag t) (at t) (attributes t) (due c) (foundAs r))
+by-data c r e z =
+    let t = placed c in
+    by-due (c .before .before .before .before) _ (c .before .before .due .given .1) z
+    ∙ data-after (context (scan t)) (bytes (scan t)) (tag t) (at t) (attributes t) (due c)
+    ∙ ap (withBlock (tag t) (at t) (attributes t) (due c)) (sym (c .data-at .ensures .0) ∙ ap foundAs e)
+
+-- data that was found begins past the tag and ends within the bytes
+found : (c : tie.After-first)
+    → let d = c .before .before in
+    (at (placed d) < c .first .given .0 .0) × (c .first .given .0 .0 + due d ≤ length (bytes (scan (placed d))))
+found c = rw (c .first .given .1) at (c .before .before .data-at .ensures .1)
+
+-- src/reading.rt:110:11
 scan-at-requires : tie.Need-scan-at-requires
 scan-at-requires c κs = search needs
 
--- src/reading.rt:162:22
-enum-known-tag : tie.Need-enum-known-tag
-enum-known-tag c = search needs
-
--- src/reading.rt:162:37
-with-line-requires : tie.Need-with-line-requires
-with-line-requires c κs =
-    let w = rw (c .before .before .tag .given .1) at (c .before .before .before .before .scan-at .ensures .1 .1) in
-    (w .1, w .2)
-
--- src/reading.rt:163:24
+-- src/reading.rt:111:24
 enum-told : tie.Need-enum-told
 enum-told c = search needs
 
--- src/reading.rt:164:18
+-- src/reading.rt:112:18
 enum-known-code : tie.Need-enum-known-code
 enum-known-code c = search needs
 
--- src/reading.rt:156:1
-returns : tie.Need-returns
-unfolding operatorAt scanned
-returns c =
-    let f = c .before .before .before .before .before in
-    let a = f .before .before .before .args in
-    let w = rw (c .before .before .before .tag .given .1) at (f .scan-at .ensures .1 .1) in (
-      f .scan-at .ensures .0,
-      (
-        (λ z. let y : Sized _ _ = record { long = f .scan-at .ensures .0 ∙ z; few = w .2 } in
-            c .with-line .ensures .0 y ∙ ap (scanned (contextAs (a .c)) (a .s .now)) (rw (c .before .before .before .tag .given .1) at (f .scan-at .ensures .1 .0 z))),
-        within-from (length (a .s .now)) (a .start) _ (c .with-line .result) (w .0) (c .with-line .ensures .1),
-      ),
-    )
+-- src/reading.rt:113:22
+enum-known-tag : tie.Need-enum-known-tag
+enum-known-tag c = search needs
 
--- src/reading.rt:156:1
+-- src/reading.rt:113:43
+line-at-requires : tie.Need-line-at-requires
+line-at-requires c κs = search needs
+
+-- src/reading.rt:114:24
+enum-known-code-2 : tie.Need-enum-known-code-2
+enum-known-code-2 c = search needs
+
+-- src/reading.rt:116:21
+enum-told-2 : tie.Need-enum-told-2
+enum-told-2 c = search needs
+
+-- src/reading.rt:117:21
+image-of-requires : tie.Need-image-of-requires
+image-of-requires c κs = search needs
+
+-- src/reading.rt:118:21
+rows-fit-requires : tie.Need-rows-fit-requires
+rows-fit-requires c κs = search needs
+
+-- src/reading.rt:119:21
+returns : tie.Need-returns
+returns c =
+    let r = c .before in
+    let t = fitted r in
+    (scan t .scan-at .ensures .0, ((λ z. sym (by-rows r false (not-true _ (c .if1 .taken)) z)), tt))
+
+-- src/reading.rt:121:23
+due-of-requires : tie.Need-due-of-requires
+due-of-requires c κs = search needs
+
+-- src/reading.rt:129:31
+enum-told-3 : tie.Need-enum-told-3
+enum-told-3 c = search needs
+
+-- src/reading.rt:129:31
+add-t30 : tie.Need-add-t30
+add-t30 c =
+    let t = owed (c .before .before) in
+    omega (arith, inside t .1, scan t .before .before .before .good .1 .0 .0)
+
+-- src/reading.rt:131:32
+enum-known-due : tie.Need-enum-known-due
+enum-known-due c = search needs
+
+-- src/reading.rt:131:46
+data-at-requires : tie.Need-data-at-requires
+data-at-requires c κs = inside (owed (c .before .before .before)) .1
+
+-- src/reading.rt:132:35
+enum-known-code-3 : tie.Need-enum-known-code-3
+enum-known-code-3 c = search needs
+
+-- src/reading.rt:133:35
+enum-known-first : tie.Need-enum-known-first
+enum-known-first c = search needs
+
+-- src/reading.rt:140:35
+add-t34 : tie.Need-add-t34
+add-t34 c =
+    let t = placed (c .before .before .before) in
+    omega (arith, found (c .before) .1, scan t .before .before .before .good .1 .0 .0)
+
+-- src/reading.rt:105:1
 returns-2 : tie.Need-returns-2
-unfolding operatorAt scanned
+unfolding scanned
 returns-2 c =
     let f = c .before .before in
-    let a = f .before .before .before .args in (
-      f .scan-at .ensures .0,
+    (f .scan-at .ensures .0, ((λ z. sym (by-scan f _ (c .enum-told .given .1) z)), tt))
+
+-- src/reading.rt:105:1
+returns-3 : tie.Need-returns-3
+unfolding scanned
+returns-3 c =
+    let f = c .before .before .before in
+    (f .scan-at .ensures .0, ((λ z. sym (by-scan f _ (c .before .code .given .1) z)), tt))
+
+-- src/reading.rt:105:1
+returns-4 : tie.Need-returns-4
+returns-4 c =
+    let l = c .before .before .before in
+    let t = lined l in
+    (scan t .scan-at .ensures .0, ((λ z. sym (by-line l _ (c .before .code2 .given .1) z)), tt))
+
+-- src/reading.rt:105:1
+returns-5 : tie.Need-returns-5
+unfolding withData
+returns-5 c =
+    let d = c .before .before in
+    let t = owed d in
+    let w = inside t in (
+      scan t .scan-at .ensures .0,
       (
-        (λ z. ap (scanned (contextAs (a .c)) (a .s .now)) (rw (c .enum-told .given .1) at (f .scan-at .ensures .1 .0 z))),
-        tt,
+        (λ z. rw add-one (sym (by-due d _ (c .enum-told3 .given .1) z))),
+        (w .0, omega arith, omega (arith, w .1), omega arith, w .2),
       ),
     )
 
--- src/reading.rt:156:1
-returns-3 : tie.Need-returns-3
-unfolding operatorAt scanned
-returns-3 c =
-    let f = c .before .before .before in
-    let a = f .before .before .before .args in (
-      f .scan-at .ensures .0,
+-- src/reading.rt:105:1
+returns-6 : tie.Need-returns-6
+unfolding withBlock
+returns-6 c =
+    let d = c .before .before .before in
+    let t = placed d in
+    (scan t .scan-at .ensures .0, ((λ z. sym (by-data d _ (c .before .code3 .given .1) z)), tt))
+
+-- src/reading.rt:105:1
+returns-7 : tie.Need-returns-7
+unfolding withBlock
+returns-7 c =
+    let d = c .before .before .before in
+    let t = placed d in
+    let w = inside t in
+    let p = found (c .before) in (
+      scan t .scan-at .ensures .0,
       (
-        (λ z. ap (scanned (contextAs (a .c)) (a .s .now)) (rw (c .before .code .given .1) at (f .scan-at .ensures .1 .0 z))),
-        tt,
+        (λ z. sym (by-data d _ (c .before .first .given .1) z)),
+        (w .0, omega (arith, p .0), p .1, p .1, w .2),
       ),
     )
 
@@ -81,10 +293,26 @@ operator-at-spec =
     tie.close
     (tie.spec
     scan-at-requires
-    enum-known-tag
-    with-line-requires
     enum-told
     enum-known-code
+    enum-known-tag
+    line-at-requires
+    enum-known-code-2
+    enum-told-2
+    image-of-requires
+    rows-fit-requires
     returns
+    due-of-requires
+    enum-told-3
+    add-t30
+    enum-known-due
+    data-at-requires
+    enum-known-code-3
+    enum-known-first
+    add-t34
     returns-2
-    returns-3)
+    returns-3
+    returns-4
+    returns-5
+    returns-6
+    returns-7)
