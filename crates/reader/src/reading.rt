@@ -110,38 +110,41 @@ pub fn operator_at(c: Context, s: &[u8], start: usize, attrs: &mut [usize; 80]) 
     match wire::scan_at(s, start, c.high, attrs) {
         Scan::Ended => Read::Ended,
         Scan::No(code, place) => Read::No(code, place),
-        Scan::Tagged(tag, at, n) => match line_at(c, s, tag, at, attrs, n) {
-            Fault::Bad(code, place) => Read::No(code, place),
-            Fault::Fine => {
-                let phase = c.phase;
-                let image = image_of(phase);
-                if !rows_fit(s, c.high, image, tag, attrs, n) {
-                    return Read::No(14, at);
-                }
-                match due_of(s, c.high, image, tag, attrs, n) {
-                    Due::Nothing => Read::Operator(Operator {
-                        tag,
-                        at,
-                        count: n,
-                        reads: false,
-                        length: 0,
-                        first: 0,
-                        next: at + 1,
-                    }),
-                    Due::Reads(due) => match data_at(c, s, at, due) {
-                        Found::No(code, place) => Read::No(code, place),
-                        Found::At(first) => Read::Operator(Operator {
+        Scan::Tagged(tag, many, at) => {
+            let n = many as usize;
+            match line_at(c, s, tag, at, attrs, n) {
+                Fault::Bad(code, place) => Read::No(code, place),
+                Fault::Fine => {
+                    let phase = c.phase;
+                    let image = image_of(phase);
+                    if !rows_fit(s, c.high, image, tag, attrs, n) {
+                        return Read::No(14, at);
+                    }
+                    match due_of(s, c.high, image, tag, attrs, n) {
+                        Due::Nothing => Read::Operator(Operator {
                             tag,
                             at,
                             count: n,
-                            reads: true,
-                            length: due,
-                            first,
-                            next: first + due,
+                            reads: false,
+                            length: 0,
+                            first: 0,
+                            next: at + 1,
                         }),
-                    },
+                        Due::Reads(due) => match data_at(c, s, at, due) {
+                            Found::No(code, place) => Read::No(code, place),
+                            Found::At(first) => Read::Operator(Operator {
+                                tag,
+                                at,
+                                count: n,
+                                reads: true,
+                                length: due,
+                                first,
+                                next: first + due,
+                            }),
+                        },
+                    }
                 }
             }
-        },
+        }
     }
 }

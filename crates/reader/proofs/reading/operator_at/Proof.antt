@@ -64,10 +64,10 @@ abbrev tag : tie.After-tag → ℕ
 tag t = t .tag .given .0 .0
 
 abbrev at : tie.After-tag → ℕ
-at t = t .tag .given .0 .1 .0
+at t = t .tag .given .0 .1 .1 .0
 
 abbrev many : tie.After-tag → ℕ
-many t = t .tag .given .0 .1 .1 .0
+many t = t .tag .given .0 .1 .0
 
 abbrev attributes : tie.After-tag → List Attribute
 attributes t = rowsOf (array (scan t)) (many t)
@@ -151,107 +151,88 @@ found : (c : tie.After-first)
     (at (placed d) < c .first .given .0 .0) × (c .first .given .0 .0 + due d ≤ length (bytes (scan (placed d))))
 found c = rw (c .first .given .1) at (c .before .before .data-at .ensures .1)
 
--- src/reading.rt:110:11
 scan-at-requires : tie.Need-scan-at-requires
 scan-at-requires c κs = search needs
 
--- src/reading.rt:111:24
 enum-told : tie.Need-enum-told
 enum-told c = search needs
 
--- src/reading.rt:112:18
 enum-known-code : tie.Need-enum-known-code
 enum-known-code c = search needs
 
--- src/reading.rt:113:22
 enum-known-tag : tie.Need-enum-known-tag
 enum-known-tag c = search needs
 
--- src/reading.rt:113:43
+cast-n : tie.Need-cast-n
+cast-n c = search needs
+
 line-at-requires : tie.Need-line-at-requires
 line-at-requires c κs = search needs
 
--- src/reading.rt:114:24
 enum-known-code-2 : tie.Need-enum-known-code-2
 enum-known-code-2 c = search needs
 
--- src/reading.rt:116:21
 enum-told-2 : tie.Need-enum-told-2
 enum-told-2 c = search needs
 
--- src/reading.rt:117:21
 image-of-requires : tie.Need-image-of-requires
 image-of-requires c κs = search needs
 
--- src/reading.rt:118:21
 rows-fit-requires : tie.Need-rows-fit-requires
 rows-fit-requires c κs = search needs
 
--- src/reading.rt:119:21
 returns : tie.Need-returns
 returns c =
     let r = c .before in
     let t = fitted r in
     (scan t .scan-at .ensures .0, ((λ z. sym (by-rows r false (not-true _ (c .if1 .taken)) z)), tt))
 
--- src/reading.rt:121:23
 due-of-requires : tie.Need-due-of-requires
 due-of-requires c κs = search needs
 
--- src/reading.rt:129:31
 enum-told-3 : tie.Need-enum-told-3
 enum-told-3 c = search needs
 
--- src/reading.rt:129:31
-add-t30 : tie.Need-add-t30
-add-t30 c =
+add-t31 : tie.Need-add-t31
+add-t31 c =
     let t = owed (c .before .before) in
     omega (arith, inside t .1, scan t .before .before .before .good .1 .0 .0)
 
--- src/reading.rt:131:32
 enum-known-due : tie.Need-enum-known-due
 enum-known-due c = search needs
 
--- src/reading.rt:131:46
 data-at-requires : tie.Need-data-at-requires
 data-at-requires c κs = inside (owed (c .before .before .before)) .1
 
--- src/reading.rt:132:35
 enum-known-code-3 : tie.Need-enum-known-code-3
 enum-known-code-3 c = search needs
 
--- src/reading.rt:133:35
 enum-known-first : tie.Need-enum-known-first
 enum-known-first c = search needs
 
--- src/reading.rt:140:35
-add-t34 : tie.Need-add-t34
-add-t34 c =
+add-t35 : tie.Need-add-t35
+add-t35 c =
     let t = placed (c .before .before .before) in
     omega (arith, found (c .before) .1, scan t .before .before .before .good .1 .0 .0)
 
--- src/reading.rt:105:1
 returns-2 : tie.Need-returns-2
 unfolding scanned
 returns-2 c =
     let f = c .before .before in
     (f .scan-at .ensures .0, ((λ z. sym (by-scan f _ (c .enum-told .given .1) z)), tt))
 
--- src/reading.rt:105:1
 returns-3 : tie.Need-returns-3
 unfolding scanned
 returns-3 c =
     let f = c .before .before .before in
     (f .scan-at .ensures .0, ((λ z. sym (by-scan f _ (c .before .code .given .1) z)), tt))
 
--- src/reading.rt:105:1
 returns-4 : tie.Need-returns-4
 returns-4 c =
     let l = c .before .before .before in
     let t = lined l in
     (scan t .scan-at .ensures .0, ((λ z. sym (by-line l _ (c .before .code2 .given .1) z)), tt))
 
--- src/reading.rt:105:1
 returns-5 : tie.Need-returns-5
 unfolding withData
 returns-5 c =
@@ -265,7 +246,6 @@ returns-5 c =
       ),
     )
 
--- src/reading.rt:105:1
 returns-6 : tie.Need-returns-6
 unfolding withBlock
 returns-6 c =
@@ -273,7 +253,6 @@ returns-6 c =
     let t = placed d in
     (scan t .scan-at .ensures .0, ((λ z. sym (by-data d _ (c .before .code3 .given .1) z)), tt))
 
--- src/reading.rt:105:1
 returns-7 : tie.Need-returns-7
 unfolding withBlock
 returns-7 c =
@@ -296,6 +275,7 @@ operator-at-spec =
     enum-told
     enum-known-code
     enum-known-tag
+    cast-n
     line-at-requires
     enum-known-code-2
     enum-told-2
@@ -304,12 +284,12 @@ operator-at-spec =
     returns
     due-of-requires
     enum-told-3
-    add-t30
+    add-t31
     enum-known-due
     data-at-requires
     enum-known-code-3
     enum-known-first
-    add-t34
+    add-t35
     returns-2
     returns-3
     returns-4
