@@ -38,8 +38,7 @@ IsNo (Pair.is r next) = ⊥
 IsNo (Pair.no code place) = Unit {0}
 IsNo Pair.waits = ⊥
 
--- what the code's answer to the pair at `at`, after n pairs, says: a pair that was read ends past its value's tag and within the
--- bytes, and fewer than 16 come before it
+-- by the code's answer: a pair that was read ends past its value's tag and within the bytes, and fewer than 16 come before it
 abbrev Ends : ℕ → ℕ → ℕ → CodePair → Type 0
 Ends len at n (Next next) = (at < next) × (next ≤ len) × (n < 16)
 Ends len at n (No code place) = Unit {0}
@@ -61,6 +60,7 @@ module _ (high : Bool) (s : List ℕ) where
   unfolding pairOf
   full-pair at refused = tt
 
+  -- so it is of every pair
   pub pair-ends : (at n : ℕ) (r : CodePair) → r ≡ answerTo (pairAt high s at n) → Ends (length s) at n r
   unfolding pairAt
   pair-ends at n r e = rw e (ends (pair-good high s at n) (λ h. full-pair at (full-value at n (kindOf (getD s at 0)) h)))
@@ -71,6 +71,7 @@ module _ (high : Bool) (s : List ℕ) where
   afterPair (No code place) a n = Scan.no code place
   afterPair Waits a n = Scan.no 27 (length s)
 
+  -- that scan is the one of the definitions
   on-pair : (at : ℕ) (a : List ℕ) (n : ℕ) → length a ≡ 80 → (p : Pair) → Ends (length s) at n (answerTo p)
       → onward (scanFrom high s) (onPair s (rowsOf a n) p) ≡ afterPair (answerTo p) (withPair a n p) n
   unfolding onPair
@@ -100,6 +101,7 @@ module _ (high : Bool) (s : List ℕ) where
       unfolding scanStep scanItem
       scan-tag e = scan-step high s (record { at = at; attrs = l }) ∙ rw (after-black s at h black, lt-leb _ _ h, e)
 
+      -- any other byte starts a pair
       black-item : between 0x41 0xbf (getD s at 0) ≡ false
           → scanFrom high s (record { at = at; attrs = l }) ≡ onward (scanFrom high s) (onPair s l (pairAt high s at (length l)))
       unfolding scanStep scanItem

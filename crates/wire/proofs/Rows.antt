@@ -153,7 +153,7 @@ module _ (a : List ℕ) (n number tag at count first : ℕ) where
         rows-more (withRow a n number tag at count first) n
         ∙ rw (rows-kept 0 n (omega arith), row-stored)
 
--- a pair that was read is stored, and the array keeps its length
+-- storing a pair keeps the array's length
 pub length-pair : (a : List ℕ) (n : ℕ) (p : Pair) → length (withPair a n p) ≡ length a
 length-pair a n (Pair.is r next) = length-stored a n (r .number) (r .tag) (r .at) (r .count) (r .first)
 length-pair a n (Pair.no code place) = refl

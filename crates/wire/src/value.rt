@@ -64,7 +64,7 @@ pub fn width_in(t: u8) -> usize
     width_of(t % 8)
 }
 
-// An array whose length is of a width: 8 if it has too many elements.
+// An array whose length is of a width: 5 if the length is not there, 8 if it is too great.
 fn counted_at(s: &[u8], at: usize, width: Width, high: bool) -> Value
     requires { ⌜ at < length (now s) ⌝ }
     ensures { λ r. ⌜ ((w : ℕ) → startsAs (now (s .entry)) at w r ≡ countedAt high (now (s .entry)) at w (bytesOf width)) ⌝ }
@@ -101,8 +101,7 @@ fn array_at(s: &[u8], at: usize, high: bool) -> Value
     Value::No(6, i)
 }
 
-// The value whose tag stands at `at`, after n pairs: 6 if it is no value's tag, then 7, then what the value itself has; but whether its
-// numbers are all there is not looked at.
+// The start of the value whose tag stands at `at`, after n pairs: 6 if it is no value's tag, then 7, then what an array's start has.
 pub fn value_at(s: &[u8], at: usize, n: usize, high: bool) -> Value
     ensures { λ r. ⌜ startsAs (now (s .entry)) at (widthIn (getD (now (s .entry)) at 0)) r ≡ valueOf high (now (s .entry)) at n (kindOf (getD (now (s .entry)) at 0)) ⌝ }
     ensures { λ r. ⌜ Starts at r ⌝ }

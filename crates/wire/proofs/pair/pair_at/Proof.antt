@@ -60,8 +60,7 @@ add-next c = let k = c .before .before .before in omega (arith, product c, start
 
 returns : tie.Need-returns
 unfolding pairAt pairOf
-returns c =
-    rw (value (c .before) ∙ numbers-short _ _ _ _ _ (c .if1 .taken)) (refl, refl)
+returns c = rw (value (c .before) ∙ numbers-short _ _ _ _ _ (c .if1 .taken)) (refl, refl)
 
 after-white-requires : tie.Need-after-white-requires
 after-white-requires c κs = search needs

@@ -39,14 +39,14 @@ unfolding countedAt elementsAt
 returns-2 c =
     let a = c .before .before .before .before .before .args in
     let h : a .at + 2 + bytesOf (a .width) ≤ length (a .s .now) = omega arith in
-    (λ _. rw (le-leb _ _ h, ← c .before .number-at .ensures .0, lt-ltb _ _ (c .if2 .taken)), tt)
+    (λ _. rw (le-leb _ _ h, ← c .before .number-at .ensures .0, lt-ltb 1024 _ (c .if2 .taken)), tt)
 
 returns-3 : tie.Need-returns-3
 unfolding countedAt elementsAt
 returns-3 c =
     let a = c .before .before .before .before .before .args in
     let h : a .at + 2 + bytesOf (a .width) ≤ length (a .s .now) = omega arith in
-    (λ _. rw (le-leb _ _ h, ← c .before .number-at .ensures .0, le-ltb _ _ (c .if2 .left), ← c .before .before .before .bytes-of .ensures .0), omega arith)
+    (λ _. rw (le-leb _ _ h, ← c .before .number-at .ensures .0, le-ltb 1024 _ (c .if2 .left), ← c .before .before .before .bytes-of .ensures .0), omega arith)
 
 pub counted-at-spec : {M : Type 1} → statement M
 counted-at-spec =

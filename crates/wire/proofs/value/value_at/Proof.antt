@@ -23,6 +23,7 @@ kind : (c : tie.After-kind-of) (k : Kind) → c .kind-of .result ≡ k
     ≡ kindAs (widthIn (getD (c .before .before .before .before .args .s .now) (c .before .before .before .before .args .at) 0)) k
 kind c k e = rw e at (sym (c .kind-of .ensures .0))
 
+-- where both tests were passed
 taken : (len at n : ℕ) (v : Value) → at < len → n < 16 → Taken len at n v
 taken len at n (From k first) h l = (h, l)
 taken len at n (No code place) h l = tt
