@@ -179,7 +179,7 @@ fn perform(
     }
 }
 
-// One operator of the job.
+// One operator of the job, or its end.
 fn advance(
     job: &[u8],
     high: bool,
@@ -201,6 +201,9 @@ fn advance(
         (jobStep every (record { high = high; gray = gray }) (now (job .entry)) (length list₀) d)) ⌝ }
 {
     let place = st.place;
+    if job.len() <= st.at {
+        return Step::Stop(stop(st, end_code(place), job.len(), OUTER));
+    }
     let context = Context {
         high,
         phase: session::phase_of(place),
