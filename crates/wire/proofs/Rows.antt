@@ -1,27 +1,16 @@
--- Laws of the rows of attributes: how many they are, the first, the last, and a row stored after them.
+-- Laws of the rows of attributes: how many they are, the last, and a row stored after them.
 -- Assumes nothing.
-use Prim.Native.Nat.{ℕ, zero, suc, _+_, _-_, _*_, _≤_, _<_}
+use Prim.Native.Nat.{ℕ, zero, suc, _+_, _*_, _≤_, _<_}
 use mathlib.Core.Path.{_≡_, refl, ap, _∙_}
 use mathlib.Core.List.{List, [], _∷_, _++_}
 use native.Mathlib.Omega.{arith}
-use native.Mathlib.Nat.{add-zero, zero-add, suc-add}
-use native.Mathlib.Numerals.{add-one}
-use lib.ListN.{length, getD, set, take, drop, length-set}
-use lib.Seq.{getD-set-same, getD-set-other, take-at, drop-at}
+use native.Mathlib.Nat.{add-zero, zero-add}
+use lib.ListN.{length, getD, set, length-set}
+use lib.Seq.{getD-set-same, getD-set-other}
 use Rattle.scope.specs.Item.{Attribute, Pair, Scan, endedWith}
 use Rattle.wire.specs.Rows.{rowAt, rowsFrom, rowsOf, withRow, withPair}
 
 module _ (a : List ℕ) where
-  -- none
-  pub rows-none : (i : ℕ) → rowsFrom a i 0 ≡ []
-  unfolding rowsFrom
-  rows-none i = refl
-
-  -- the first, and those after it
-  pub rows-first : (i k : ℕ) → rowsFrom a i (suc k) ≡ rowAt a i ∷ rowsFrom a (suc i) k
-  unfolding rowsFrom
-  rows-first i k = refl
-
   pub rows-length : (i k : ℕ) → length (rowsFrom a i k) ≡ k
   unfolding rowsFrom
   rows-length i zero = refl
@@ -42,46 +31,6 @@ module _ (a : List ℕ) where
   pub rows-more : (n : ℕ) → rowsOf a (suc n) ≡ rowsOf a n ++ (rowAt a n ∷ [])
   unfolding rowsOf
   rows-more n = rows-last 0 n ∙ ap (λ (j : ℕ). rowsFrom a 0 n ++ (rowAt a j ∷ [])) (zero-add n)
-
-  -- the first j of them, and those after
-  pub rows-append : (i j k : ℕ) → rowsFrom a i (j + k) ≡ rowsFrom a i j ++ rowsFrom a (i + j) k
-  unfolding rowsFrom
-  rows-append i zero k = rw (zero-add k, add-zero i)
-  rows-append i (suc j) k =
-      let e : suc i + j ≡ i + suc j = omega arith in
-      rw (suc-add j k) (ap (λ (l : List Attribute). rowAt a i ∷ l) (rows-append (suc i) j k ∙ ap (λ (p : ℕ). rowsFrom a (suc i) j ++ rowsFrom a p k) e))
-
-  -- of n rows from i on, the first, and those after it
-  pub rows-next : (i n : ℕ) → i < n → rowsFrom a i (n - i) ≡ rowAt a i ∷ rowsFrom a (i + 1) (n - (i + 1))
-  rows-next i n h =
-      let e : n - i ≡ suc (n - (i + 1)) = omega arith in
-      rw (e, add-one) (rows-first i (n - suc i))
-
-  -- none are left
-  pub rows-out : (i n : ℕ) → n ≤ i → rowsFrom a i (n - i) ≡ []
-  rows-out i n h =
-      let e : n - i ≡ 0 = omega arith in
-      rw e (rows-none i)
-
-  drop-from : (i j k : ℕ) → drop j (rowsFrom a i (j + k)) ≡ rowsFrom a (i + j) k
-  drop-from i j k = rw (rows-append i j k) (drop-at (rowsFrom a i j) (rowsFrom a (i + j) k) j (rows-length i j))
-
-  take-from : (i j k : ℕ) → take j (rowsFrom a i (j + k)) ≡ rowsFrom a i j
-  take-from i j k = rw (rows-append i j k) (take-at (rowsFrom a i j) (rowsFrom a (i + j) k) j (rows-length i j))
-
-  -- those from i on
-  pub drop-rows : (i n : ℕ) → i ≤ n → drop i (rowsOf a n) ≡ rowsFrom a i (n - i)
-  unfolding rowsOf
-  drop-rows i n h =
-      let e : n ≡ i + (n - i) = omega arith in
-      ap (λ (p : ℕ). drop i (rowsFrom a 0 p)) e ∙ drop-from 0 i (n - i) ∙ ap (λ (p : ℕ). rowsFrom a p (n - i)) (zero-add i)
-
-  -- those before i
-  pub take-rows : (i n : ℕ) → i ≤ n → take i (rowsOf a n) ≡ rowsOf a i
-  unfolding rowsOf
-  take-rows i n h =
-      let e : n ≡ i + (n - i) = omega arith in
-      ap (λ (p : ℕ). take i (rowsFrom a 0 p)) e ∙ take-from 0 i (n - i)
 
 -- an attribute is stored as attribute n
 module _ (a : List ℕ) (n number tag at count first : ℕ) where

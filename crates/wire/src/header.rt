@@ -2,7 +2,7 @@
 ghost use mathlib.Core.Path.{_≡_};
 ghost use mathlib.Core.Bool.{_&&_, _||_};
 ghost use Prim.Native.Nat.{_≤_, _<_};
-ghost use lib.ListN.{length, getD};
+ghost use lib.ListN.{length, getD, drop};
 ghost use lib.Dec.{eqb, leb};
 ghost use Rattle.scope.specs.Header.{title, mayStand, formFrom, classed, headerOf};
 ghost use Rattle.scope.specs.Header.{ends as Form·ends};
@@ -92,12 +92,29 @@ fn ends(i: usize, b: u8) -> bool
     b == 0x0a
 }
 
+// How far the first 12 bytes, which are alike in all headers, are as they may stand; 0 if there are fewer.
+fn past_title(s: &[u8]) -> usize
+    ensures { λ r. ⌜ (r ≤ length (now (s .entry))) × (formFrom r (drop r (now (s .entry))) ≡ formFrom 0 (now (s .entry))) ⌝ }
+{
+    if s.len() < 12 {
+        return 0;
+    }
+    let mut i: usize = 0;
+    while i < 12 {
+        if !may_stand(i, s[i]) {
+            return i;
+        }
+        i += 1;
+    }
+    i
+}
+
 // The form of the header that the bytes begin with.
 fn form_of(s: &[u8]) -> Form
     ensures { λ r. ⌜ formAs r ≡ formFrom 0 (now (s .entry)) ⌝ }
     ensures { λ r. ⌜ FormWithin (length (now (s .entry))) r ⌝ }
 {
-    let mut i: usize = 0;
+    let mut i = past_title(s);
     while i < s.len() {
         let b = s[i];
         if !may_stand(i, b) {

@@ -1,13 +1,12 @@
-use mathlib.Core.Bool.{true}
-use lib.ListN.{getD}
-use Rattle.scope.specs.Header.{mayStand}
 -- The invariant: the form from place i on is the header's form.
+-- Assumes nothing.
 use Prim.Native.Nat.{_-_, _≤_}
 use mathlib.Core.Path.{_≡_, sym, _∙_}
+use mathlib.Core.Bool.{true}
 use native.Mathlib.Omega.{arith}
 use borrow.Author.Tests.{not-true, not-false}
-use lib.ListN.{length, drop}
-use Rattle.scope.specs.Header.{formFrom}
+use lib.ListN.{length, getD, drop}
+use Rattle.scope.specs.Header.{mayStand, formFrom}
 use Rattle.wire.proofs.Forms.{form-breaks, form-ends, form-next, form-out}
 use borrow.Author.Needs.{needs}
 use Rattle.wire.proofs.header.form_of.Statement.{statement}
@@ -16,6 +15,7 @@ use Rattle.wire.proofs.header.form_of.Reads as reads
 use Rattle.wire.proofs.header.form_of.Lts as lts
 use Rattle.wire.proofs.header.ends.Reads as ends-reads
 use Rattle.wire.proofs.header.may_stand.Reads as may-stand-reads
+use Rattle.wire.proofs.header.past_title.Reads as past-title-reads
 
 abbrev Inv-loop : tie.InvT-loop
 Inv-loop s i₀ i = (i ≤ length s) × (formFrom i (drop i s) ≡ formFrom 0 s)
@@ -24,11 +24,14 @@ abbrev μ-loop : tie.MeasureT-loop
 μ-loop s i₀ i = length s - i
 
 -- the byte at the loop's place may stand there
-stands : (c : tie.Else1 Inv-loop μ-loop) → mayStand (c .before .before .before .before .loop .i) (getD (c .before .before .before .before .before .before .args .s .now) (c .before .before .before .before .loop .i) 0) ≡ true
+stands : (c : tie.Else1 Inv-loop μ-loop) → mayStand (c .before .before .before .before .loop .i) (getD (c .before .before .before .before .before .before .before .args .s .now) (c .before .before .before .before .loop .i) 0) ≡ true
 stands c = sym (c .before .may-stand .ensures) ∙ not-false _ (c .if1 .left)
 
+past-title-requires : tie.Need-past-title-requires Inv-loop μ-loop
+past-title-requires c κs = search needs
+
 loop-holds : tie.Need-loop-holds Inv-loop μ-loop
-loop-holds c = search needs
+loop-holds c = c .past-title .ensures
 
 shared-slice-read-b : tie.Need-shared-slice-read-b Inv-loop μ-loop
 shared-slice-read-b c = search needs
@@ -39,7 +42,7 @@ may-stand-requires c κs = search needs
 returns : tie.Need-returns Inv-loop μ-loop
 returns c =
     let e = c .before .before .before .before in
-    (sym (form-breaks (e .before .before .args .s .now) (e .loop .i) (c .before .before .before .loop-test .taken) (sym (c .before .may-stand .ensures) ∙ not-true _ (c .if1 .taken))) ∙ e .loop .inv .1, tt)
+    (sym (form-breaks (e .before .before .before .args .s .now) (e .loop .i) (c .before .before .before .loop-test .taken) (sym (c .before .may-stand .ensures) ∙ not-true _ (c .if1 .taken))) ∙ e .loop .inv .1, tt)
 
 ends-requires : tie.Need-ends-requires Inv-loop μ-loop
 ends-requires c κs = search needs
@@ -51,7 +54,7 @@ returns-2 : tie.Need-returns-2 Inv-loop μ-loop
 returns-2 c =
     let k = c .before .before in
     let e = k .before .before .before .before in
-    (sym (form-ends (e .before .before .args .s .now) (e .loop .i) (k .before .before .before .loop-test .taken) (stands k) (sym (c .before .ends .ensures) ∙ c .if2 .taken)) ∙ e .loop .inv .1, omega arith)
+    (sym (form-ends (e .before .before .before .args .s .now) (e .loop .i) (k .before .before .before .loop-test .taken) (stands k) (sym (c .before .ends .ensures) ∙ c .if2 .taken)) ∙ e .loop .inv .1, omega arith)
 
 add-i : tie.Need-add-i Inv-loop μ-loop
 add-i c = search needs
@@ -63,10 +66,10 @@ loop-again : tie.Need-loop-again Inv-loop μ-loop
 loop-again c =
     let k = c .before .before in
     let e = k .before .before .before .before in
-    (omega arith, sym (form-next (e .before .before .args .s .now) (e .loop .i) (k .before .before .before .loop-test .taken) (stands k) (sym (c .before .ends .ensures) ∙ c .if2 .left)) ∙ e .loop .inv .1)
+    (omega arith, sym (form-next (e .before .before .before .args .s .now) (e .loop .i) (k .before .before .before .loop-test .taken) (stands k) (sym (c .before .ends .ensures) ∙ c .if2 .left)) ∙ e .loop .inv .1)
 
 returns-3 : tie.Need-returns-3 Inv-loop μ-loop
-returns-3 c = (sym (form-out (c .before .before .before .args .s .now) (c .before .loop .i) (c .loop-test .left)) ∙ c .before .loop .inv .1, tt)
+returns-3 c = (sym (form-out (c .before .before .before .before .args .s .now) (c .before .loop .i) (c .loop-test .left)) ∙ c .before .loop .inv .1, tt)
 
 pub form-of-spec : {M : Type 1} → statement M
 form-of-spec =
@@ -74,6 +77,7 @@ form-of-spec =
     (tie.spec
     Inv-loop
     μ-loop
+    past-title-requires
     loop-holds
     shared-slice-read-b
     may-stand-requires
