@@ -5,11 +5,12 @@ use mathlib.Core.Path.{_≡_, refl, sym, ap, _∙_}
 use mathlib.Core.Bool.{Bool, true, false}
 use mathlib.Core.List.{List}
 use native.Mathlib.Omega.{arith}
-use borrow.Author.Tests.{le-leb, lt-leb}
-use lib.ListN.{length, getD}
+use borrow.Author.Tests.{le-leb, lt-leb, leb-true, leb-false}
+use lib.ListN.{length, getD, List·getD-eq-default}
+use lib.Dec.{leb}
 use Rattle.scope.specs.Choice.{between}
 use Rattle.scope.specs.Iterate.{onward}
-use Rattle.scope.specs.Item.{Attribute, Kind, plain, array, other, kindOf, Value, numbersAt, valueOf, Pair, pairOf, pairAt, Scan, white, endedWith, onPair, scanItem, scanStep, scanFrom}
+use Rattle.scope.specs.Item.{Attribute, Kind, plain, array, other, kindOf, Value, numbersAt, valueOf, Pair, numbered, numberAt, pairOf, pairAt, Scan, white, after, endedWith, onPair, scanItem, scanStep, scanFrom}
 use Rattle.scope.proofs.Ends.{GoodPair, pair-good}
 use Rattle.scope.proofs.Falls.{scan-step}
 use Rattle.wire.specs.Rows.{rowsOf, withPair}
@@ -27,6 +28,21 @@ numbers-short s at first n w h = rw (lt-leb _ _ h)
 pub numbers-all : (s : List ℕ) (at first n w : ℕ) → first + n * w ≤ length s → numbersAt s at first n w ≡ Value.is n first (first + n * w)
 unfolding numbersAt
 numbers-all s at first n w h = rw (le-leb _ _ h)
+
+-- 0xf8 right behind a value: no white space is passed
+marked : (s : List ℕ) (p : ℕ) (past : Bool) → leb (length s) p ≡ past → getD s p 0 ≡ 0xf8 → p < length s
+marked s p false h e = leb-false (length s) p h
+marked s p true h e = absurd (let z = List·getD-eq-default s 0 (leb-true (length s) p h) in omega arith)
+
+pub mark-within : (s : List ℕ) (p : ℕ) → getD s p 0 ≡ 0xf8 → p < length s
+mark-within s p = marked s p (leb (length s) p) refl
+
+pub mark-next : (high : Bool) (s : List ℕ) (at count first p : ℕ) → getD s p 0 ≡ 0xf8 → numberAt high s at count first (after s p) ≡ numbered high s at count first p 1
+unfolding numberAt white
+mark-next high s at count first p e =
+    let h = mark-within s p e in
+    let black : white (getD s p 0) ≡ false = rw e refl in
+    rw (after-black s p h black, lt-leb (length s) p h, e)
 
 -- a value that was refused
 data Refused : Value → Type 0 where
@@ -102,7 +118,7 @@ module _ (high : Bool) (s : List ℕ) where
       scan-tag e = scan-step high s (record { at = at; attrs = l }) ∙ rw (after-black s at h black, lt-leb _ _ h, e)
 
       -- any other byte starts a pair
-      black-item : between 0x41 0xbf (getD s at 0) ≡ false
+      pub black-item : between 0x41 0xbf (getD s at 0) ≡ false
           → scanFrom high s (record { at = at; attrs = l }) ≡ onward (scanFrom high s) (onPair s l (pairAt high s at (length l)))
       unfolding scanStep scanItem
       black-item e = scan-step high s (record { at = at; attrs = l }) ∙ rw (after-black s at h black, lt-leb _ _ h, e)

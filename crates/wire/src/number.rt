@@ -1,8 +1,8 @@
 // Numbers of one, two or four bytes, in either byte order.
 ghost use mathlib.Core.Path.{_≡_};
 ghost use Prim.Native.Nat.{_+_, _^_, _≤_, _<_};
-ghost use lib.ListN.{length, getD};
-ghost use Rattle.scope.specs.Number.{place, number};
+ghost use lib.ListN.{getD};
+ghost use Rattle.scope.specs.Number.{number};
 ghost use Rattle.wire.specs.Widths.{bytesOf};
 
 pub enum Width {
@@ -38,29 +38,26 @@ fn digit_at(s: &[u8], at: usize) -> u64
     byte_at(s, at) as u64
 }
 
-// Where digit k stands of a number of n bytes, highest first.
-fn place_of(high: bool, n: usize, at: usize, k: usize) -> usize
-    requires { ⌜ (k < n) × (at + n < 2 ^ 63 + 16) ⌝ }
-    ensures { λ r. ⌜ r ≡ place high n at k ⌝ }
+// The number of two bytes at a place: two of one byte, in the byte order.
+fn two_at(s: &[u8], at: usize, high: bool) -> u64
+    requires { ⌜ at < 2 ^ 63 + 16 ⌝ }
+    ensures { λ r. ⌜ r ≡ number high 2 (now (s .entry)) at ⌝ }
+    ensures { λ r. ⌜ r < 65536 ⌝ }
 {
-    let back = n - 1 - k;
-    if high { at + k } else { at + back }
+    let a = digit_at(s, at);
+    let b = digit_at(s, at + 1);
+    if high { a * 256 + b } else { b * 256 + a }
 }
 
-// The number of n bytes at a place within the bytes.
-fn value(s: &[u8], at: usize, n: usize, high: bool) -> u64
-    requires { ⌜ (n ≤ 4) × (at < length (now s)) ⌝ }
-    ensures { λ r. ⌜ r ≡ number high n (now (s .entry)) at ⌝ }
-    ensures { λ r. ⌜ (r < 256 ^ n) × (r < 2 ^ 32) ⌝ }
+// The number of four bytes at a place: two of two bytes, in the byte order.
+fn four_at(s: &[u8], at: usize, high: bool) -> u64
+    requires { ⌜ at < 2 ^ 63 ⌝ }
+    ensures { λ r. ⌜ r ≡ number high 4 (now (s .entry)) at ⌝ }
+    ensures { λ r. ⌜ r < 2 ^ 32 ⌝ }
 {
-    let mut v: u64 = 0;
-    let mut k: usize = 0;
-    while k < n {
-        let i = place_of(high, n, at, k);
-        v = v * 256 + digit_at(s, i);
-        k += 1;
-    }
-    v
+    let a = two_at(s, at, high);
+    let b = two_at(s, at + 2, high);
+    if high { a * 65536 + b } else { b * 65536 + a }
 }
 
 // The number of a width at a place; bytes past the end count as 0.
@@ -71,6 +68,9 @@ pub fn number_at(s: &[u8], at: usize, width: Width, high: bool) -> u32
     if s.len() <= at {
         return 0;
     }
-    let n = bytes_of(width);
-    value(s, at, n, high) as u32
+    match width {
+        Width::One => digit_at(s, at) as u32,
+        Width::Two => two_at(s, at, high) as u32,
+        Width::Four => four_at(s, at, high) as u32,
+    }
 }

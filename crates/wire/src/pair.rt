@@ -7,6 +7,7 @@ ghost use Rattle.wire.specs.Widths.{bytesOf};
 ghost use Rattle.wire.specs.Rows.{withRow, withPair};
 ghost use Rattle.wire.specs.Values.{answerTo};
 use crate::number::Width;
+use crate::number::byte_at;
 use crate::number::bytes_of;
 use crate::number::number_at;
 use crate::value::Value;
@@ -95,7 +96,7 @@ fn after_value(
     Pair::No(6, p)
 }
 
-// The pair whose value's tag stands at `at`, after n pairs; it is stored as attribute n.
+// The pair whose value's tag stands at `at`, after n pairs; it is stored as attribute n. Mostly 0xf8 stands right behind the value.
 pub fn pair_at(s: &[u8], at: usize, n: usize, high: bool, attrs: &mut [usize; 80]) -> Pair
     ensures { λ r. ⌜ r ≡ answerTo (pairAt high (now (s .entry)) at n) ⌝ }
     ensures { λ _. ⌜ now (attrs .exit) ≡ withPair (now (attrs .entry)) n (pairAt high (now (s .entry)) at n) ⌝ }
@@ -105,6 +106,9 @@ pub fn pair_at(s: &[u8], at: usize, n: usize, high: bool, attrs: &mut [usize; 80
             let next = first + count as usize * width_in(s[at]);
             if s.len() < next {
                 return Pair::No(5, at);
+            }
+            if byte_at(s, next) == 0xf8 {
+                return numbered_at(s, at, count, first, next, Width::One, high, attrs, n);
             }
             after_value(s, at, count, first, after_white(s, next), high, attrs, n)
         }

@@ -1,3 +1,5 @@
+-- `either` meets its contract.
+-- Assumes nothing.
 use borrow.Author.Tests.{eq-eqb, ne-eqb}
 use Rattle.wire.proofs.header.either.Statement.{statement}
 use Rattle.wire.proofs.header.either.Tie as tie

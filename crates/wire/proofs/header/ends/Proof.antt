@@ -1,3 +1,5 @@
+-- `ends` meets its contract.
+-- Assumes nothing.
 use borrow.Author.Tests.{le-leb, lt-leb}
 use Rattle.wire.proofs.header.ends.Statement.{statement}
 use Rattle.wire.proofs.header.ends.Tie as tie

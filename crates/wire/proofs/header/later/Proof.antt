@@ -1,3 +1,5 @@
+-- `later` meets its contract.
+-- Assumes nothing.
 use lib.Dec.{leb}
 use mathlib.Core.Path.{_≡_}
 use mathlib.Core.Bool.{false}

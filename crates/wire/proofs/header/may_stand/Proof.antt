@@ -1,3 +1,5 @@
+-- `may_stand` meets its contract.
+-- Assumes nothing.
 use borrow.Author.Tests.{ne-eqb, le-leb}
 use Rattle.scope.specs.Header.{mayStand}
 use borrow.Author.Needs.{needs}

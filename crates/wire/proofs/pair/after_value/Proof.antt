@@ -1,3 +1,5 @@
+-- `after_value` meets its contract.
+-- Assumes nothing.
 use mathlib.Core.Path.{refl}
 use borrow.Author.Tests.{le-leb, lt-leb, eq-eqb, ne-eqb}
 use Rattle.scope.specs.Item.{numberAt}

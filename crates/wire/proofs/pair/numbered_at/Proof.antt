@@ -1,3 +1,5 @@
+-- `numbered_at` meets its contract.
+-- Assumes nothing.
 use Prim.Native.Nat.{_+_, _≤_, _<_}
 use mathlib.Core.Path.{refl}
 use native.Mathlib.Omega.{arith}

@@ -1,16 +1,20 @@
+-- `pair_at`: the value, then its number right behind it or after white space.
+-- Assumes nothing.
 use Prim.Native.Nat.{_+_, _*_, _≤_, _<_}
 use mathlib.Core.Path.{_≡_, refl, sym, ap, _∙_}
 use native.Mathlib.Omega.{arith}
 use native.Mathlib.Nat.{mul-le-mul}
 use lib.ListN.{length, getD}
 use Rattle.scope.specs.Item.{kindOf, numbersAt, valueOf, pairAt, pairOf}
-use Rattle.wire.proofs.Pairs.{numbers-short, numbers-all}
+use Rattle.wire.proofs.Pairs.{numbers-short, numbers-all, mark-within, mark-next}
 use borrow.Author.Needs.{needs}
 use Rattle.wire.proofs.pair.pair_at.Statement.{statement}
 use Rattle.wire.proofs.pair.pair_at.Tie as tie
 use Rattle.wire.proofs.pair.pair_at.Reads as reads
 use Rattle.wire.proofs.pair.pair_at.Lts as lts
+use Rattle.wire.proofs.number.byte_at.Reads as byte-at-reads
 use Rattle.wire.proofs.pair.after_value.Reads as after-value-reads
+use Rattle.wire.proofs.pair.numbered_at.Reads as numbered-at-reads
 use Rattle.wire.proofs.value.value_at.Reads as value-at-reads
 use Rattle.wire.proofs.value.width_in.Reads as width-in-reads
 use Rattle.wire.proofs.white.after_white.Reads as after-white-reads
@@ -62,24 +66,48 @@ returns : tie.Need-returns
 unfolding pairAt pairOf
 returns c = rw (value (c .before) ∙ numbers-short _ _ _ _ _ (c .if1 .taken)) (refl, refl)
 
-after-white-requires : tie.Need-after-white-requires
-after-white-requires c κs = search needs
+byte-at-requires : tie.Need-byte-at-requires
+byte-at-requires c κs = search needs
 
-after-value-requires : tie.Need-after-value-requires
-after-value-requires c κs = taken (c .before .before .before .before .before .before)
+-- 0xf8 stands right behind the value
+mark : (c : tie.After-byte-at) → c .byte-at .result ≡ 0xf8
+    → let k = c .before .before .before .before .before in
+    let a = k .before .before .before .before .args in
+    getD (a .s .now) (k .count .given .0 .1 .0 + k .count .given .0 .0 * c .before .before .width-in .result) 0 ≡ 0xf8
+mark c e = sym (c .byte-at .ensures) ∙ e
 
-enum-known-code : tie.Need-enum-known-code
-enum-known-code c = search needs
+numbered-at-requires : tie.Need-numbered-at-requires
+numbered-at-requires c κs =
+    let k = c .before .before .before .before .before .before .before in
+    let s = k .before .before .before .before .args .s .now in
+    (taken k .0, mark-within s _ (mark (c .before .before) (c .before .if2 .taken)), taken k .1)
 
 returns-2 : tie.Need-returns-2
 unfolding pairAt pairOf
 returns-2 c =
-    let k = c .before .before in
-    rw (value (k .before .before) ∙ numbers-all _ _ _ _ _ (k .before .if1 .left), ← k .after-white .ensures) (c .after-value .ensures)
+    let t = c .before .before in
+    let l = t .before .before in
+    rw (value (l .before) ∙ numbers-all _ _ _ _ _ (l .if1 .left), mark-next _ _ _ _ _ _ (mark (t .before) (t .if2 .taken))) (c .numbered-at .ensures)
+
+after-white-requires : tie.Need-after-white-requires
+after-white-requires c κs = search needs
+
+after-value-requires : tie.Need-after-value-requires
+after-value-requires c κs = taken (c .before .before .before .before .before .before .before .before)
+
+enum-known-code : tie.Need-enum-known-code
+enum-known-code c = search needs
 
 returns-3 : tie.Need-returns-3
 unfolding pairAt pairOf
 returns-3 c =
+    let k = c .before .before in
+    let l = k .before .before .before in
+    rw (value (l .before) ∙ numbers-all _ _ _ _ _ (l .if1 .left), ← k .after-white .ensures) (c .after-value .ensures)
+
+returns-4 : tie.Need-returns-4
+unfolding pairAt pairOf
+returns-4 c =
     let k = c .before in
     rw (sym (rw (k .code .given .1) at (k .before .before .value-at .ensures .0))) (refl, refl)
 
@@ -95,8 +123,11 @@ pair-at-spec =
     mul-next
     add-next
     returns
+    byte-at-requires
+    numbered-at-requires
+    returns-2
     after-white-requires
     after-value-requires
     enum-known-code
-    returns-2
-    returns-3)
+    returns-3
+    returns-4)

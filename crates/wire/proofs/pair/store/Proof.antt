@@ -1,3 +1,5 @@
+-- `store` meets its contract.
+-- Assumes nothing.
 use Rattle.wire.specs.Rows.{withRow}
 use borrow.Author.Needs.{needs}
 use Rattle.wire.proofs.pair.store.Statement.{statement}

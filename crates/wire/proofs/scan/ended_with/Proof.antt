@@ -1,3 +1,5 @@
+-- `ended_with` meets its contract.
+-- Assumes nothing.
 use mathlib.Core.Path.{sym}
 use Rattle.wire.proofs.Rows.{ended-none, ended-some}
 use Rattle.wire.proofs.scan.ended_with.Statement.{statement}

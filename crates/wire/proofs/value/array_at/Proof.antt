@@ -1,3 +1,5 @@
+-- `array_at` meets its contract.
+-- Assumes nothing.
 use borrow.Author.Tests.{le-leb, lt-leb, eq-eqb, ne-eqb}
 use Rattle.scope.specs.Item.{arrayAt}
 use borrow.Author.Needs.{needs}

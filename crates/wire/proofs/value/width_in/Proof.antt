@@ -1,3 +1,5 @@
+-- `width_in` meets its contract.
+-- Assumes nothing.
 use Rattle.wire.specs.Widths.{widthIn}
 use borrow.Author.Needs.{needs}
 use Rattle.wire.proofs.value.width_in.Statement.{statement}

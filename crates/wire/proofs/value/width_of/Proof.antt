@@ -1,3 +1,5 @@
+-- `width_of` meets its contract.
+-- Assumes nothing.
 use native.Mathlib.Omega.{arith}
 use borrow.Author.Tests.{ne-eqb}
 use Rattle.scope.specs.Item.{widthOf}

@@ -1,3 +1,5 @@
+-- `between` meets its contract.
+-- Assumes nothing.
 use mathlib.Core.Bool.{false≢true}
 use borrow.Author.Tests.{le-leb, lt-leb, leb-true}
 use Rattle.wire.proofs.white.between.Statement.{statement}

@@ -1,3 +1,5 @@
+-- `is_white` meets its contract.
+-- Assumes nothing.
 use mathlib.Core.Path.{sym, _∙_}
 use Rattle.scope.specs.Item.{white}
 use borrow.Author.Needs.{needs}
