@@ -1,14 +1,14 @@
 -- The attributes of the lent array, one by one, and the first of a number among them.
 -- Assumes nothing.
-use Prim.Native.Nat.{ℕ, zero, suc, _+_, _-_, _≤_, _<_}
+use Prim.Native.Nat.{ℕ, zero, suc, _+_, _-_, _*_, _≤_, _<_}
 use mathlib.Core.Path.{_≡_, refl, sym, ap, _∙_}
 use mathlib.Core.Bool.{Bool, true, false}
 use mathlib.Core.List.{List, [], _∷_, _++_}
 use native.Mathlib.Omega.{arith}
 use native.Mathlib.Numerals.{add-one}
-use lib.ListN.{length, take, drop}
+use lib.ListN.{length, getD, take, drop}
 use lib.Dec.{eqb, ltb}
-use borrow.Author.Tests.{lt-ltb}
+use borrow.Author.Tests.{lt-ltb, eq-eqb}
 use Rattle.scope.specs.Choice.{pick}
 use Rattle.scope.specs.Item.{Attribute}
 use Rattle.scope.specs.Attributes.{has, firstOf, valueIn, bytesIn}
@@ -110,3 +110,20 @@ module _ (number : ℕ) (a : List ℕ) (n p : ℕ) (few : n ≤ 16) (place : p �
 
   pub bytes-at : (s : List ℕ) → bytesIn s (rowsOf a n) number ≡ pick (ltb p 16) (take (rowAt a p .count) (drop (rowAt a p .first) s)) []
   bytes-at s = bytes-first s (rowsOf a n) number ∙ first-at (λ b. take (b .count) (drop (b .first) s)) [] number a n p few place
+
+-- a row of this number is among them
+either-way : (b t : Bool) → t ≡ true → pick b true t ≡ true
+either-way true t e = refl
+either-way false t e = e
+
+row-among : (a : List ℕ) (j k m number : ℕ) → m < k → rowAt a (j + m) .number ≡ number → has number (rowsFrom a j k) ≡ true
+unfolding has rowsFrom
+row-among a j zero m number h e = absurd (omega arith)
+row-among a j (suc k) zero number h e = let z : j + 0 ≡ j = omega arith in rw (eq-eqb (rowAt a j .number) number (rw z at e))
+row-among a j (suc k) (suc m) number h e =
+    let z : j + suc m ≡ suc j + m = omega arith in
+    either-way (eqb (rowAt a j .number) number) (has number (rowsFrom a (suc j) k)) (row-among a (suc j) k m number (omega arith) (rw z at e))
+
+pub row-there : (a : List ℕ) (n i number : ℕ) → i < n → getD a (i * 5) 0 ≡ number → has number (rowsOf a n) ≡ true
+unfolding rowsOf rowAt
+row-there a n i number h e = let z : 0 + i ≡ i = omega arith in row-among a 0 n i number h (rw z e)

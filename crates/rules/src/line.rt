@@ -1,8 +1,9 @@
 // The numbers of an operator's line, against the attributes that are there.
 ghost use mathlib.Core.Path.{_≡_};
-ghost use Prim.Native.Nat.{_≤_};
+ghost use Prim.Native.Nat.{_≤_, _<_};
 ghost use lib.ListN.{take};
 ghost use Rattle.scope.specs.Choice.{pick, among};
+ghost use Rattle.scope.specs.Attributes.{has as hasIn};
 ghost use Rattle.wire.specs.Rows.{rowsOf, Sized};
 ghost use Rattle.rules.specs.Lines.{upToNo};
 ghost use Rattle.rules.specs.Judging.{allIn, manyIn};
@@ -40,6 +41,19 @@ pub fn listed(numbers: [u8; 5], number: usize) -> bool
     false
 }
 
+// An attribute of this number is there; mostly it is attribute i.
+fn there(attrs: &[usize; 80], n: usize, i: usize, number: usize) -> bool
+    requires { ⌜ i < 16 ⌝ }
+    ensures { λ r. ⌜ (Sized (now (attrs .entry)) n → r ≡ hasIn number (rowsOf (now (attrs .entry)) n)) ⌝ }
+{
+    if i < n {
+        if attrs[i * 5] == number {
+            return true;
+        }
+    }
+    has(attrs, n, number)
+}
+
 // The first so many numbers of the line are there.
 pub fn all_there(must: usize, numbers: [u8; 5], attrs: &[usize; 80], n: usize) -> bool
     ensures { λ r. ⌜ (Sized (now (attrs .entry)) n → r ≡ allIn (rowsOf (now (attrs .entry)) n) (take must numbers)) ⌝ }
@@ -49,7 +63,7 @@ pub fn all_there(must: usize, numbers: [u8; 5], attrs: &[usize; 80], n: usize) -
         if i == must {
             return true;
         }
-        if !has(attrs, n, wide(numbers[i])) {
+        if !there(attrs, n, i, wide(numbers[i])) {
             return false;
         }
         i += 1;

@@ -15,7 +15,7 @@ use Rattle.rules.proofs.line.all_there.Statement.{statement}
 use Rattle.rules.proofs.line.all_there.Tie as tie
 use Rattle.rules.proofs.line.all_there.Reads as reads
 use Rattle.rules.proofs.line.all_there.Lts as lts
-use Rattle.rules.proofs.attributes.has.Reads as has-reads
+use Rattle.rules.proofs.line.there.Reads as there-reads
 use Rattle.rules.proofs.line.wide.Reads as wide-reads
 
 abbrev Inv-loop : tie.InvT-loop
@@ -40,11 +40,11 @@ array-read-wide c = search needs
 wide-requires : tie.Need-wide-requires Inv-loop μ-loop
 wide-requires c κs = search needs
 
-has-requires : tie.Need-has-requires Inv-loop μ-loop
-has-requires c κs = search needs
+there-requires : tie.Need-there-requires Inv-loop μ-loop
+there-requires c κs = search needs
 
 -- one number more was looked for
-looked : (c : tie.After-has Inv-loop μ-loop) (b : Bool) → c .has .result ≡ b
+looked : (c : tie.After-there Inv-loop μ-loop) (b : Bool) → c .there .result ≡ b
     → let e = c .before .before .before .before in
     let a = e .before .args in
     Sized (a .attrs .now) (a .n)
@@ -55,7 +55,7 @@ looked c b h z =
     let a = e .before .args in
     let w = c .before .wide in
     let f : length (a .t2) ≡ 5 = search needs in
-    sym (all-step (rowsOf (a .attrs .now) (a .n)) (a .must) (a .t2) (e .loop .i) (omega arith) (omega arith) (w .result) (w .ensures) b (sym h ∙ c .has .ensures z)) ∙ e .loop .inv .2 z
+    sym (all-step (rowsOf (a .attrs .now) (a .n)) (a .must) (a .t2) (e .loop .i) (omega arith) (omega arith) (w .result) (w .ensures) b (sym h ∙ c .there .ensures z)) ∙ e .loop .inv .2 z
 
 returns-2 : tie.Need-returns-2 Inv-loop μ-loop
 returns-2 c = looked (c .before) false (not-true _ (c .if2 .taken))
@@ -86,7 +86,7 @@ all-there-spec =
     returns
     array-read-wide
     wide-requires
-    has-requires
+    there-requires
     returns-2
     add-i
     loop-less
