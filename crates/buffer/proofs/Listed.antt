@@ -190,3 +190,13 @@ pub listed-whole : (list₀ list a : List ℕ) (records n tag at size first : �
     → (r ≡ leb ((records + suc n) * 16) (length list₀)) × (list ≡ joinedAt r list₀ (records * 16) (recordsFor tag at size first (rowsOf a n)))
 listed-whole list₀ list a records n tag at size first r e f z b =
     (e ∙ room-few records n (length list₀) (z .few), rw (lows-bytes (rowsOf a n) b) at f)
+
+-- one attribute's record, then its operator's right after it
+pub one-listed : (list₀ list r o : List ℕ) (records number value at count first tag op : ℕ) → (records + 2) * 16 ≤ length list₀ → list ≡ over list₀ (records * 16) r
+    → r ≡ sixteen 1 number value 0 at count first → o ≡ sixteen 2 tag 1 0 op 0 0
+    → over list ((records + 1) * 16) o ≡ over list₀ (records * 16) (recordsFor tag op 0 0 (record { number = number; tag = value; at = at; count = count; first = first } ∷ []))
+unfolding recordsFor attributeRecords attributeRecord sixteen four
+one-listed list₀ list r o records number value at count first tag op room e f g =
+    let w : (records + 1) * 16 ≡ records * 16 + 16 = omega arith in
+    let v : (records + 1) * 16 + 16 ≤ length list₀ = omega arith in
+    rw (e, f, g) (over-next list₀ (records * 16) ((records + 1) * 16) _ _ w v)

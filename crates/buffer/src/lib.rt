@@ -6,5 +6,6 @@ mod zeroing;
 
 pub use joining::join;
 pub use listing::list_alone;
+pub use listing::list_one;
 pub use listing::list_operator;
 pub use zeroing::zero;

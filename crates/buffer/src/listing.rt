@@ -1,6 +1,6 @@
 // An operator's records in the list: one for each of its attributes, then its own.
 ghost use mathlib.Core.Path.{_≡_};
-ghost use mathlib.Core.List.{[]};
+ghost use mathlib.Core.List.{[], _∷_};
 ghost use Prim.Native.Nat.{suc, _+_, _*_, _/_, _%_, _≤_, _<_};
 ghost use lib.Dec.{leb};
 ghost use lib.ListN.{length};
@@ -138,5 +138,32 @@ pub fn list_alone(list: &mut [u8], records: usize, tag: u8, at: usize) -> bool
     }
     let bytes = operator_row(tag, 0, at, 0, 0);
     put(list, records * 16, bytes);
+    true
+}
+
+// The records of an operator with one attribute and no data, after so many others, and the answer true.
+// Without room for both the list stays as it is, and the answer is false.
+// The attribute has a number, its value's tag at `at`, and `count` numbers from `first` on; the operator has its tag at `op`.
+pub fn list_one(
+    list: &mut [u8],
+    records: usize,
+    number: u8,
+    value: u8,
+    at: usize,
+    count: usize,
+    first: usize,
+    tag: u8,
+    op: usize,
+) -> bool
+    ensures { λ r. ⌜ r ≡ leb ((records + 2) * 16) (length (now (list .entry))) ⌝ }
+    ensures { λ r. ⌜ now (list .exit) ≡ joinedAt r (now (list .entry)) (records * 16) (recordsFor tag op 0 0 (record { number = number; tag = value; at = at; count = count; first = first } ∷ [])) ⌝ }
+{
+    if !has_room(list.len(), records, 1) {
+        return false;
+    }
+    let attribute = row(1, number, value, 0, at, count, first);
+    put(list, records * 16, attribute);
+    let operator = operator_row(tag, 1, op, 0, 0);
+    put(list, (records + 1) * 16, operator);
     true
 }

@@ -1,6 +1,7 @@
-// Operators that are their tag alone, in a page with no image open: a run of them is judged in one small loop, as far as nothing could refuse them.
+// Operators that are their tag alone, and lines by their end point, in a page with no image open: a run of them is judged in one small loop, as far as
+// nothing could refuse them.
 ghost use mathlib.Core.Bool.{Bool};
-ghost use Prim.Native.Nat.{ℕ};
+ghost use Prim.Native.Nat.{ℕ, _<_};
 ghost use lib.ListN.{length};
 ghost use Rattle.checker.specs.Running.{inSession, standing, Further, Runs};
 use arm::page::Page;
@@ -20,8 +21,9 @@ pub enum Pass {
     No,
 }
 
-// The next operator of a run.
-fn pass_one(job: &[u8], list: &mut [u8], from: Run) -> Pass
+// The next operator of a run, where it is its tag alone.
+fn pass_alone(job: &[u8], list: &mut [u8], from: Run) -> Pass
+    requires { ⌜ (from .at < length (now job)) × (from .performed < 1_000_000) ⌝ }
     ensures { λ r. ⌜ Further (length (now (job .entry))) from r ⌝ }
     ensures { λ r. ⌜ ((opened : Bool) (held used : ℕ)
         → Runs (now (job .entry)) (now (list .entry)) (now (list .exit)) (inSession opened held used from) (inSession opened held used (standing from r))) ⌝ }
@@ -30,12 +32,6 @@ fn pass_one(job: &[u8], list: &mut [u8], from: Run) -> Pass
     let page = from.page;
     let performed = from.performed;
     let records = from.records;
-    if job.len() <= at {
-        return Pass::No;
-    }
-    if 1_000_000 <= performed {
-        return Pass::No;
-    }
     let tag = job[at];
     match page.past(tag) {
         Passed::No => Pass::No,
@@ -50,6 +46,55 @@ fn pass_one(job: &[u8], list: &mut [u8], from: Run) -> Pass
                 records: records + 1,
             })
         }
+    }
+}
+
+// The next operator of a run, where it is a line by its end point and the cursor is set.
+fn pass_line(job: &[u8], list: &mut [u8], from: Run) -> Pass
+    requires { ⌜ (from .at < length (now job)) × (from .performed < 1_000_000) ⌝ }
+    ensures { λ r. ⌜ Further (length (now (job .entry))) from r ⌝ }
+    ensures { λ r. ⌜ ((opened : Bool) (held used : ℕ)
+        → Runs (now (job .entry)) (now (list .entry)) (now (list .exit)) (inSession opened held used from) (inSession opened held used (standing from r))) ⌝ }
+{
+    let at = from.at;
+    let page = from.page;
+    let performed = from.performed;
+    let records = from.records;
+    if !page.cursor {
+        return Pass::No;
+    }
+    let op = reader::line_to(job, at);
+    if job.len() <= op {
+        return Pass::No;
+    }
+    if !buffer::list_one(list, records, 69, job[at], at, 2, at + 1, job[op], op) {
+        return Pass::No;
+    }
+    Pass::To(Run {
+        at: op + 1,
+        page,
+        performed: performed + 1,
+        records: records + 2,
+    })
+}
+
+// The next operator of a run: a tag below 0xc0 is an operator's, any other a value's.
+fn pass_one(job: &[u8], list: &mut [u8], from: Run) -> Pass
+    ensures { λ r. ⌜ Further (length (now (job .entry))) from r ⌝ }
+    ensures { λ r. ⌜ ((opened : Bool) (held used : ℕ)
+        → Runs (now (job .entry)) (now (list .entry)) (now (list .exit)) (inSession opened held used from) (inSession opened held used (standing from r))) ⌝ }
+{
+    let at = from.at;
+    if job.len() <= at {
+        return Pass::No;
+    }
+    if 1_000_000 <= from.performed {
+        return Pass::No;
+    }
+    if job[at] < 0xc0 {
+        pass_alone(job, list, from)
+    } else {
+        pass_line(job, list, from)
     }
 }
 

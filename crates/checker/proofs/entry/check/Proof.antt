@@ -1,3 +1,5 @@
+-- `check` meets its contract.
+-- Assumes nothing.
 use lib.ListN.{length}
 use lib.Dec.{lit<}
 use Prim.Native.Nat.{ℕ}
@@ -15,45 +17,36 @@ use Rattle.buffer.proofs.zero.Reads as zero-reads
 use Rattle.checker.proofs.entry.judge_job.Reads as judge-job-reads
 use Rattle.checker.proofs.verdict.told.Reads as told-reads
 
--- src/entry.rt:36:9
 told-requires : tie.Need-told-requires
 told-requires c κs = search needs
 
--- src/entry.rt:36:9
 returns : tie.Need-returns
 returns c =
     let a = c .before .before .before .before .before .args in
     let p = early (a .job .now) (a .work .now) (a .list .now) (c .told .result) 29 0 (short-work (length (a .job .now)) (length (a .work .now)) (c .before .if1 .taken)) (c .told .ensures (lit< tt) (lit< tt)) in
     (p .verdict, (p .listed, p .worked))
 
--- src/entry.rt:39:9
 told-requires-2 : tie.Need-told-requires-2
 told-requires-2 c κs = search needs
 
--- src/entry.rt:39:9
 returns-2 : tie.Need-returns-2
 returns-2 c =
     let a = c .before .before .before .before .before .before .args in
     let p = early (a .job .now) (a .work .now) (a .list .now) (c .told2 .result) 1 61440 (long-job (length (a .job .now)) (length (a .work .now)) (c .before .before .if1 .left) (c .before .if2 .taken)) (c .told2 .ensures (lit< tt) (lit< tt)) in
     (p .verdict, (p .listed, p .worked))
 
--- src/entry.rt:41:9
 judge-job-requires : tie.Need-judge-job-requires
 judge-job-requires c κs = search needs
 
--- src/entry.rt:42:5
 zero-requires : tie.Need-zero-requires
 zero-requires c κs = search needs
 
--- src/entry.rt:30:1
 same-length : tie.Need-same-length
 same-length c = search needs
 
--- src/entry.rt:30:1
 same-length-2 : tie.Need-same-length-2
 same-length-2 c = search needs
 
--- src/entry.rt:30:1
 returns-3 : tie.Need-returns-3
 returns-3 c =
     let z = c .before .before in

@@ -1,3 +1,5 @@
+-- `judge_job` meets its contract.
+-- Assumes nothing.
 use lib.Dec.{lit<}
 use mathlib.Core.Path.{refl, sym, _∙_}
 use native.Mathlib.Omega.{arith}
@@ -12,30 +14,24 @@ use Rattle.checker.proofs.stepping.judge_items.Reads as judge-items-rea
 use Rattle.checker.proofs.verdict.told.Reads as told-reads
 use Rattle.wire.proofs.header_of.Reads as header-of-reads
 
--- src/entry.rt:23:11
 header-of-requires : tie.Need-header-of-requires
 header-of-requires c κs = search needs
 
--- src/entry.rt:24:20
 enum-known-code : tie.Need-enum-known-code
 enum-known-code c = search needs
 
--- src/entry.rt:24:36
 told-requires : tie.Need-told-requires
 told-requires c κs = search needs
 
--- src/entry.rt:25:20
 enum-known-high : tie.Need-enum-known-high
 enum-known-high c = search needs
 
--- src/entry.rt:25:35
 judge-items-requires : tie.Need-judge-items-requires
 judge-items-requires c κs =
     let h = c .before .before .before .before .before in
     let st = h .before .before .before .before in
     (st .pre .0, st .pre .1, rw (c .before .before .before .high .given .1) at (h .header-of .ensures .1))
 
--- src/entry.rt:17:1
 returns : tie.Need-returns
 returns c =
     let h = c .before .before .before .before in
@@ -45,15 +41,12 @@ returns c =
     let p = header-placed (a .job .now) _ _ (sym e) in
     (record { work-long = refl; list-long = refl; rest = refl }, header-no (a .job .now) (a .list .now) (c .told .result) _ _ e (c .told .ensures (omega (arith, p, st .pre)) (lit< tt)))
 
--- src/entry.rt:17:1
 same-length : tie.Need-same-length
 same-length c = search needs
 
--- src/entry.rt:17:1
 same-length-2 : tie.Need-same-length-2
 same-length-2 c = search needs
 
--- src/entry.rt:17:1
 returns-2 : tie.Need-returns-2
 returns-2 c =
     let g = c .before .before .before .before in

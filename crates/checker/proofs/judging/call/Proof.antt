@@ -1,3 +1,5 @@
+-- `call` meets its contract.
+-- Assumes nothing.
 use mathlib.Core.Path.{refl, sym, _∙_}
 use Rattle.scope.specs.Session.{sessionOf}
 use Rattle.checker.proofs.Ruling.{call-judged}
@@ -11,23 +13,18 @@ use Rattle.arm.proofs.summary.unpacked.Reads as unpacked-reads
 use Rattle.session.proofs.opened_in.Reads as opened-in-reads
 use Rattle.session.proofs.page_in.Reads as page-in-reads
 
--- src/judging.rt:52:9
 page-in-requires : tie.Need-page-in-requires
 page-in-requires c κs = search needs
 
--- src/judging.rt:53:9
 opened-in-requires : tie.Need-opened-in-requires
 opened-in-requires c κs = search needs
 
--- src/judging.rt:54:15
 unpacked-requires : tie.Need-unpacked-requires
 unpacked-requires c κs = search needs
 
--- src/judging.rt:54:5
 call-requires : tie.Need-call-requires
 call-requires c κs = search needs
 
--- src/judging.rt:48:1
 returns : tie.Need-returns
 returns c =
     let a = c .before .before .before .before .args in

@@ -26,28 +26,23 @@ use Rattle.checker.proofs.judging.judge.Lts as lts
 use Rattle.checker.proofs.judging.call.Reads as call-reads
 use Rattle.checker.proofs.judging.perform.Reads as perform-reads
 
--- src/judging.rt:64:19
 enum-known-early : tie.Need-enum-known-early
 enum-known-early c = search needs
 
--- src/judging.rt:65:21
 enum-known-early-2 : tie.Need-enum-known-early-2
 enum-known-early-2 c = search needs
 
--- src/judging.rt:65:29
 call-requires : tie.Need-call-requires
 call-requires c κs = search needs
 
 perform-requires : tie.Need-perform-requires
 perform-requires c κs = search needs
 
--- src/judging.rt:58:1
 returns : tie.Need-returns
 returns c =
     let a = c .before .before .before .before .args in
     λ q st rows sums work h z e f. rw (c .before .early .given .1) (early-judged _ (rw (c .before .early .given .1) at f))
 
--- src/judging.rt:58:1
 returns-2 : tie.Need-returns-2
 returns-2 c =
     let a = c .before .before .before .before .before .args in

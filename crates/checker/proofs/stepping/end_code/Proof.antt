@@ -1,3 +1,5 @@
+-- `end_code` meets its contract.
+-- Assumes nothing.
 use mathlib.Core.Path.{sym, _∙_}
 use Rattle.checker.proofs.Turns.{end-outside, end-inside}
 use borrow.Author.Needs.{needs}
@@ -7,23 +9,18 @@ use Rattle.checker.proofs.stepping.end_code.Reads as reads
 use Rattle.checker.proofs.stepping.end_code.Lts as lts
 use Rattle.checker.proofs.stepping.pass_after.Reads as pass-after-reads
 
--- src/stepping.rt:60:24
 enum-known-place : tie.Need-enum-known-place
 enum-known-place c = search needs
 
--- src/stepping.rt:60:38
 pass-after-requires : tie.Need-pass-after-requires
 pass-after-requires c κs = search needs
 
--- src/stepping.rt:61:38
 enum-told : tie.Need-enum-told
 enum-told c = search needs
 
--- src/stepping.rt:56:1
 returns : tie.Need-returns
 returns c = λ q job rows sums work h. c .pass-after .ensures ∙ sym (end-outside (rw (c .before .before .place .given .1) at h))
 
--- src/stepping.rt:56:1
 returns-2 : tie.Need-returns-2
 returns-2 c = λ q job rows sums work h. sym (end-inside (rw (c .enum-told .given .1) at h))
 

@@ -1,3 +1,5 @@
+-- `go_on` meets its contract.
+-- Assumes nothing.
 use Rattle.scope.specs.Session.{Setting}
 use Rattle.buffer.specs.Over.{joinedAt}
 use mathlib.Core.Bool.{Bool, true, false}
@@ -16,19 +18,15 @@ use Rattle.buffer.proofs.list_operator.Reads as list-operator-reads
 use Rattle.checker.proofs.stepping.stop.Reads as stop-reads
 use Rattle.session.proofs.place_after.Reads as place-after-reads
 
--- src/stepping.rt:91:9
 list-operator-requires : tie.Need-list-operator-requires
 list-operator-requires c κs = search needs
 
--- src/stepping.rt:92:27
 stop-requires : tie.Need-stop-requires
 stop-requires c κs = search needs
 
--- src/stepping.rt:92:9
 same-length : tie.Need-same-length
 same-length c = search needs
 
--- src/stepping.rt:92:9
 returns : tie.Need-returns
 returns c =
     let e = c .before .before .before .before in
@@ -47,27 +45,21 @@ returns c =
       ),
     )
 
--- src/stepping.rt:94:9
 place-after-requires : tie.Need-place-after-requires
 place-after-requires c κs = search needs
 
--- src/stepping.rt:99:18
 add-t25 : tie.Need-add-t25
 add-t25 c = search needs
 
--- src/stepping.rt:99:18
 add-t26 : tie.Need-add-t26
 add-t26 c = search needs
 
--- src/stepping.rt:66:1
 same-length-2 : tie.Need-same-length-2
 same-length-2 c = search needs
 
--- src/stepping.rt:66:1
 same-length-3 : tie.Need-same-length-3
 same-length-3 c = search needs
 
--- src/stepping.rt:66:1
 returns-2 : tie.Need-returns-2
 returns-2 c =
     let p = c .before .before .before .before in

@@ -1,3 +1,5 @@
+-- `perform` meets its contract.
+-- Assumes nothing.
 use lib.ListN.{length}
 use mathlib.Core.Path.{refl, sym, ap, _∙_, _≡_}
 use native.Mathlib.Omega.{arith}
@@ -20,39 +22,30 @@ use Rattle.checker.proofs.stepping.go_on.Reads as go-on-reads
 use Rattle.checker.proofs.stepping.stop.Reads as stop-reads
 use Rattle.session.proofs.early_of.Reads as early-of-reads
 
--- src/stepping.rt:155:9
 early-of-requires : tie.Need-early-of-requires
 early-of-requires c κs = search needs
 
--- src/stepping.rt:156:11
 judge-requires : tie.Need-judge-requires
 judge-requires c κs = search needs
 
--- src/stepping.rt:157:19
 enum-known-code : tie.Need-enum-known-code
 enum-known-code c = search needs
 
--- src/stepping.rt:157:60
 inner-of-requires : tie.Need-inner-of-requires
 inner-of-requires c κs = search needs
 
--- src/stepping.rt:157:39
 stop-requires : tie.Need-stop-requires
 stop-requires c κs = search needs
 
--- src/stepping.rt:158:19
 enum-known-page : tie.Need-enum-known-page
 enum-known-page c = search needs
 
--- src/stepping.rt:158:39
 go-on-requires : tie.Need-go-on-requires
 go-on-requires c κs = search needs
 
--- src/stepping.rt:130:1
 same-length : tie.Need-same-length
 same-length c = search needs
 
--- src/stepping.rt:130:1
 returns : tie.Need-returns
 unfolding contextOf
 returns c =
@@ -74,15 +67,12 @@ returns c =
       ),
     )
 
--- src/stepping.rt:130:1
 same-length-2 : tie.Need-same-length-2
 same-length-2 c = search needs
 
--- src/stepping.rt:130:1
 same-length-3 : tie.Need-same-length-3
 same-length-3 c = search needs
 
--- src/stepping.rt:130:1
 returns-2 : tie.Need-returns-2
 unfolding contextOf
 returns-2 c =

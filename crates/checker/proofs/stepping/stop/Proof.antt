@@ -1,3 +1,5 @@
+-- `stop` meets its contract.
+-- Assumes nothing.
 use mathlib.Core.Path.{_∙_}
 use borrow.Author.Needs.{needs}
 use Rattle.checker.proofs.stepping.stop.Statement.{statement}
@@ -6,11 +8,9 @@ use Rattle.checker.proofs.stepping.stop.Reads as reads
 use Rattle.checker.proofs.stepping.stop.Lts as lts
 use Rattle.checker.proofs.verdict.told.Reads as told-reads
 
--- src/stepping.rt:46:5
 told-requires : tie.Need-told-requires
 told-requires c κs = search needs
 
--- src/stepping.rt:42:1
 returns : tie.Need-returns
 returns c =
     let a = c .before .args in

@@ -1,3 +1,5 @@
+-- `told` meets its contract.
+-- Assumes nothing.
 use native.Mathlib.Omega.{arith}
 use mathlib.Core.Path.{_≡_}
 use Prim.Native.Nat.{_%_}
@@ -7,15 +9,12 @@ use Rattle.checker.proofs.verdict.told.Tie as tie
 use Rattle.checker.proofs.verdict.told.Reads as reads
 use Rattle.checker.proofs.verdict.told.Lts as lts
 
--- src/verdict.rt:22:19
 cast-t7 : tie.Need-cast-t7
 cast-t7 c = search needs
 
--- src/verdict.rt:24:18
 cast-t9 : tie.Need-cast-t9
 cast-t9 c = search needs
 
--- src/verdict.rt:17:1
 returns : tie.Need-returns
 returns c =
     let a = c .args in

@@ -1,3 +1,5 @@
+-- `block_at` meets its contract.
+-- Assumes nothing.
 use borrow.Author.Tests.{le-leb, lt-leb, eq-eqb, ne-eqb}
 use Rattle.scope.specs.Data.{blockAt}
 use borrow.Author.Needs.{needs}
@@ -7,36 +9,29 @@ use Rattle.reader.proofs.data.block_at.Reads as reads
 use Rattle.reader.proofs.data.block_at.Lts as lts
 use Rattle.reader.proofs.data.block_of.Reads as block-of-reads
 
--- src/data.rt:40:9
 returns : tie.Need-returns
 unfolding blockAt
 returns c = (simp (le-leb _ _ (c .if1 .taken)), tt)
 
--- src/data.rt:42:13
 shared-slice-read-b : tie.Need-shared-slice-read-b
 shared-slice-read-b c = search needs
 
--- src/data.rt:44:9
 block-of-requires : tie.Need-block-of-requires
 block-of-requires c κs = search needs
 
--- src/data.rt:44:9
 returns-2 : tie.Need-returns-2
 unfolding blockAt
 returns-2 c =
     rw (lt-leb _ _ (c .before .before .before .if1 .left), eq-eqb _ _ (c .before .if2 .taken)) (c .block-of .ensures)
 
--- src/data.rt:47:9
 block-of-requires-2 : tie.Need-block-of-requires-2
 block-of-requires-2 c κs = search needs
 
--- src/data.rt:47:9
 returns-3 : tie.Need-returns-3
 unfolding blockAt
 returns-3 c =
     rw (lt-leb _ _ (c .before .before .before .before .if1 .left), ne-eqb _ _ (c .before .before .if2 .left), eq-eqb _ _ (c .before .if3 .taken)) (c .block-of2 .ensures)
 
--- src/data.rt:36:1
 returns-4 : tie.Need-returns-4
 unfolding blockAt
 returns-4 c = (rw (lt-leb _ _ (c .before .before .before .if1 .left), ne-eqb _ _ (c .before .if2 .left), ne-eqb _ _ (c .if3 .left)), tt)

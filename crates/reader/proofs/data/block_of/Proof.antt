@@ -1,3 +1,5 @@
+-- `block_of` meets its contract.
+-- Assumes nothing.
 use native.Mathlib.Omega.{arith}
 use mathlib.Core.Path.{_≡_, sym, ap, _∙_}
 use Prim.Native.Nat.{_+_}
@@ -10,33 +12,26 @@ use Rattle.reader.proofs.data.block_of.Reads as reads
 use Rattle.reader.proofs.data.block_of.Lts as lts
 use Rattle.wire.proofs.number_at.Reads as number-at-reads
 
--- src/data.rt:21:17
 add-first : tie.Need-add-first
 add-first c = search needs
 
--- src/data.rt:21:17
 add-first-2 : tie.Need-add-first-2
 add-first-2 c = search needs
 
--- src/data.rt:23:9
 returns : tie.Need-returns
 returns c =
     let a = c .before .before .args in
     (sym (cut (a .high) (a .s .now) (a .op) (a .due) (a .p) (a .n) (c .if1 .taken)), tt)
 
--- src/data.rt:25:35
 add-number-at : tie.Need-add-number-at
 add-number-at c = search needs
 
--- src/data.rt:25:16
 number-at-requires : tie.Need-number-at-requires
 number-at-requires c κs = search needs
 
--- src/data.rt:25:16
 cast-told : tie.Need-cast-told
 cast-told c = search needs
 
--- src/data.rt:27:9
 -- the number read is the definition's
 told : (c : tie.After-number-at) → c .number-at .result
     ≡ number (c .before .before .before .args .high) (c .before .before .before .args .n) (c .before .before .before .args .s .now) (c .before .before .before .args .p + 1)
@@ -49,17 +44,14 @@ returns-2 c =
     let a = c .before .before .before .before .args in
     (sym (other (a .high) (a .s .now) (a .op) (a .due) (a .p) (a .n) (c .before .before .if1 .left) (λ e. c .if2 .taken (told (c .before) ∙ e))), tt)
 
--- src/data.rt:29:8
 sub-if3 : tie.Need-sub-if3
 sub-if3 c = search needs
 
--- src/data.rt:30:9
 returns-3 : tie.Need-returns-3
 returns-3 c =
     let a = c .before .before .before .before .before .args in
     (sym (short (a .high) (a .s .now) (a .op) (a .due) (a .p) (a .n) (c .before .before .before .if1 .left) (sym (told (c .before .before)) ∙ c .before .if2 .left) (c .if3 .taken)), tt)
 
--- src/data.rt:17:1
 returns-4 : tie.Need-returns-4
 returns-4 c =
     let a = c .before .before .before .before .before .args in

@@ -1,3 +1,5 @@
+-- `due_of` meets its contract.
+-- Assumes nothing.
 use Prim.Native.Nat.{ℕ, _*_, _≤_}
 use mathlib.Core.Path.{_≡_}
 use mathlib.Core.Bool.{true, _||_}
@@ -25,52 +27,41 @@ product x y h k = mul-le-mul h k
 is-line : (c : tie.Joined3) → let tag = c .before .before .before .before .args .tag in (eqb tag 0x9b || eqb tag 0x9d) ≡ true
 is-line c = ⊎-elim (λ w. simp (ne-eqb _ _ (w .0 .taken), eq-eqb _ _ (w .1 .left))) (λ w. simp (eq-eqb _ _ (w .left))) (c .if3 .came)
 
--- src/due.rt:65:27
 value-in-requires : tie.Need-value-in-requires
 value-in-requires c κs = search needs
 
--- src/due.rt:65:27
 cast-t10 : tie.Need-cast-t10
 cast-t10 c = search needs
 
--- src/due.rt:65:9
 returns : tie.Need-returns
 unfolding dueOf
 returns c = λ z. rw (eq-eqb _ _ (c .before .if1 .taken), ← c .value-in .ensures .0 z)
 
--- src/due.rt:68:20
 value-in-requires-2 : tie.Need-value-in-requires-2
 value-in-requires-2 c κs = search needs
 
--- src/due.rt:68:20
 cast-rows : tie.Need-cast-rows
 cast-rows c = search needs
 
--- src/due.rt:69:34
 row-of-requires : tie.Need-row-of-requires
 row-of-requires c κs = search needs
 
--- src/due.rt:69:27
 mul-t13 : tie.Need-mul-t13
 mul-t13 c =
     let m = product (c .before .value-in2 .result) (c .row-of .result) (omega (arith, c .before .value-in2 .ensures .1)) (c .row-of .ensures .1) in
     omega (arith, m)
 
--- src/due.rt:69:9
 returns-2 : tie.Need-returns-2
 unfolding dueOf
 returns-2 c = λ z. rw (ne-eqb _ _ (c .before .before .before .if1 .left), eq-eqb _ _ (c .before .before .if2 .taken), ← c .before .value-in2 .ensures .0 z, ← c .row-of .ensures .0)
 
--- src/due.rt:73:13
 returns-3 : tie.Need-returns-3
 unfolding dueOf
 returns-3 c = λ z. rw (ne-eqb _ _ (c .before .before .before .if1 .left), ne-eqb _ _ (c .before .before .if2 .left), ne-eqb _ _ (c .before .if3 .taken), ne-eqb _ _ (c .if4 .taken))
 
--- src/due.rt:76:5
 points-due-requires : tie.Need-points-due-requires
 points-due-requires c κs = search needs
 
--- src/due.rt:61:1
 returns-4 : tie.Need-returns-4
 unfolding dueOf pointsDue
 returns-4 c =

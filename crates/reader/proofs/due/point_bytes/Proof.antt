@@ -1,3 +1,5 @@
+-- `point_bytes` meets its contract.
+-- Assumes nothing.
 use borrow.Author.Tests.{le-leb, lt-leb}
 use Rattle.scope.specs.Data.{pointBytes}
 use borrow.Author.Needs.{needs}
@@ -6,20 +8,16 @@ use Rattle.reader.proofs.due.point_bytes.Tie as tie
 use Rattle.reader.proofs.due.point_bytes.Reads as reads
 use Rattle.reader.proofs.due.point_bytes.Lts as lts
 
--- src/due.rt:45:20
 mul-result : tie.Need-mul-result
 mul-result c = search needs
 
--- src/due.rt:45:38
 mul-result-2 : tie.Need-mul-result-2
 mul-result-2 c = search needs
 
--- src/due.rt:41:1
 returns : tie.Need-returns
 unfolding pointBytes
 returns c = simp (le-leb _ _ (c .if1 .taken))
 
--- src/due.rt:41:1
 returns-2 : tie.Need-returns-2
 unfolding pointBytes
 returns-2 c = simp (lt-leb _ _ (c .if1 .left))

@@ -1,3 +1,5 @@
+-- `points_due` meets its contract.
+-- Assumes nothing.
 use mathlib.Core.Path.{sym, _∙_}
 use borrow.Author.Tests.{not-true, not-false}
 use Rattle.reader.specs.Views.{pointsDue}
@@ -10,28 +12,22 @@ use Rattle.reader.proofs.due.point_bytes.Reads as point-bytes-reads
 use Rattle.rules.proofs.has.Reads as has-reads
 use Rattle.rules.proofs.value_in.Reads as value-in-reads
 
--- src/due.rt:52:9
 has-requires : tie.Need-has-requires
 has-requires c κs = search needs
 
--- src/due.rt:53:9
 returns : tie.Need-returns
 unfolding pointsDue
 returns c = λ z. rw (sym (c .before .has .ensures z) ∙ not-true _ (c .if1 .taken))
 
--- src/due.rt:55:9
 value-in-requires : tie.Need-value-in-requires
 value-in-requires c κs = search needs
 
--- src/due.rt:56:9
 value-in-requires-2 : tie.Need-value-in-requires-2
 value-in-requires-2 c κs = search needs
 
--- src/due.rt:57:16
 point-bytes-requires : tie.Need-point-bytes-requires
 point-bytes-requires c κs = search needs
 
--- src/due.rt:49:1
 returns-2 : tie.Need-returns-2
 unfolding pointsDue
 returns-2 c =

@@ -1,3 +1,5 @@
+-- `row_bits` meets its contract.
+-- Assumes nothing.
 use native.Mathlib.Omega.{arith}
 use borrow.Author.Tests.{ne-eqb}
 use Rattle.scope.specs.Data.{bitsOf}
@@ -7,25 +9,20 @@ use Rattle.reader.proofs.due.row_bits.Tie as tie
 use Rattle.reader.proofs.due.row_bits.Reads as reads
 use Rattle.reader.proofs.due.row_bits.Lts as lts
 
--- src/due.rt:27:14
 mul-result : tie.Need-mul-result
 mul-result c = search needs
 
--- src/due.rt:28:14
 mul-result-2 : tie.Need-mul-result-2
 mul-result-2 c = search needs
 
--- src/due.rt:20:1
 returns : tie.Need-returns
 unfolding bitsOf
 returns c = rw (c .match .keys1) (omega arith, omega arith)
 
--- src/due.rt:20:1
 returns-2 : tie.Need-returns-2
 unfolding bitsOf
 returns-2 c = rw (c .match .keys2) (cc, omega arith)
 
--- src/due.rt:20:1
 returns-3 : tie.Need-returns-3
 unfolding bitsOf
 returns-3 c = rw (ne-eqb _ 0 (c .match .rest .0 .1), ne-eqb _ 1 (c .match .rest .1)) (cc, omega arith)

@@ -1,3 +1,5 @@
+-- `row_of` meets its contract.
+-- Assumes nothing.
 use native.Mathlib.Omega.{arith}
 use Rattle.scope.specs.Data.{rowOf}
 use borrow.Author.Needs.{needs}
@@ -7,23 +9,18 @@ use Rattle.reader.proofs.due.row_of.Reads as reads
 use Rattle.reader.proofs.due.row_of.Lts as lts
 use Rattle.reader.proofs.due.row_bits.Reads as row-bits-reads
 
--- src/due.rt:37:7
 row-bits-requires : tie.Need-row-bits-requires
 row-bits-requires c κs = search needs
 
--- src/due.rt:37:7
 add-result : tie.Need-add-result
 add-result c = search needs
 
--- src/due.rt:37:6
 add-result-2 : tie.Need-add-result-2
 add-result-2 c = search needs
 
--- src/due.rt:37:5
 mul-result : tie.Need-mul-result
 mul-result c = search needs
 
--- src/due.rt:33:1
 returns : tie.Need-returns
 unfolding rowOf
 returns c = (rw (← c .row-bits .ensures .0), omega (arith, c .row-bits .ensures .1))

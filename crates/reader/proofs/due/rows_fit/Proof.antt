@@ -1,3 +1,5 @@
+-- `rows_fit` meets its contract.
+-- Assumes nothing.
 use native.Mathlib.Omega.{arith}
 use borrow.Author.Tests.{eq-eqb, ne-eqb}
 use Rattle.scope.specs.Order.{rowsFit}
@@ -8,41 +10,32 @@ use Rattle.reader.proofs.due.rows_fit.Reads as reads
 use Rattle.reader.proofs.due.rows_fit.Lts as lts
 use Rattle.rules.proofs.value_in.Reads as value-in-reads
 
--- src/due.rt:84:9
 returns : tie.Need-returns
 unfolding rowsFit
 returns c = λ z. rw (ne-eqb _ _ (c .if1 .taken))
 
--- src/due.rt:86:9
 value-in-requires : tie.Need-value-in-requires
 value-in-requires c κs = search needs
 
--- src/due.rt:89:9
 returns-2 : tie.Need-returns-2
 unfolding rowsFit
 returns-2 c = λ z. rw (eq-eqb _ _ (c .before .before .if1 .left), ← c .before .value-in .ensures .0 z, ne-eqb _ _ (c .if2 .taken))
 
--- src/due.rt:91:9
 value-in-requires-2 : tie.Need-value-in-requires-2
 value-in-requires-2 c κs = search needs
 
--- src/due.rt:92:18
 cast-height : tie.Need-cast-height
 cast-height c = search needs
 
--- src/due.rt:93:5
 cast-result : tie.Need-cast-result
 cast-result c = search needs
 
--- src/due.rt:93:21
 cast-result-2 : tie.Need-cast-result-2
 cast-result-2 c = search needs
 
--- src/due.rt:93:5
 add-result : tie.Need-add-result
 add-result c = search needs
 
--- src/due.rt:80:1
 returns-3 : tie.Need-returns-3
 unfolding rowsFit
 returns-3 c =

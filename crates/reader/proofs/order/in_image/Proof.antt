@@ -1,3 +1,5 @@
+-- `in_image` meets its contract.
+-- Assumes nothing.
 use Rattle.scope.specs.Order.{mayCome, drawn}
 use borrow.Author.Tests.{lt-ltb, le-ltb, le-leb, lt-leb, eq-eqb, ne-eqb}
 use Rattle.scope.specs.Order.{mayCome, drawn}
@@ -7,16 +9,13 @@ use Rattle.reader.proofs.order.in_image.Tie as tie
 use Rattle.reader.proofs.order.in_image.Reads as reads
 use Rattle.reader.proofs.order.in_image.Lts as lts
 
--- src/order.rt:93:18
 cast-height : tie.Need-cast-height
 cast-height c = search needs
 
--- src/order.rt:95:9
 returns : tie.Need-returns
 unfolding mayCome
 returns c = simp (eq-eqb _ _ (c .if1 .taken))
 
--- src/order.rt:89:1
 returns-2 : tie.Need-returns-2
 unfolding mayCome
 returns-2 c = simp (ne-eqb _ _ (c .if1 .left))

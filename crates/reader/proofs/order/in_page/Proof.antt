@@ -1,3 +1,5 @@
+-- `in_page` meets its contract.
+-- Assumes nothing.
 use borrow.Author.Tests.{eq-eqb, ne-eqb}
 use Rattle.scope.specs.Choice.{among}
 use Rattle.scope.specs.Order.{mayCome, drawn}
@@ -8,16 +10,13 @@ use Rattle.reader.proofs.order.in_page.Reads as reads
 use Rattle.reader.proofs.order.in_page.Lts as lts
 use Rattle.reader.proofs.order.is_drawn.Reads as is-drawn-reads
 
--- src/order.rt:84:9
 returns : tie.Need-returns
 unfolding mayCome
 returns c = simp (eq-eqb _ _ (c .if1 .taken))
 
--- src/order.rt:86:5
 is-drawn-requires : tie.Need-is-drawn-requires
 is-drawn-requires c κs = search needs
 
--- src/order.rt:80:1
 returns-2 : tie.Need-returns-2
 unfolding mayCome
 returns-2 c = simp (ne-eqb _ _ (c .before .if1 .left)) (c .is-drawn .ensures)

@@ -1,3 +1,5 @@
+-- `in_session` meets its contract.
+-- Assumes nothing.
 use borrow.Author.Tests.{lt-ltb, le-ltb, le-leb, lt-leb, eq-eqb, ne-eqb}
 use Rattle.scope.specs.Choice.{among}
 use Rattle.scope.specs.Order.{mayCome, drawn}
@@ -7,32 +9,26 @@ use Rattle.reader.proofs.order.in_session.Tie as tie
 use Rattle.reader.proofs.order.in_session.Reads as reads
 use Rattle.reader.proofs.order.in_session.Lts as lts
 
--- src/order.rt:54:9
 returns : tie.Need-returns
 unfolding mayCome among
 returns c = simp (eq-eqb _ _ (c .if1 .taken))
 
--- src/order.rt:57:9
 returns-2 : tie.Need-returns-2
 unfolding mayCome among
 returns-2 c = simp (ne-eqb _ _ (c .before .if1 .left), eq-eqb _ _ (c .if2 .taken))
 
--- src/order.rt:60:9
 returns-3 : tie.Need-returns-3
 unfolding mayCome among
 returns-3 c = simp (ne-eqb _ _ (c .before .before .if1 .left), ne-eqb _ _ (c .before .if2 .left), eq-eqb _ _ (c .if3 .taken))
 
--- src/order.rt:63:9
 returns-4 : tie.Need-returns-4
 unfolding mayCome among
 returns-4 c = rw (ne-eqb _ _ (c .before .before .before .if1 .left), ne-eqb _ _ (c .before .before .if2 .left), ne-eqb _ _ (c .before .if3 .left), c .if4 .taken)
 
--- src/order.rt:66:9
 returns-5 : tie.Need-returns-5
 unfolding mayCome among
 returns-5 c = rw (ne-eqb _ _ (c .before .before .before .before .if1 .left), ne-eqb _ _ (c .before .before .before .if2 .left), ne-eqb _ _ (c .before .before .if3 .left), c .before .if4 .left, eq-eqb _ _ (c .if5 .taken))
 
--- src/order.rt:50:1
 returns-6 : tie.Need-returns-6
 unfolding mayCome among
 returns-6 c = rw (ne-eqb _ _ (c .before .before .before .before .if1 .left), ne-eqb _ _ (c .before .before .before .if2 .left), ne-eqb _ _ (c .before .before .if3 .left), c .before .if4 .left, ne-eqb _ _ (c .if5 .left))

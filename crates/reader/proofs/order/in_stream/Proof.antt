@@ -1,3 +1,5 @@
+-- `in_stream` meets its contract.
+-- Assumes nothing.
 use borrow.Author.Tests.{lt-ltb, le-ltb, le-leb, lt-leb, eq-eqb, ne-eqb}
 use Rattle.scope.specs.Choice.{among}
 use Rattle.scope.specs.Order.{mayCome, drawn}
@@ -7,12 +9,10 @@ use Rattle.reader.proofs.order.in_stream.Tie as tie
 use Rattle.reader.proofs.order.in_stream.Reads as reads
 use Rattle.reader.proofs.order.in_stream.Lts as lts
 
--- src/order.rt:75:9
 returns : tie.Need-returns
 unfolding mayCome
 returns c = simp (eq-eqb _ _ (c .if1 .taken))
 
--- src/order.rt:71:1
 returns-2 : tie.Need-returns-2
 unfolding mayCome
 returns-2 c = simp (ne-eqb _ _ (c .if1 .left))

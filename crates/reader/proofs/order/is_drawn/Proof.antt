@@ -1,3 +1,5 @@
+-- `is_drawn` meets its contract.
+-- Assumes nothing.
 use borrow.Author.Tests.{lt-ltb, le-ltb, le-leb, lt-leb, eq-eqb, ne-eqb}
 use Rattle.scope.specs.Choice.{among}
 use Rattle.scope.specs.Order.{mayCome, drawn}
@@ -7,32 +9,26 @@ use Rattle.reader.proofs.order.is_drawn.Tie as tie
 use Rattle.reader.proofs.order.is_drawn.Reads as reads
 use Rattle.reader.proofs.order.is_drawn.Lts as lts
 
--- src/order.rt:33:9
 returns : tie.Need-returns
 unfolding drawn among
 returns c = simp (eq-eqb _ _ (c .if1 .taken))
 
--- src/order.rt:36:9
 returns-2 : tie.Need-returns-2
 unfolding drawn among
 returns-2 c = simp (ne-eqb _ _ (c .before .if1 .left), eq-eqb _ _ (c .if2 .taken))
 
--- src/order.rt:39:9
 returns-3 : tie.Need-returns-3
 unfolding drawn among
 returns-3 c = simp (ne-eqb _ _ (c .before .before .if1 .left), ne-eqb _ _ (c .before .if2 .left), eq-eqb _ _ (c .if3 .taken))
 
--- src/order.rt:42:9
 returns-4 : tie.Need-returns-4
 unfolding drawn among
 returns-4 c = rw (ne-eqb _ _ (c .before .before .before .if1 .left), ne-eqb _ _ (c .before .before .if2 .left), ne-eqb _ _ (c .before .if3 .left), eq-eqb _ _ (c .if4 .taken))
 
--- src/order.rt:45:9
 returns-5 : tie.Need-returns-5
 unfolding drawn among
 returns-5 c = rw (ne-eqb _ _ (c .before .before .before .before .if1 .left), ne-eqb _ _ (c .before .before .before .if2 .left), ne-eqb _ _ (c .before .before .if3 .left), ne-eqb _ _ (c .before .if4 .left), lt-leb _ _ (c .if5 .taken))
 
--- src/order.rt:29:1
 returns-6 : tie.Need-returns-6
 unfolding drawn among
 returns-6 c = rw (ne-eqb _ _ (c .before .before .before .before .if1 .left), ne-eqb _ _ (c .before .before .before .if2 .left), ne-eqb _ _ (c .before .before .if3 .left), ne-eqb _ _ (c .before .if4 .left), le-leb _ _ (c .if5 .left))

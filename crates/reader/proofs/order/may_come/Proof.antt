@@ -1,3 +1,5 @@
+-- `may_come` meets its contract.
+-- Assumes nothing.
 use Rattle.scope.specs.Order.{mayCome}
 use borrow.Author.Needs.{needs}
 use Rattle.reader.proofs.order.may_come.Statement.{statement}
@@ -10,76 +12,59 @@ use Rattle.reader.proofs.order.in_session.Reads as in-session-reads
 use Rattle.reader.proofs.order.in_stream.Reads as in-stream-reads
 use Rattle.reader.proofs.order.is_drawn.Reads as is-drawn-reads
 
--- src/order.rt:109:35
 enum-told : tie.Need-enum-told
 enum-told c = search needs
 
--- src/order.rt:110:29
 enum-told-2 : tie.Need-enum-told-2
 enum-told-2 c = search needs
 
--- src/order.rt:110:29
 in-session-requires : tie.Need-in-session-requires
 in-session-requires c κs = search needs
 
--- src/order.rt:111:28
 enum-told-3 : tie.Need-enum-told-3
 enum-told-3 c = search needs
 
--- src/order.rt:111:28
 in-stream-requires : tie.Need-in-stream-requires
 in-stream-requires c κs = search needs
 
--- src/order.rt:112:23
 enum-known-phase : tie.Need-enum-known-phase
 enum-known-phase c = search needs
 
--- src/order.rt:112:33
 in-page-requires : tie.Need-in-page-requires
 in-page-requires c κs = search needs
 
--- src/order.rt:113:24
 enum-known-phase-2 : tie.Need-enum-known-phase-2
 enum-known-phase-2 c = search needs
 
--- src/order.rt:113:34
 is-drawn-requires : tie.Need-is-drawn-requires
 is-drawn-requires c κs = search needs
 
--- src/order.rt:114:24
 enum-known-phase-3 : tie.Need-enum-known-phase-3
 enum-known-phase-3 c = search needs
 
--- src/order.rt:114:34
 in-image-requires : tie.Need-in-image-requires
 in-image-requires c κs = search needs
 
--- src/order.rt:105:1
 returns : tie.Need-returns
 unfolding mayCome
 returns c = rw (c .enum-told .given .1)
 
--- src/order.rt:105:1
 returns-2 : tie.Need-returns-2
 unfolding mayCome
 returns-2 c = rw (c .before .enum-told2 .given .1) (c .in-session .ensures)
 
--- src/order.rt:105:1
 returns-3 : tie.Need-returns-3
 unfolding mayCome
 returns-3 c = rw (c .before .enum-told3 .given .1) (c .in-stream .ensures)
 
--- src/order.rt:105:1
 returns-4 : tie.Need-returns-4
 unfolding mayCome
 returns-4 c = rw (c .before .before .phase .given .1) (c .in-page .ensures)
 
--- src/order.rt:105:1
 returns-5 : tie.Need-returns-5
 unfolding mayCome
 returns-5 c = rw (c .before .before .phase2 .given .1) (c .is-drawn .ensures)
 
--- src/order.rt:105:1
 returns-6 : tie.Need-returns-6
 unfolding mayCome
 returns-6 c = rw (c .before .before .phase3 .given .1) (c .in-image .ensures)

@@ -1,3 +1,5 @@
+-- `data_at` meets its contract.
+-- Assumes nothing.
 use Prim.Native.Nat.{_+_, _≤_}
 use mathlib.Core.Path.{sym, _∙_}
 use lib.ListN.{length}
@@ -15,28 +17,22 @@ use Rattle.reader.proofs.data.block_at.Reads as block-at-reads
 use Rattle.reader.proofs.reading.lacks.Reads as lacks-reads
 use Rattle.wire.proofs.after_white.Reads as after-white-reads
 
--- src/reading.rt:83:8
 lacks-requires : tie.Need-lacks-requires
 lacks-requires c κs = search needs
 
--- src/reading.rt:84:9
 returns : tie.Need-returns
 unfolding dataAt
 returns c = (rw (sym (c .before .lacks .ensures) ∙ c .if1 .taken), tt)
 
--- src/reading.rt:86:34
 add-after-white : tie.Need-add-after-white
 add-after-white c = search needs
 
--- src/reading.rt:86:9
 after-white-requires : tie.Need-after-white-requires
 after-white-requires c κs = search needs
 
--- src/reading.rt:87:5
 block-at-requires : tie.Need-block-at-requires
 block-at-requires c κs = search needs
 
--- src/reading.rt:78:1
 returns-2 : tie.Need-returns-2
 unfolding dataAt
 returns-2 c =

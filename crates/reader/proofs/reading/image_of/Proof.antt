@@ -1,54 +1,44 @@
+-- `image_of` meets its contract.
+-- Assumes nothing.
 use borrow.Author.Needs.{needs}
 use Rattle.reader.proofs.reading.image_of.Statement.{statement}
 use Rattle.reader.proofs.reading.image_of.Tie as tie
 use Rattle.reader.proofs.reading.image_of.Reads as reads
 use Rattle.reader.proofs.reading.image_of.Lts as lts
 
--- src/reading.rt:68:35
 enum-told : tie.Need-enum-told
 enum-told c = search needs
 
--- src/reading.rt:69:29
 enum-told-2 : tie.Need-enum-told-2
 enum-told-2 c = search needs
 
--- src/reading.rt:70:28
 enum-told-3 : tie.Need-enum-told-3
 enum-told-3 c = search needs
 
--- src/reading.rt:71:29
 enum-told-4 : tie.Need-enum-told-4
 enum-told-4 c = search needs
 
--- src/reading.rt:72:30
 enum-told-5 : tie.Need-enum-told-5
 enum-told-5 c = search needs
 
--- src/reading.rt:73:24
 enum-known-phase : tie.Need-enum-known-phase
 enum-known-phase c = search needs
 
--- src/reading.rt:58:1
 returns : tie.Need-returns
 returns c = rw (c .enum-told .given .1)
 
--- src/reading.rt:58:1
 returns-2 : tie.Need-returns-2
 returns-2 c = rw (c .enum-told2 .given .1)
 
--- src/reading.rt:58:1
 returns-3 : tie.Need-returns-3
 returns-3 c = rw (c .enum-told3 .given .1)
 
--- src/reading.rt:58:1
 returns-4 : tie.Need-returns-4
 returns-4 c = rw (c .enum-told4 .given .1)
 
--- src/reading.rt:58:1
 returns-5 : tie.Need-returns-5
 returns-5 c = rw (c .enum-told5 .given .1)
 
--- src/reading.rt:58:1
 returns-6 : tie.Need-returns-6
 returns-6 c = rw (c .before .phase .given .1)
 

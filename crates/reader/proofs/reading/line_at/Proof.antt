@@ -1,3 +1,5 @@
+-- `line_at` meets its contract.
+-- Assumes nothing.
 use mathlib.Core.Path.{sym, _∙_}
 use borrow.Author.Tests.{not-true, not-false}
 use Rattle.reader.specs.Reads.{lineAt}
@@ -10,31 +12,25 @@ use Rattle.reader.proofs.order.may_come.Reads as may-come-reads
 use Rattle.rules.proofs.line_fault.Reads as line-fault-reads
 use Rattle.rules.proofs.is_operator.Reads as is-operator-reads
 
--- src/reading.rt:94:9
 is-operator-requires : tie.Need-is-operator-requires
 is-operator-requires c κs = search needs
 
--- src/reading.rt:95:9
 returns : tie.Need-returns
 unfolding lineAt
 returns c = λ z. rw (sym (c .before .is-operator .ensures) ∙ not-true _ (c .if1 .taken))
 
--- src/reading.rt:98:9
 may-come-requires : tie.Need-may-come-requires
 may-come-requires c κs = search needs
 
--- src/reading.rt:99:9
 returns-2 : tie.Need-returns-2
 unfolding lineAt
 returns-2 c =
     let e = c .before .before in
     λ z. rw (sym (e .before .is-operator .ensures) ∙ not-false _ (e .if1 .left), sym (c .before .may-come .ensures) ∙ not-true _ (c .if2 .taken))
 
--- src/reading.rt:101:5
 line-fault-requires : tie.Need-line-fault-requires
 line-fault-requires c κs = search needs
 
--- src/reading.rt:91:1
 returns-3 : tie.Need-returns-3
 unfolding lineAt
 returns-3 c =

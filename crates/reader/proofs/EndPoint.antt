@@ -1,0 +1,115 @@
+-- A line by its end point with nothing between its items, in a page: how it is read.
+-- Assumes nothing.
+use Prim.Native.Nat.{ℕ, suc, _+_, _*_, _≤_, _<_}
+use mathlib.Core.Path.{_≡_, refl, sym, ap, _∙_}
+use mathlib.Core.Bool.{Bool, true, false}
+use mathlib.Core.List.{List, [], _∷_}
+use native.Mathlib.Omega.{arith}
+use native.Mathlib.Numerals.{add-one}
+use borrow.Author.Tests.{le-leb, lt-leb}
+use lib.ListN.{length, getD}
+use Rattle.scope.specs.Choice.{among, between}
+use Rattle.scope.specs.Iterate.{onward}
+use Rattle.scope.specs.Item.{Attribute, Kind, plain, widthOf, kindOf, numbersAt, valueOf, Pair, numbered, numberAt, pairOf, pairAt, Scan, white, onPair, scanFrom, scanAt}
+use Rattle.scope.specs.Names.{EndPoint}
+use Rattle.scope.specs.Table.{table, lineIn, ruleIn}
+use Rattle.scope.specs.Attributes.{has, typeTaken, inRange, attributeCode, oneByOne, formCode}
+use Rattle.scope.specs.Data.{dueOf}
+use Rattle.scope.specs.Order.{in-page, drawn, mayCome, rowsFit}
+use Rattle.scope.specs.Reading.{Context, Read, withData, asWhole, withAttributes, withLine, scanned, operatorAt}
+use Rattle.wire.proofs.Digits.{one-digit}
+use Rattle.wire.proofs.Pairs.{numbers-all, scan-tag, black-item}
+use Rattle.wire.proofs.Spaces.{after-black}
+use Rattle.reader.specs.EndPoint.{lineOf, Point, point-ubyte, point-uint16, point-sint16, point-none, Drawn, drawn-path, drawn-rel, Ends, Line}
+
+-- a point's tag: two numbers, no white space and no operator
+record IsPoint (tag bytes : ℕ) : Type 0 where
+  wide : ℕ
+  kind : kindOf tag ≡ plain 2 wide
+  long : 2 * wide ≡ bytes
+  black : white tag ≡ false
+  value : between 0x41 0xbf tag ≡ false
+
+is-point : {tag bytes : ℕ} → 0 < bytes → Point tag bytes → IsPoint tag bytes
+unfolding kindOf widthOf white
+is-point h point-ubyte = record { wide = 1; kind = refl; long = refl; black = refl; value = refl }
+is-point h point-uint16 = record { wide = 2; kind = refl; long = refl; black = refl; value = refl }
+is-point h point-sint16 = record { wide = 2; kind = refl; long = refl; black = refl; value = refl }
+is-point h point-none = absurd (omega arith)
+
+drawn-black : {tag : ℕ} → Drawn tag → white tag ≡ false
+unfolding white
+drawn-black drawn-path = refl
+drawn-black drawn-rel = refl
+
+drawn-tag : {tag : ℕ} → Drawn tag → between 0x41 0xbf tag ≡ true
+drawn-tag drawn-path = refl
+drawn-tag drawn-rel = refl
+
+-- its attribute
+abbrev endPoint : (point at : ℕ) → Attribute
+endPoint point at = record { number = EndPoint; tag = point; at = at; count = 2; first = at + 1 }
+
+module _ (high : Bool) (s : List ℕ) (at bytes : ℕ) (p : IsPoint (getD s at 0) bytes) (e : Ends s (at + 1 + bytes)) where
+  mark-black : white (getD s (at + 1 + bytes) 0) ≡ false
+  unfolding white
+  mark-black = rw (e .mark) refl
+
+  -- the pair is EndPoint's
+  pair-is : pairAt high s at 0 ≡ Pair.is (endPoint (getD s at 0) at) (at + 3 + bytes)
+  unfolding pairAt valueOf pairOf numberAt numbered
+  pair-is =
+      let w = e .within in
+      let n : at + 1 + 2 * p .wide ≡ at + 1 + bytes = let l = p .long in omega arith in
+      let next : at + 1 + bytes + 1 + 1 ≡ at + 3 + bytes = omega arith in
+      rw (
+        p .kind,
+        numbers-all s at (at + 1) 2 (p .wide) (let l = p .long in omega arith),
+        n,
+        after-black s (at + 1 + bytes) (omega arith) mark-black,
+        lt-leb (length s) (at + 1 + bytes) (omega arith),
+        e .mark,
+        le-leb (at + 1 + bytes + 1 + 1) (length s) (omega arith),
+        one-digit high s (at + 1 + bytes + 1),
+        e .number,
+        next,
+      )
+
+  scan-is : scanAt high s at ≡ Scan.tagged (getD s (at + 3 + bytes) 0) (at + 3 + bytes) (endPoint (getD s at 0) at ∷ [])
+  unfolding scanAt onPair
+  scan-is =
+      let w = e .within in
+      let same : at + 1 + bytes + 2 ≡ at + 3 + bytes = omega arith in
+      let d : Drawn (getD s (at + 3 + bytes) 0) = rw same at (e .drawn) in
+      black-item high s at [] (omega arith) (p .black) (p .value)
+      ∙ ap (λ x. onward (scanFrom high s) (onPair s [] x)) pair-is
+      ∙ scan-tag high s (at + 3 + bytes) (endPoint (getD s at 0) at ∷ []) (omega arith) (drawn-black d) (drawn-tag d)
+
+-- a page with so many states saved
+abbrev pub inPage : (high opened : Bool) (saved : ℕ) → Context
+inPage high opened saved = record { high = high; phase = in-page saved; opened = opened; asked = true }
+
+-- it breaks no rule of reading
+module _ (high opened : Bool) (saved : ℕ) (s : List ℕ) (at op : ℕ) where
+  lined : {point tag bytes : ℕ} → 0 < bytes → Point point bytes → Drawn tag
+      → withLine (inPage high opened saved) s tag op (endPoint point at ∷ []) (lineIn table tag) ≡ Read.operator (lineOf point tag at op)
+  unfolding withLine lineIn table mayCome drawn among withAttributes oneByOne attributeCode ruleIn has typeTaken inRange asWhole formCode rowsFit withData dueOf
+  lined h point-ubyte drawn-path = refl
+  lined h point-ubyte drawn-rel = refl
+  lined h point-uint16 drawn-path = refl
+  lined h point-uint16 drawn-rel = refl
+  lined h point-sint16 drawn-path = refl
+  lined h point-sint16 drawn-rel = refl
+  lined h point-none d = absurd (omega arith)
+
+-- the operator of such a line
+pub line-drawn : {s : List ℕ} {at op : ℕ} → Line s at op → Drawn (getD s op 0)
+line-drawn {s} {at} {op} l = let k = l .is in let same : at + 1 + l .bytes + 2 ≡ op = omega arith in rw same at (l .ends .drawn)
+
+module _ (high opened : Bool) (saved : ℕ) (s : List ℕ) (at op : ℕ) where
+  pub read-line : Line s at op → operatorAt (inPage high opened saved) s at ≡ Read.operator (lineOf (getD s at 0) (getD s op 0) at op)
+  unfolding operatorAt scanned
+  read-line l =
+      ap (scanned (inPage high opened saved) s)
+      (scan-is high s at (l .bytes) (is-point (l .some) (l .point)) (l .ends) ∙ ap (λ x. Scan.tagged (getD s x 0) x (endPoint (getD s at 0) at ∷ [])) (sym (l .is)))
+      ∙ lined high opened saved s at op (l .some) (l .point) (line-drawn l)

@@ -1,0 +1,80 @@
+-- `line_to`: no point, no end, or both.
+-- Assumes nothing.
+use Prim.Native.Nat.{_<_}
+use mathlib.Core.Path.{refl}
+use native.Mathlib.Omega.{arith}
+use borrow.Author.Tests.{lt-ltb}
+use lib.ListN.{List·getD-eq-default}
+use Rattle.reader.specs.EndPoint.{pointLength, lineTo}
+use borrow.Author.Needs.{needs}
+use Rattle.reader.proofs.end_point.line_to.Statement.{statement}
+use Rattle.reader.proofs.end_point.line_to.Tie as tie
+use Rattle.reader.proofs.end_point.line_to.Reads as reads
+use Rattle.reader.proofs.end_point.line_to.Lts as lts
+use Rattle.reader.proofs.end_point.ends_at.Reads as ends-at-reads
+use Rattle.reader.proofs.end_point.point_length.Reads as point-length-reads
+
+returns : tie.Need-returns
+unfolding lineTo pointLength
+returns c =
+    let a = c .before .before .args in
+    (rw (List·getD-eq-default (a .s .now) 0 (c .if1 .taken)) refl, λ h. absurd (omega arith))
+
+shared-slice-read-point-length : tie.Need-shared-slice-read-point-length
+shared-slice-read-point-length c = search needs
+
+point-length-requires : tie.Need-point-length-requires
+point-length-requires c κs = search needs
+
+returns-2 : tie.Need-returns-2
+unfolding lineTo
+returns-2 c = (rw (← c .before .point-length .ensures .0, c .if2 .taken) refl, λ h. absurd (omega arith))
+
+add-ends-at : tie.Need-add-ends-at
+add-ends-at c = search needs
+
+add-ends-at-2 : tie.Need-add-ends-at-2
+add-ends-at-2 c = search needs
+
+ends-at-requires : tie.Need-ends-at-requires
+ends-at-requires c κs = search needs
+
+add-result : tie.Need-add-result
+add-result c = search needs
+
+add-result-2 : tie.Need-add-result-2
+add-result-2 c = search needs
+
+returns-3 : tie.Need-returns-3
+unfolding lineTo
+returns-3 c =
+    let k = c .before in
+    let j = k .before .before in
+    let some : 0 < j .point-length .result = let h = k .before .if2 .left in omega arith in (
+      rw (← j .point-length .ensures .0, lt-ltb _ _ some, ← k .ends-at .ensures .0, c .if3 .taken) refl,
+      λ h. record { bytes = j .point-length .result; some = some; point = j .point-length .ensures .1 .0; ends = k .ends-at .ensures .1 (c .if3 .taken); is = refl },
+    )
+
+returns-4 : tie.Need-returns-4
+unfolding lineTo
+returns-4 c =
+    let k = c .before in
+    let j = k .before .before in
+    let some : 0 < j .point-length .result = let h = k .before .if2 .left in omega arith in
+    (rw (← j .point-length .ensures .0, lt-ltb _ _ some, ← k .ends-at .ensures .0, c .if3 .left) refl, λ h. absurd (omega arith))
+
+pub line-to-spec : {M : Type 1} → statement M
+line-to-spec =
+    tie.close
+    (tie.spec
+    returns
+    shared-slice-read-point-length
+    point-length-requires
+    returns-2
+    add-ends-at
+    add-ends-at-2
+    ends-at-requires
+    add-result
+    add-result-2
+    returns-3
+    returns-4)

@@ -1,0 +1,67 @@
+-- A line by its end point with nothing between its items: a point, 0xf8 and EndPoint's number, then LinePath or LineRelPath.
+-- Assumes nothing.
+use Prim.Native.Nat.{ℕ, suc, _+_, _<_}
+use mathlib.Core.Path.{_≡_}
+use mathlib.Core.Bool.{Bool, false, _&&_, _||_}
+use mathlib.Core.List.{List, [], _∷_}
+use lib.ListN.{length, getD}
+use lib.Dec.{eqb, ltb}
+use Rattle.scope.specs.Choice.{pick}
+use Rattle.scope.specs.Names.{EndPoint, LinePath, LineRelPath}
+use Rattle.scope.specs.Reading.{Operator}
+
+-- the bytes of a point's numbers by its tag; 0 if it is no point's that a line takes
+unfoldable pub pointLength : ℕ → ℕ
+pointLength tag = pick (eqb tag 0xd0) 2 (pick (eqb tag 0xd1 || eqb tag 0xd3) 4 0)
+
+-- at p stand 0xf8, EndPoint's number, and LinePath or LineRelPath
+unfoldable pub endsAt : List ℕ → ℕ → Bool
+endsAt s p =
+    ltb (p + 2) (length s)
+    && (eqb (getD s p 0) 0xf8 && (eqb (getD s (p + 1) 0) EndPoint && (eqb (getD s (p + 2) 0) LinePath || eqb (getD s (p + 2) 0) LineRelPath)))
+
+-- where the operator stands of such a line, whose point's tag stands at `at`; the end of the bytes if there is none
+unfoldable pub lineTo : List ℕ → ℕ → ℕ
+lineTo s at =
+    let w = pointLength (getD s at 0) in
+    pick (ltb 0 w && endsAt s (at + 1 + w)) (at + 3 + w) (length s)
+
+-- the operator of such a line
+abbrev pub lineOf : (point tag at op : ℕ) → Operator
+lineOf point tag at op =
+    record {
+      tag = tag;
+      at = op;
+      attrs = record { number = EndPoint; tag = point; at = at; count = 2; first = at + 1 } ∷ [];
+      reads = false;
+      length = 0;
+      first = 0;
+      next = suc op;
+    }
+
+-- a point by its tag, with so many bytes of numbers; or none
+pub data Point : (tag bytes : ℕ) → Type 0 where
+  point-ubyte : Point 0xd0 2
+  point-uint16 : Point 0xd1 4
+  point-sint16 : Point 0xd3 4
+  point-none : {tag : ℕ} → Point tag 0
+
+-- LinePath or LineRelPath
+pub data Drawn : ℕ → Type 0 where
+  drawn-path : Drawn LinePath
+  drawn-rel : Drawn LineRelPath
+
+-- what stands at p where a line ends
+pub record Ends (s : List ℕ) (p : ℕ) : Type 0 where
+  pub within : p + 2 < length s
+  pub mark : getD s p 0 ≡ 0xf8
+  pub number : getD s (p + 1) 0 ≡ EndPoint
+  pub drawn : Drawn (getD s (p + 2) 0)
+
+-- such a line from `at` to its operator at `op`
+pub record Line (s : List ℕ) (at op : ℕ) : Type 0 where
+  pub bytes : ℕ
+  pub some : 0 < bytes
+  pub point : Point (getD s at 0) bytes
+  pub ends : Ends s (at + 1 + bytes)
+  pub is : op ≡ at + 3 + bytes
