@@ -15,31 +15,24 @@ Inv-loop n listed₀ i₀ listed i = Unit {0}
 abbrev μ-loop : tie.MeasureT-loop
 μ-loop n listed₀ i₀ listed i = n - i
 
--- src/main.rt:90:5
 loop-holds : tie.Need-loop-holds Inv-loop μ-loop
 loop-holds c = search needs
 
--- src/main.rt:91:12
 asks-list-requires : tie.Need-asks-list-requires Inv-loop μ-loop
 asks-list-requires c κs = search needs
 
--- src/main.rt:94:13
 file-requires : tie.Need-file-requires Inv-loop μ-loop
 file-requires c κs = search needs
 
--- src/main.rt:96:9
 add-i : tie.Need-add-i Inv-loop μ-loop
 add-i c = search needs
 
--- src/main.rt:90:5
 loop-less : tie.Need-loop-less Inv-loop μ-loop
 loop-less c = search needs
 
--- src/main.rt:90:5
 loop-again : tie.Need-loop-again Inv-loop μ-loop
 loop-again c = search needs
 
--- src/main.rt:87:1
 returns : tie.Need-returns Inv-loop μ-loop
 returns c = search needs
 

@@ -1,3 +1,5 @@
+-- `at_start` meets its contract.
+-- Assumes nothing.
 use Rattle.arm.specs.Views.{stack}
 use Rattle.arm.specs.Sums.{fresh}
 use Rattle.scope.specs.Arm.{from}

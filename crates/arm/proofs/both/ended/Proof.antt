@@ -1,3 +1,5 @@
+-- `ended` meets its contract.
+-- Assumes nothing.
 use Rattle.scope.specs.Arm.{Page}
 use mathlib.Core.Path.{ap}
 use Rattle.arm.proofs.both.ended.Statement.{statement}

@@ -1,3 +1,5 @@
+-- `answer` meets its contract.
+-- Assumes nothing.
 use Rattle.arm.proofs.Keeping.{answer-to}
 use Rattle.arm.specs.Holds.{moves-no}
 use Rattle.scope.specs.Arm.{from, walk}

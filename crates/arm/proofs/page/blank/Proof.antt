@@ -1,3 +1,5 @@
+-- `blank` meets its contract.
+-- Assumes nothing.
 use native.Mathlib.Omega.{arith}
 use Rattle.arm.specs.Views.{stack}
 use mathlib.Core.Path.{refl}

@@ -1,3 +1,5 @@
+-- `ends_at` meets its contract.
+-- Assumes nothing.
 use mathlib.Core.Path.{refl}
 use borrow.Author.Needs.{needs}
 use Rattle.arm.proofs.seen.ends_at.Statement.{statement}

@@ -1,3 +1,5 @@
+-- `in_bits` meets its contract.
+-- Assumes nothing.
 use Rattle.arm.specs.Sums.{endingOf}
 use mathlib.Core.Path.{refl}
 use Rattle.arm.proofs.summary.in_bits.Statement.{statement}

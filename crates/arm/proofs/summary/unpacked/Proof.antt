@@ -1,3 +1,5 @@
+-- `unpacked` meets its contract.
+-- Assumes nothing.
 use Rattle.arm.specs.Sums.{summaryOf, SumsAs}
 use borrow.Author.Needs.{needs}
 use Rattle.arm.proofs.summary.unpacked.Statement.{statement}

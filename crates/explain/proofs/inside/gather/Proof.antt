@@ -16,31 +16,24 @@ Inv-loop job list records motif₀ used₀ i₀ motif used i = length motif ≡ 
 abbrev μ-loop : tie.MeasureT-loop
 μ-loop job list records motif₀ used₀ i₀ motif used i = records - i
 
--- src/inside.rt:41:5
 loop-holds : tie.Need-loop-holds Inv-loop μ-loop
 loop-holds c = search needs
 
--- src/inside.rt:42:9
 onward-requires : tie.Need-onward-requires Inv-loop μ-loop
 onward-requires c κs = search needs
 
--- src/inside.rt:43:9
 add-i : tie.Need-add-i Inv-loop μ-loop
 add-i c = search needs
 
--- src/inside.rt:41:5
 loop-less : tie.Need-loop-less Inv-loop μ-loop
 loop-less c = search needs
 
--- src/inside.rt:41:5
 loop-again : tie.Need-loop-again Inv-loop μ-loop
 loop-again c = search needs
 
--- src/inside.rt:38:1
 same-length : tie.Need-same-length Inv-loop μ-loop
 same-length c = search needs
 
--- src/inside.rt:38:1
 returns : tie.Need-returns Inv-loop μ-loop
 returns c = search needs
 

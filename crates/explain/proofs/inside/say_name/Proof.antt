@@ -16,47 +16,36 @@ Inv-loop job list records last₀ i₀ last i = Unit {0}
 abbrev μ-loop : tie.MeasureT-loop
 μ-loop job list records last₀ i₀ last i = records - i
 
--- src/inside.rt:60:5
 loop-holds : tie.Need-loop-holds Inv-loop μ-loop
 loop-holds c = search needs
 
--- src/inside.rt:61:9
 named-requires : tie.Need-named-requires Inv-loop μ-loop
 named-requires c κs = search needs
 
--- src/inside.rt:62:9
 add-i : tie.Need-add-i Inv-loop μ-loop
 add-i c = search needs
 
--- src/inside.rt:60:5
 loop-less : tie.Need-loop-less Inv-loop μ-loop
 loop-less c = search needs
 
--- src/inside.rt:60:5
 loop-again : tie.Need-loop-again Inv-loop μ-loop
 loop-again c = search needs
 
--- src/inside.rt:66:9
 field-four-requires : tie.Need-field-four-requires Inv-loop μ-loop
 field-four-requires c κs = search needs
 
--- src/inside.rt:66:9
 cast-name : tie.Need-cast-name Inv-loop μ-loop
 cast-name c = search needs
 
--- src/inside.rt:67:9
 field-four-requires-2 : tie.Need-field-four-requires-2 Inv-loop μ-loop
 field-four-requires-2 c κs = search needs
 
--- src/inside.rt:67:9
 cast-name-2 : tie.Need-cast-name-2 Inv-loop μ-loop
 cast-name-2 c = search needs
 
--- src/inside.rt:64:5
 name-requires : tie.Need-name-requires Inv-loop μ-loop
 name-requires c κs = search needs
 
--- src/inside.rt:57:1
 returns : tie.Need-returns Inv-loop μ-loop
 returns c = search needs
 

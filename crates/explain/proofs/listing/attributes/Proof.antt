@@ -14,31 +14,24 @@ Inv-loop job list i count j₀ j = Unit {0}
 abbrev μ-loop : tie.MeasureT-loop
 μ-loop job list i count j₀ j = i - j
 
--- src/listing.rt:61:9
 returns : tie.Need-returns Inv-loop μ-loop
 returns c = search needs
 
--- src/listing.rt:64:5
 loop-holds : tie.Need-loop-holds Inv-loop μ-loop
 loop-holds c = search needs
 
--- src/listing.rt:65:9
 attribute-requires : tie.Need-attribute-requires Inv-loop μ-loop
 attribute-requires c κs = search needs
 
--- src/listing.rt:66:9
 add-j : tie.Need-add-j Inv-loop μ-loop
 add-j c = search needs
 
--- src/listing.rt:64:5
 loop-less : tie.Need-loop-less Inv-loop μ-loop
 loop-less c = search needs
 
--- src/listing.rt:64:5
 loop-again : tie.Need-loop-again Inv-loop μ-loop
 loop-again c = search needs
 
--- src/listing.rt:59:1
 returns-2 : tie.Need-returns-2 Inv-loop μ-loop
 returns-2 c = search needs
 

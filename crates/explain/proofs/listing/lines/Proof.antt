@@ -14,27 +14,21 @@ Inv-loop job list records depth₀ i₀ depth i = Unit {0}
 abbrev μ-loop : tie.MeasureT-loop
 μ-loop job list records depth₀ i₀ depth i = records - i
 
--- src/listing.rt:106:5
 loop-holds : tie.Need-loop-holds Inv-loop μ-loop
 loop-holds c = search needs
 
--- src/listing.rt:107:9
 line-requires : tie.Need-line-requires Inv-loop μ-loop
 line-requires c κs = search needs
 
--- src/listing.rt:108:9
 add-i : tie.Need-add-i Inv-loop μ-loop
 add-i c = search needs
 
--- src/listing.rt:106:5
 loop-less : tie.Need-loop-less Inv-loop μ-loop
 loop-less c = search needs
 
--- src/listing.rt:106:5
 loop-again : tie.Need-loop-again Inv-loop μ-loop
 loop-again c = search needs
 
--- src/listing.rt:103:1
 returns : tie.Need-returns Inv-loop μ-loop
 returns c = search needs
 

@@ -16,39 +16,30 @@ Inv-loop job count at i₀ i = Unit {0}
 abbrev μ-loop : tie.MeasureT-loop
 μ-loop job count at i₀ i = count - i
 
--- src/values.rt:84:5
 loop-holds : tie.Need-loop-holds Inv-loop μ-loop
 loop-holds c = search needs
 
--- src/values.rt:85:9
 gap-requires : tie.Need-gap-requires Inv-loop μ-loop
 gap-requires c κs = search needs
 
--- src/values.rt:86:33
 cast-after : tie.Need-cast-after Inv-loop μ-loop
 cast-after c = search needs
 
--- src/values.rt:86:23
 after-requires : tie.Need-after-requires Inv-loop μ-loop
 after-requires c κs = search needs
 
--- src/values.rt:86:9
 one-byte-requires : tie.Need-one-byte-requires Inv-loop μ-loop
 one-byte-requires c κs = search needs
 
--- src/values.rt:87:9
 add-i : tie.Need-add-i Inv-loop μ-loop
 add-i c = search needs
 
--- src/values.rt:84:5
 loop-less : tie.Need-loop-less Inv-loop μ-loop
 loop-less c = search needs
 
--- src/values.rt:84:5
 loop-again : tie.Need-loop-again Inv-loop μ-loop
 loop-again c = search needs
 
--- src/values.rt:82:1
 returns : tie.Need-returns Inv-loop μ-loop
 returns c = search needs
 

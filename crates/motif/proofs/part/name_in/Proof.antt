@@ -1,3 +1,5 @@
+-- `name_in` meets its contract.
+-- Assumes nothing.
 use mathlib.Core.Path.{refl, sym, _∙_}
 use borrow.Author.Needs.{needs}
 use Rattle.motif.proofs.part.name_in.Statement.{statement}
@@ -7,15 +9,12 @@ use Rattle.motif.proofs.part.name_in.Lts as lts
 use Rattle.motif.proofs.part.within.Reads as within-reads
 use Rattle.rules.proofs.part_in.Reads as part-in-reads
 
--- src/part.rt:32:9
 part-in-requires : tie.Need-part-in-requires
 part-in-requires c κs = search needs
 
--- src/part.rt:33:5
 within-requires : tie.Need-within-requires
 within-requires c κs = search needs
 
--- src/part.rt:28:1
 returns : tie.Need-returns
 returns c =
     let a = c .before .before .before .args in

@@ -1,3 +1,5 @@
+-- `within` meets its contract.
+-- Assumes nothing.
 use lib.ListN.{length, take, drop}
 use Prim.Native.Nat.{_≤_, _<_, _-_}
 use mathlib.Core.Path.{refl, sym, subst}
@@ -9,27 +11,22 @@ use Rattle.motif.proofs.part.within.Tie as tie
 use Rattle.motif.proofs.part.within.Reads as reads
 use Rattle.motif.proofs.part.within.Lts as lts
 
--- src/part.rt:16:9
 returns : tie.Need-returns
 returns c =
     let a = c .before .args in
     (omega arith, λ s e. part-none s (a .first) (a .count) (rw e (c .if1 .taken)))
 
--- src/part.rt:18:8
 sub-if2 : tie.Need-sub-if2
 sub-if2 c = search needs
 
--- src/part.rt:21:20
 sub-t6 : tie.Need-sub-t6
 sub-t6 c = search needs
 
--- src/part.rt:19:9
 returns-2 : tie.Need-returns-2
 returns-2 c =
     let a = c .before .before .args in
     (omega arith, λ s e. rw (← e) (part-all s (a .first) (a .count) (rw e (c .if2 .taken))))
 
--- src/part.rt:11:1
 returns-3 : tie.Need-returns-3
 returns-3 c = (omega arith, λ s e. refl)
 

@@ -1,3 +1,5 @@
+-- `advance` meets its contract.
+-- Assumes nothing.
 use lib.ListN.{length}
 use mathlib.Core.List.{List}
 use mathlib.Core.Path.{refl, sym, ap, _∙_, _≡_}
@@ -30,35 +32,27 @@ read-is c ms w l g =
     let a = c .before .before .before .before .before .args in
     sym (context-is ms (a .high) (a .s .now) (a .inside) w (phaseAs (c .before .before .phase-in .result)) g (c .before .before .phase-in .ensures)) ∙ sym (c .operator-at .ensures .1 .0 l)
 
--- src/judging.rt:180:16
 phase-in-requires : tie.Need-phase-in-requires
 phase-in-requires c κs = search needs
 
--- src/judging.rt:184:11
 operator-at-requires : tie.Need-operator-at-requires
 operator-at-requires c κs = search needs
 
--- src/judging.rt:185:18
 enum-known-code : tie.Need-enum-known-code
 enum-known-code c = search needs
 
--- src/judging.rt:186:41
 enum-told : tie.Need-enum-told
 enum-told c = search needs
 
--- src/judging.rt:186:35
 ended-requires : tie.Need-ended-requires
 ended-requires c κs = search needs
 
--- src/judging.rt:187:24
 enum-known-o : tie.Need-enum-known-o
 enum-known-o c = search needs
 
--- src/judging.rt:189:17
 call-requires : tie.Need-call-requires
 call-requires c κs = search needs
 
--- src/judging.rt:189:17
 returns : tie.Need-returns
 returns c =
     let f = c .before .before .before .before .before .before .before in
@@ -75,18 +69,15 @@ returns c =
       ),
     )
 
--- src/judging.rt:191:13
 deed-requires : tie.Need-deed-requires
 deed-requires c κs = search needs
 
--- src/judging.rt:170:1
 returns-2 : tie.Need-returns-2
 returns-2 c =
     let f = c .before .before .before in
     let a = f .before .before .before .before .before .args in
     (f .operator-at .ensures .0, (tt, λ ms w l h k g. step-no ms (a .high) (a .s .now) w _ _ (read-is f ms w l g ∙ rw (c .before .code .given .1))))
 
--- src/judging.rt:170:1
 returns-3 : tie.Need-returns-3
 returns-3 c =
     let f = c .before .before .before in
@@ -99,7 +90,6 @@ returns-3 c =
       ),
     )
 
--- src/judging.rt:170:1
 returns-4 : tie.Need-returns-4
 returns-4 c =
     let f = c .before .before .before .before .before .before .before in

@@ -1,3 +1,5 @@
+-- `balanced` meets its contract.
+-- Assumes nothing.
 use mathlib.Core.Path.{refl, sym, _∙_}
 use borrow.Author.Tests.{eq-eqb, ne-eqb}
 use Rattle.stream.proofs.Turning.{ended-even}
@@ -10,19 +12,15 @@ use Rattle.stream.proofs.judging.balanced.Lts as lts
 use Rattle.arm.proofs.both.Both.summary.Reads as summary-reads
 use Rattle.arm.proofs.summary.Summary.packed.Reads as packed-reads
 
--- src/judging.rt:163:9
 returns : tie.Need-returns
 returns c = λ ms ops b r l. rw (ne-eqb _ 0 (c .if1 .taken)) judges-faulty
 
--- src/judging.rt:165:9
 summary-requires : tie.Need-summary-requires
 summary-requires c κs = search needs
 
--- src/judging.rt:166:26
 packed-requires : tie.Need-packed-requires
 packed-requires c κs = search needs
 
--- src/judging.rt:158:1
 returns-2 : tie.Need-returns-2
 returns-2 c =
     let a = c .before .before .before .args in

@@ -1,3 +1,5 @@
+-- `call` meets its contract.
+-- Assumes nothing.
 use Prim.Native.Nat.{_<_}
 use mathlib.Core.Path.{refl, sym, _∙_}
 use Rattle.reader.specs.Reads.{operatorAs}
@@ -19,51 +21,39 @@ use Rattle.stream.proofs.judging.enter.Reads as enter-reads
 few : (c : tie.After-known-told) → c .before .i .given .0 .0 < 64
 few c = rw (c .before .i .given .1) at (c .before .before .before .find .ensures .0)
 
--- src/judging.rt:113:9
 name-in-requires : tie.Need-name-in-requires
 name-in-requires c κs = search needs
 
--- src/judging.rt:114:11
 find-requires : tie.Need-find-requires
 find-requires c κs = search needs
 
--- src/judging.rt:115:38
 enum-told : tie.Need-enum-told
 enum-told c = search needs
 
--- src/judging.rt:116:19
 enum-known-i : tie.Need-enum-known-i
 enum-known-i c = search needs
 
--- src/judging.rt:116:47
 mul-enter : tie.Need-mul-enter
 mul-enter c = omega (arith, few c)
 
--- src/judging.rt:116:47
 add-enter : tie.Need-add-enter
 add-enter c = omega (arith, few c)
 
--- src/judging.rt:116:42
 mul-enter-2 : tie.Need-mul-enter-2
 mul-enter-2 c = omega (arith, few c)
 
--- src/judging.rt:116:42
 element-copy-out-enter : tie.Need-element-copy-out-enter
 element-copy-out-enter c = omega (arith, few c)
 
--- src/judging.rt:116:59
 mul-enter-3 : tie.Need-mul-enter-3
 mul-enter-3 c = omega (arith, few (c .before))
 
--- src/judging.rt:116:59
 element-copy-out-enter-2 : tie.Need-element-copy-out-enter-2
 element-copy-out-enter-2 c = omega (arith, few (c .before))
 
--- src/judging.rt:116:25
 enter-requires : tie.Need-enter-requires
 enter-requires c κs = search needs
 
--- src/judging.rt:108:1
 returns : tie.Need-returns
 returns c =
     let f = c .before .before in
@@ -71,7 +61,6 @@ returns c =
     let a = n .before .before .before .args in
     (tt, λ ms w z h k g. called-none ms (a .s .now) (operatorAs (a .o) (a .attrs .now)) w _ (n .name-in .ensures .1 z) (c .enum-told .given .1) (f .find .ensures .1 .0 _ ms h k (n .name-in .ensures .0)))
 
--- src/judging.rt:108:1
 returns-2 : tie.Need-returns-2
 returns-2 c =
     let f = c .before .before .before .before .before .before in

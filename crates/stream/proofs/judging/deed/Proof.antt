@@ -1,3 +1,5 @@
+-- `deed` meets its contract.
+-- Assumes nothing.
 use Rattle.scope.specs.Order.{rowsFit}
 use Rattle.stream.proofs.Turning.{saved-most}
 use Prim.Native.Nat.{ℕ, _+_, _≤_}
@@ -19,23 +21,18 @@ use Rattle.motif.proofs.act_of.Reads as act-of-reads
 use Rattle.motif.proofs.picture_after.Reads as picture-after-reads
 use Rattle.stream.proofs.judging.saved_after.Reads as saved-after-reads
 
--- src/judging.rt:131:9
 act-of-requires : tie.Need-act-of-requires
 act-of-requires c κs = search needs
 
--- src/judging.rt:132:9
 picture-after-requires : tie.Need-picture-after-requires
 picture-after-requires c κs = search needs
 
--- src/judging.rt:133:9
 step-requires : tie.Need-step-requires
 step-requires c κs = search needs
 
--- src/judging.rt:134:9
 saved-after-requires : tie.Need-saved-after-requires
 saved-after-requires c κs = search needs
 
--- src/judging.rt:121:1
 returns : tie.Need-returns
 returns c =
     let p = c .before .before in

@@ -1,3 +1,5 @@
+-- `ended` meets its contract.
+-- Assumes nothing.
 use Rattle.reader.specs.Views.{imageAs}
 use mathlib.Core.Path.{refl, sym, _∙_}
 use Rattle.stream.proofs.Turning.{ended-open, ended-closed}
@@ -8,25 +10,20 @@ use Rattle.stream.proofs.judging.ended.Reads as reads
 use Rattle.stream.proofs.judging.ended.Lts as lts
 use Rattle.stream.proofs.judging.balanced.Reads as balanced-reads
 
--- src/judging.rt:152:30
 enum-told : tie.Need-enum-told
 enum-told c = search needs
 
--- src/judging.rt:153:29
 enum-told-2 : tie.Need-enum-told-2
 enum-told-2 c = search needs
 
--- src/judging.rt:153:29
 balanced-requires : tie.Need-balanced-requires
 balanced-requires c κs = search needs
 
--- src/judging.rt:145:1
 returns : tie.Need-returns
 returns c =
     let a = c .before .before .before .args in
     λ ms w s e b f. ended-open ms s w (a .len) e (imageAs (c .enum-told .given .0 .0)) (sym (f .picture) ∙ rw (c .enum-told .given .1))
 
--- src/judging.rt:145:1
 returns-2 : tie.Need-returns-2
 returns-2 c =
     let a = c .before .before .before .before .args in

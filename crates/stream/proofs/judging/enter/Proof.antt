@@ -1,3 +1,5 @@
+-- `enter` meets its contract.
+-- Assumes nothing.
 use mathlib.Core.Path.{_≡_}
 use Prim.Native.Nat.{_+_, _≤_, _<_, max}
 use mathlib.Core.Path.{refl, sym, _∙_, subst}
@@ -13,29 +15,23 @@ use Rattle.arm.proofs.both.Both.call.Reads as call-reads
 use Rattle.arm.proofs.summary.unpacked.Reads as unpacked-reads
 use Rattle.stream.proofs.judging.deeper.Reads as deeper-reads
 
--- src/judging.rt:93:9
 returns : tie.Need-returns
 returns c =
     let a = c .before .args in
     (tt, λ ms w m name attrs f e u. enter-deep ms (operatorAs (a .o) attrs) name w m (rw (← e) (c .if1 .taken)))
 
--- src/judging.rt:97:26
 unpacked-requires : tie.Need-unpacked-requires
 unpacked-requires c κs = search needs
 
--- src/judging.rt:97:9
 call-requires : tie.Need-call-requires
 call-requires c κs = search needs
 
--- src/judging.rt:102:37
 add-deeper : tie.Need-add-deeper
 add-deeper c = search needs
 
--- src/judging.rt:102:16
 deeper-requires : tie.Need-deeper-requires
 deeper-requires c κs = search needs
 
--- src/judging.rt:87:1
 returns-2 : tie.Need-returns-2
 returns-2 c =
     let b = c .before .before .before .before .before in

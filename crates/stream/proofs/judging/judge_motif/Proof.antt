@@ -1,3 +1,5 @@
+-- `judge_motif` meets its contract.
+-- Assumes nothing.
 use mathlib.Core.Path.{refl, sym, _∙_}
 use Rattle.stream.specs.Judging.{judges-faulty}
 use Rattle.scope.specs.Motif.{motifOf, motifFrom}
@@ -9,30 +11,24 @@ use Rattle.stream.proofs.judging.judge_motif.Lts as lts
 use Rattle.stream.proofs.judging.operators.Reads as operators-reads
 use Rattle.wire.proofs.header_of.Reads as header-of-reads
 
--- src/judging.rt:228:11
 header-of-requires : tie.Need-header-of-requires
 header-of-requires c κs = search needs
 
--- src/judging.rt:229:20
 enum-known-code : tie.Need-enum-known-code
 enum-known-code c = search needs
 
--- src/judging.rt:230:20
 enum-known-high : tie.Need-enum-known-high
 enum-known-high c = search needs
 
--- src/judging.rt:230:35
 operators-requires : tie.Need-operators-requires
 operators-requires c κs = rw (c .before .before .high .given .1) at (c .before .before .before .before .header-of .ensures .1)
 
--- src/judging.rt:223:1
 returns : tie.Need-returns
 unfolding motifOf motifFrom
 returns c =
     let h = rw (c .before .code .given .1) at (c .before .before .before .header-of .ensures .0) in
     λ ms k q. rw (← h) judges-faulty
 
--- src/judging.rt:223:1
 returns-2 : tie.Need-returns-2
 unfolding motifOf motifFrom
 returns-2 c =

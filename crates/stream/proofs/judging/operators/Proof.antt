@@ -27,31 +27,25 @@ Inv-loop s high next job rows sums held attrs₀ inside₀ attrs inside =
 abbrev μ-loop : tie.MeasureT-loop
 μ-loop s high next job rows sums held attrs₀ inside₀ attrs inside = length s - inside .at
 
--- src/judging.rt:208:15
 fresh-requires : tie.Need-fresh-requires Inv-loop μ-loop
 fresh-requires c κs = search needs
 
--- src/judging.rt:210:5
 loop-holds : tie.Need-loop-holds Inv-loop μ-loop
 loop-holds c =
     (refl, c .before .before .before .pre, omega arith, λ ms l h k. (starting _, (starts ms _ refl refl refl (c .fresh .ensures), refl)))
 
--- src/judging.rt:211:15
 advance-requires : tie.Need-advance-requires Inv-loop μ-loop
 advance-requires c κs =
     (c .before .loop .inv .1, c .before .loop .inv .2)
 
--- src/judging.rt:212:22
 enum-known-on : tie.Need-enum-known-on Inv-loop μ-loop
 enum-known-on c = search needs
 
--- src/judging.rt:210:5
 loop-less : tie.Need-loop-less Inv-loop μ-loop
 loop-less c =
     let p = rw (c .before .on .given .1) at (c .before .before .before .advance .ensures .1 .0) in
     omega (arith, p)
 
--- src/judging.rt:210:5
 loop-again : tie.Need-loop-again Inv-loop μ-loop
 loop-again c =
     let d = c .before .before .before in
@@ -67,11 +61,9 @@ loop-again c =
           turned-go ms (a .high) (a .s .now) _ _ (v .0) (v .1 .1) (rw e at (d .advance .ensures .1 .1 ms (v .0) (l .inv .0 ∙ z) h k (v .1 .0))),
     )
 
--- src/judging.rt:215:24
 enum-known-judged : tie.Need-enum-known-judged Inv-loop μ-loop
 enum-known-judged c = search needs
 
--- src/judging.rt:216:17
 returns : tie.Need-returns Inv-loop μ-loop
 returns c =
     let d = c .before .before .before in

@@ -1,3 +1,5 @@
+-- `phase_in` meets its contract.
+-- Assumes nothing.
 use Rattle.scope.specs.Motif.{phaseIn}
 use borrow.Author.Needs.{needs}
 use Rattle.stream.proofs.judging.phase_in.Statement.{statement}
@@ -5,20 +7,16 @@ use Rattle.stream.proofs.judging.phase_in.Tie as tie
 use Rattle.stream.proofs.judging.phase_in.Reads as reads
 use Rattle.stream.proofs.judging.phase_in.Lts as lts
 
--- src/judging.rt:58:29
 enum-told : tie.Need-enum-told
 enum-told c = search needs
 
--- src/judging.rt:59:24
 enum-known-picture : tie.Need-enum-known-picture
 enum-known-picture c = search needs
 
--- src/judging.rt:54:1
 returns : tie.Need-returns
 unfolding phaseIn
 returns c = rw (c .enum-told .given .1)
 
--- src/judging.rt:54:1
 returns-2 : tie.Need-returns-2
 unfolding phaseIn
 returns-2 c = rw (c .before .picture .given .1)

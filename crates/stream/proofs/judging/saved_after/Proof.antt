@@ -1,3 +1,5 @@
+-- `saved_after` meets its contract.
+-- Assumes nothing.
 use native.Mathlib.Omega.{arith}
 use native.Mathlib.Numerals.{add-one}
 use borrow.Author.Tests.{eq-eqb, ne-eqb}
@@ -8,30 +10,24 @@ use Rattle.stream.proofs.judging.saved_after.Tie as tie
 use Rattle.stream.proofs.judging.saved_after.Reads as reads
 use Rattle.stream.proofs.judging.saved_after.Lts as lts
 
--- src/judging.rt:68:16
 add-result : tie.Need-add-result
 add-result c = search needs
 
--- src/judging.rt:68:9
 returns : tie.Need-returns
 unfolding savedAfter
 returns c = rw (eq-eqb _ _ (c .if1 .taken), add-one)
 
--- src/judging.rt:71:9
 returns-2 : tie.Need-returns-2
 unfolding savedAfter
 returns-2 c = rw (ne-eqb _ _ (c .before .if1 .left), ne-eqb _ _ (c .if2 .taken))
 
--- src/judging.rt:74:9
 returns-3 : tie.Need-returns-3
 unfolding savedAfter
 returns-3 c = rw (ne-eqb _ _ (c .before .before .if1 .left), eq-eqb _ _ (c .before .if2 .left), c .if3 .taken)
 
--- src/judging.rt:76:5
 sub-result : tie.Need-sub-result
 sub-result c = search needs
 
--- src/judging.rt:63:1
 returns-4 : tie.Need-returns-4
 unfolding savedAfter
 returns-4 c = rw (ne-eqb _ _ (c .before .before .if1 .left), eq-eqb _ _ (c .before .if2 .left))

@@ -1,3 +1,5 @@
+-- `Both::call` meets its contract.
+-- Assumes nothing.
 use Rattle.arm.proofs.Rows.{walk-append}
 use mathlib.Core.Bool.{true, false}
 use mathlib.Core.List.{_∷_}

@@ -1,3 +1,5 @@
+-- `Both::fresh` meets its contract.
+-- Assumes nothing.
 use Rattle.scope.specs.Arm.{walk}
 use borrow.Author.Needs.{needs}
 use Rattle.arm.proofs.both.Both.fresh.Statement.{statement}

@@ -1,3 +1,5 @@
+-- `Both::summary` meets its contract.
+-- Assumes nothing.
 use Rattle.arm.proofs.Rows.{fresh-count}
 use Rattle.arm.proofs.Ways.{fresh-most}
 use mathlib.Core.Bool.{true, false}

@@ -1,3 +1,5 @@
+-- `Page::pop` meets its contract.
+-- Assumes nothing.
 use Prim.Native.Nat.{suc, _-_}
 use Rattle.arm.specs.Views.{stack}
 use Rattle.scope.specs.Arm.{done}

@@ -1,3 +1,5 @@
+-- `Page::push` meets its contract.
+-- Assumes nothing.
 use Rattle.arm.proofs.Ways.{page-eq}
 use Rattle.arm.proofs.Stacks.{stack-push, bits-small}
 use Rattle.scope.specs.Arm.{done}

@@ -1,3 +1,5 @@
+-- `Page::put` meets its contract.
+-- Assumes nothing.
 use Rattle.scope.specs.Arm.{done}
 use mathlib.Core.Path.{refl}
 use borrow.Author.Needs.{needs}

@@ -1,3 +1,5 @@
+-- `Page::risen` meets its contract.
+-- Assumes nothing.
 use Rattle.arm.proofs.Stacks.{stack-length}
 use Rattle.scope.specs.Arm.{risen}
 use native.Mathlib.Omega.{arith}

@@ -1,3 +1,5 @@
+-- `Seen::call` meets its contract.
+-- Assumes nothing.
 use Rattle.arm.proofs.Keeping.{call-holds}
 use Rattle.arm.specs.Sums.{fresh}
 use Rattle.scope.specs.Arm.{walk}

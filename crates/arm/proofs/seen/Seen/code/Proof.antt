@@ -1,3 +1,5 @@
+-- `Seen::code` meets its contract.
+-- Assumes nothing.
 use borrow.Author.Tests.{le-leb, lt-leb}
 use Rattle.arm.proofs.Keeping.{code-kept}
 use mathlib.Core.Path.{sym, _∙_}

@@ -1,3 +1,5 @@
+-- `Seen::from` meets its contract.
+-- Assumes nothing.
 use Rattle.scope.specs.Arm.{from}
 use native.Mathlib.Omega.{arith}
 use mathlib.Core.Path.{refl}

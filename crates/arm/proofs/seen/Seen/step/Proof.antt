@@ -1,3 +1,5 @@
+-- `Seen::step` meets its contract.
+-- Assumes nothing.
 use Rattle.arm.proofs.Keeping.{step-holds}
 use mathlib.Core.Bool.{_||_}
 use native.Mathlib.Omega.{arith}

@@ -1,3 +1,5 @@
+-- `Ending::packed` meets its contract.
+-- Assumes nothing.
 use borrow.Author.Needs.{needs}
 use Rattle.arm.proofs.summary.Ending.packed.Statement.{statement}
 use Rattle.arm.proofs.summary.Ending.packed.Tie as tie

@@ -1,3 +1,5 @@
+-- `Summary::packed` meets its contract.
+-- Assumes nothing.
 use Rattle.arm.proofs.Packs.{packs}
 use mathlib.Core.Path.{refl}
 use borrow.Author.Needs.{needs}
