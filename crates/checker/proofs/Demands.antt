@@ -15,6 +15,7 @@ use Rattle.scope.specs.Verdict as scope
 use Rattle.scope.specs.Plain.{unfoldingOf, comes, atStart}
 use Rattle.scope.specs.Claims.{Keeps, HasRoom, afterOne}
 use Rattle.scope.proofs.Demand.{demand-3}
+use Rattle.scope.proofs.Whole.{verdict-placed, passes-exactly}
 use Rattle.scope.proofs.Sessions.{isolated}
 use Rattle.scope.proofs.Buffers.{no-motif-left, zeroed}
 use Rattle.checker.specs.Views.{verdictAs}
@@ -31,6 +32,10 @@ pub one-answer : (job work list : List ℕ) (v w : Verdict) (work₁ list₁ wor
     → (v ≡ w) × (work₁ ≡ work₂) × (list₁ ≡ list₂)
 one-answer job work list v w work₁ list₁ work₂ list₂ p q =
     (same-verdict v w (p .verdict ∙ sym (q .verdict)), p .worked ∙ sym (q .worked), p .listed ∙ sym (q .listed))
+
+-- demand 1: the position is a place of the job, or its end
+pub place-of-check : (job work list : List ℕ) (v : Verdict) (work₁ list₁ : List ℕ) → Promised job work list v work₁ list₁ → v .position ≤ length job
+place-of-check job work list v work₁ list₁ p = subst⁻¹ (λ n. n ≤ length job) (ap (λ x. x .position) (p .verdict)) (verdict-placed job (length work) (length list))
 
 -- demand 1: what the buffers held before plays no part in the verdict, only their lengths do
 pub old-contents : (job work list other-work other-list : List ℕ) (v w : Verdict) (work₁ list₁ work₂ list₂ : List ℕ) → length work ≡ length other-work → length list ≡ length other-list
@@ -93,3 +98,11 @@ demand-3-of-check job work list v work₁ list₁ p h k r =
     let c : v .code ≡ verdictOf job (length work) (length list) .code = ap (λ x. x .code) (p .verdict) in
     let n : v .performed ≡ verdictOf job (length work) (length list) .performed = ap (λ x. x .performed) (p .verdict) in
     ((λ e. d .0 .0 (sym c ∙ e), λ e. c ∙ d .0 .1 e), λ e. n ∙ d .1 (sym c ∙ e))
+
+-- demand 3, the other way round too: what passes keeps the layout rules and has room for its list
+pub passes-of-check : (job work list : List ℕ) (v : Verdict) (work₁ list₁ : List ℕ) → Promised job work list v work₁ list₁ → 16384 ≤ length work
+    → (v .code ≡ 0) ↔ (Keeps job × HasRoom job (length list) × (comes (unfoldingOf startsGray job) atStart ≡ true))
+passes-of-check job work list v work₁ list₁ p h =
+    let c : v .code ≡ verdictOf job (length work) (length list) .code = ap (λ x. x .code) (p .verdict) in
+    let d = passes-exactly job (length work) (length list) h in
+    (λ e. d .0 (sym c ∙ e), λ k. c ∙ d .1 k)

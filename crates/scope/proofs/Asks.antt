@@ -19,7 +19,7 @@ use Rattle.scope.specs.Reading.{Context, Operator, Read, withBlock, with
 -- the first reading never asks for an open source, the second does
 pub data Asks (opened : Bool) : Read → Read → Type 0 where
   alike : {r : Read} → Asks opened r r
-  failed : {code place : ℕ} {r : Read} → Asks opened (Read.no code place) r
+  failed : {code place other there : ℕ} → Asks opened (Read.no code place) (Read.no other there)
   closed : {o : Operator} {place : ℕ} → o .reads ≡ true → opened ≡ false → eqb (o .tag) 0x5e ≡ false → Asks opened (Read.operator o) (Read.no 17 place)
 
 -- a choice by one test on both sides

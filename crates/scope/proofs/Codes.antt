@@ -127,6 +127,28 @@ pub layout-none : (room : ℕ) (c : Case) → firstBroken layout c (rules 0) ≡
 unfolding firstBroken rules layout among stateCode
 layout-none room c e = rest-of (tooMuch c) (nameHeld c) (nameMissing c) (c .made) Refusal.none (stateCode room c) e
 
+-- where no rule is broken, no layout rule is, and there is room
+pub none-layout : (room : ℕ) (c : Case) → firstBroken every c (rules room) ≡ Refusal.none → firstBroken layout c (rules 0) ≡ Refusal.none
+unfolding firstBroken rules layout among stateCode
+none-layout room c e = rest-of (tooMuch c) (nameHeld c) (nameMissing c) (c .made) (stateCode room c) Refusal.none e
+
+room-of : (p q r s t u : Bool)
+    → pick p (Refusal.refused 17 outer) (pick q (Refusal.refused 23 outer) (pick r (Refusal.refused 24 outer) (pick s (Refusal.refused 25 outer)
+    (pick t (Refusal.refused 26 outer) (pick u (Refusal.refused 28 outer) Refusal.none))))) ≡ Refusal.none → u ≡ false
+room-of true q r s t u e = absurd (isnt e)
+room-of false true r s t u e = absurd (isnt e)
+room-of false false true s t u e = absurd (isnt e)
+room-of false false false true t u e = absurd (isnt e)
+room-of false false false false true u e = absurd (isnt e)
+room-of false false false false false true e = absurd (isnt e)
+room-of false false false false false false e = refl
+
+pub none-fits : (room : ℕ) (c : Case) → firstBroken every c (rules room) ≡ Refusal.none → c .records * 16 ≤ room
+unfolding stateCode roomOver
+none-fits room c e =
+    let k = sym (layout-none room c (none-layout room c e)) ∙ e in
+    ltb-false room (c .records * 16) (room-of (sourceClosed c) (savedOver c) (cursorUnset c) (spaceWrong c) (countOver c) (roomOver room c) k)
+
 pub clean-none : (room : ℕ) (c : Case) → Clean (c .session .opened) (c .seen) → c .records * 16 ≤ room → stateCode room c ≡ Refusal.none
 unfolding stateCode sourceClosed savedOver cursorUnset spaceWrong countOver roomOver
 clean-none room c h r =

@@ -31,10 +31,10 @@ use Rattle.scope.proofs.Rows.{Clean, armOf, row-clean, clean-row, perfo
 use Rattle.scope.proofs.Codes.{GoodJudged, judged-good, Refuses, not-so, so, broken-coded, stateCode, layout-none, clean-none, none-clean, GoodHeader, header-good}
 use Rattle.scope.proofs.Stands.{Shaped, shaped, row-shaped, standing, stands}
 
-not-coded : {A : Type 0} (k : ℕ) → Coded k → k ≡ 0 → A
+pub not-coded : {A : Type 0} (k : ℕ) → Coded k → k ≡ 0 → A
 not-coded k c e = absurd (subst Coded e c)
 
-end-state : (s : List ℕ) (st : State) (p : Place) → endAt s st p .state ≡ st
+pub end-state : (s : List ℕ) (st : State) (p : Place) → endAt s st p .state ≡ st
 unfolding endAt
 end-state s st (outside true) = refl
 end-state s st (outside false) = refl

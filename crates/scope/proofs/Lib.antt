@@ -8,6 +8,7 @@ pub mod Codes
 pub mod Buffers
 pub mod Stands
 pub mod Demand
+pub mod Whole
 pub mod Like
 pub mod Sessions
 pub mod Jobs

@@ -204,7 +204,7 @@ read-placed c s at code place e = placed (subst (λ r. ReadIn (length s) r) e (r
     placed : ReadIn (length s) (Read.no code place) → place ≤ length s
     placed (no k) = k
 
-data HeaderIn (len : ℕ) : Header → Type 0 where
+pub data HeaderIn (len : ℕ) : Header → Type 0 where
   good : {high : Bool} {next : ℕ} → HeaderIn len (Header.is high next)
   ill : {code place : ℕ} → place ≤ len → HeaderIn len (Header.no code place)
 
@@ -242,7 +242,7 @@ classed-in s (whole {k = k} g h) =
     pick-all (HeaderIn (length s)) (eqb (getD s 12 0) 0x31 && eqb (getD s 14 0) 0x31) (λ _. good) (λ _. ill l)
 classed-in s (broken k) = ill k
 
-header-in : (s : List ℕ) → HeaderIn (length s) (headerOf s)
+pub header-in : (s : List ℕ) → HeaderIn (length s) (headerOf s)
 unfolding headerOf
 header-in s =
     let l : 0 ≤ length s = omega arith in

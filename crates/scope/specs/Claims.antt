@@ -27,6 +27,17 @@ Demand3 =
     → ((verdictOf job work room .code ≡ 0) ↔ (comes (unfoldingOf startsGray job) atStart ≡ true))
     × (verdictOf job work room .code ≡ 0 → verdictOf job work room .performed ≡ length (unfoldingOf startsGray job))
 
+-- demand 3 without a premise on the job: it passes exactly if it keeps the layout rules, has room for its list, and the plain arm comes to its end with no
+-- rule broken
+abbrev pub PassesExactly : Type 0
+PassesExactly =
+    (job : List ℕ) (work room : ℕ) → 16384 ≤ work
+    → (verdictOf job work room .code ≡ 0) ↔ (Keeps job × HasRoom job room × (comes (unfoldingOf startsGray job) atStart ≡ true))
+
+-- the position of a verdict is a place of the job, or its end
+abbrev pub Within : Type 0
+Within = (job : List ℕ) (work room : ℕ) → verdictOf job work room .position ≤ length job
+
 -- the state between sessions, after one, with so many operators performed, so many records, and these operators before
 abbrev pub afterOne : ℕ → ℕ → ℕ → List Operator → State
 afterOne at performed records past = record { at = at; place = outside true; performed = performed; records = records; past = past }
