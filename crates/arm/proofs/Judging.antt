@@ -13,7 +13,7 @@ use Rattle.scope.specs.Reading.{Operator, Read}
 use Rattle.scope.specs.Arm.{actOf}
 use Rattle.scope.specs.Motif.{Own, Motif, Held, Picture, phaseIn, Inside, Judged, valid, faulty, contextIn, onCall, onDeed, onEnd, onRead, motifStep, judgedInside, motifFrom, motifOf}
 use Rattle.scope.proofs.Ends.{pick-all, GoodRead, read-good}
-use Rattle.arm.specs.Balance.{OwnLevel}
+use Rattle.summary.specs.Balance.{OwnLevel}
 use Rattle.arm.proofs.Levels.{own-does, own-calls, saved-depth, may-saved, drawn-pop}
 
 -- a judgement that, where it is valid, has balanced operators

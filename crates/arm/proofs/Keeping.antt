@@ -15,12 +15,13 @@ use Rattle.scope.specs.Arm.{Effect, push, pop, put, risen, done, clash, step, i
 use Rattle.arm.specs.declared.page.Act.{Act}
 use Rattle.arm.specs.declared.page.Page.{Page}
 use Rattle.arm.specs.declared.seen.Seen.{Seen}
-use Rattle.arm.specs.declared.summary.Summary.{Summary}
+use Rattle.summary.specs.declared.summary.Summary.{Summary}
 use Rattle.arm.specs.declared.moved.Moved.the-variants.{To, No}
 use Rattle.arm.specs.Views.{pageAs, actAs}
 use Rattle.arm.specs.Codes.{codeOf}
 use Rattle.arm.specs.Holds.{PageHolds, Exact, Holds, Moves, moves-to, moves-no}
-use Rattle.arm.specs.Sums.{fresh, Ends, endsAt, Sums}
+use Rattle.summary.specs.Sums.{fresh, Ends, Sums}
+use Rattle.arm.specs.Runs.{endsAt}
 use Rattle.arm.proofs.Clean.{clean-code}
 use Rattle.arm.proofs.Rows.{fresh-count}
 use Rattle.arm.proofs.Ways.{rise, mixed, inst, or-false, walk-both, fresh-saved, none-zipped, within, page-eq}

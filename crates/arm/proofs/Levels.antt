@@ -2,10 +2,10 @@
 use Prim.Native.Nat.{ℕ, zero, suc, _+_, _-_, _<_}
 use native.Mathlib.Omega.{arith}
 use native.Mathlib.Nat.{suc-add, zero-add}
-use mathlib.Core.Path.{_≡_, refl, sym, ap, _∙_}
+use mathlib.Core.Path.{_≡_, refl, sym, ap}
 use mathlib.Core.Bool.{Bool, true, false}
 use mathlib.Core.List.{List, [], _∷_, _++_}
-use lib.Dec.{eqb, leb}
+use lib.Dec.{eqb}
 use borrow.Author.Tests.{eqb-true, leb-true}
 use Rattle.scope.specs.Choice.{pick, among, same}
 use Rattle.scope.specs.Item.{Attribute}
@@ -13,7 +13,7 @@ use Rattle.scope.specs.Attributes.{valueIn}
 use Rattle.scope.specs.Arm.{Effect, push, pop, put, kept, to, effectOf, Act, idle, Stroke}
 use Rattle.scope.specs.Order.{drawn}
 use Rattle.scope.specs.Motif.{Own, does, calls, Motif, flat, unfolded, savedAfter}
-use Rattle.arm.specs.Balance.{mayDo, depthAfter, Level, Balanced, OwnLevel, HeldBalanced}
+use Rattle.summary.specs.Balance.{mayDo, depthAfter, Level, Balanced, OwnLevel, HeldBalanced}
 
 may-above : (e : Effect) (d k : ℕ) → mayDo e d → mayDo e (d + k)
 may-above push d k m = tt

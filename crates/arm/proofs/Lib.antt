@@ -1,10 +1,9 @@
-pub mod Rows
-pub mod Ways
-pub mod Levels
-pub mod Stacks
 pub mod Clean
-pub mod Keeping
-pub mod Packs
-pub mod Obeyed
-pub mod Rules
 pub mod Judging
+pub mod Keeping
+pub mod Levels
+pub mod Obeyed
+pub mod Rows
+pub mod Rules
+pub mod Stacks
+pub mod Ways

@@ -6,7 +6,7 @@ use mathlib.Core.Bool.{Bool}
 use mathlib.Core.List.{List, [], _∷_, _++_, append-assoc, append-nil}
 use lib.ListN.{length}
 use Rattle.scope.specs.Arm.{Act, idle, Seen, step, Stroke, walk, from}
-use Rattle.arm.specs.Sums.{fresh}
+use Rattle.summary.specs.Sums.{fresh}
 use Rattle.scope.specs.Motif.{Own, does, calls, flat}
 
 pub walk-append : (xs ys : List Stroke) (w : Seen) → walk (xs ++ ys) w ≡ walk ys (walk xs w)

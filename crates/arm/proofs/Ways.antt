@@ -7,8 +7,8 @@ use mathlib.Core.List.{List, [], _∷_, _++_}
 use lib.ListN.{length, length-append}
 use Rattle.scope.specs.Choice.{pick}
 use Rattle.scope.specs.Arm.{Saved, Page, Mark, kept, to, marked, restored, done, Effect, push, pop, put, clash, risen, Act, Seen, step, Stroke, walk, from}
-use Rattle.arm.specs.Balance.{mayDo, depthAfter, Level, Balanced}
-use Rattle.arm.specs.Sums.{fresh}
+use Rattle.summary.specs.Balance.{mayDo, depthAfter, Level, Balanced}
+use Rattle.summary.specs.Sums.{fresh}
 
 pub page-eq : {p q : Page} → p .cursor ≡ q .cursor → p .gray ≡ q .gray → p .saved ≡ q .saved → p ≡ q
 page-eq a b c i = record { cursor = a i; gray = b i; saved = c i }

@@ -1,6 +1,5 @@
-pub mod Views
+pub mod Alone
 pub mod Codes
 pub mod Holds
-pub mod Balance
-pub mod Sums
-pub mod Alone
+pub mod Runs
+pub mod Views

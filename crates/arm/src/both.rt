@@ -6,13 +6,14 @@ ghost use Rattle.scope.specs.Arm.{idle, Stroke};
 ghost use Rattle.scope.specs.Arm.{Seen as Arm·Seen};
 ghost use Rattle.arm.specs.Holds.{Holds};
 ghost use Rattle.arm.specs.Views.{actAs};
-ghost use Rattle.arm.specs.Balance.{Balanced};
-ghost use Rattle.arm.specs.Sums.{fresh, Ends, Sums, Runs};
+ghost use Rattle.summary.specs.Balance.{Balanced};
+ghost use Rattle.summary.specs.Sums.{fresh, Ends, Sums};
+ghost use Rattle.arm.specs.Runs.{Runs};
 use crate::page::Act;
 use crate::page::Page;
 use crate::seen::Seen;
-use crate::summary::Ending;
-use crate::summary::Summary;
+use summary::Ending;
+use summary::Summary;
 
 pub struct Both {
     pub a: Seen,

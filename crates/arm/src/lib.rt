@@ -1,7 +1,6 @@
-// The arm in a page: the page's state, what is seen on the way, and what a held motif comes to, so that its call is judged without unfolding it.
+// The arm in a page: its state, what is seen on the way, and calls judged from what their motif comes to.
 pub mod both;
-mod limits;
+pub mod limits;
 pub mod moved;
 pub mod page;
 pub mod seen;
-pub mod summary;

@@ -7,12 +7,12 @@ ghost use Rattle.scope.specs.Arm.{walk, from, idle, Stroke};
 ghost use Rattle.scope.specs.Arm.{Page as Arm·Page};
 ghost use Rattle.arm.specs.Views.{actAs, keeping};
 ghost use Rattle.arm.specs.Holds.{PageHolds, Holds, Moves};
-ghost use Rattle.arm.specs.Sums.{Sums};
+ghost use Rattle.summary.specs.Sums.{Sums};
 use crate::page::Act;
 use crate::page::Page;
 use crate::seen::Seen;
 use crate::seen::lacks;
-use crate::summary::Summary;
+use summary::Summary;
 
 // The page after it and the number performed, or the code of the refusal.
 pub enum Moved {

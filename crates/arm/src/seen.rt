@@ -8,14 +8,15 @@ ghost use Rattle.scope.specs.Arm.{Seen as Arm·Seen};
 ghost use Rattle.arm.specs.Views.{pageAs, spaceAs, actAs};
 ghost use Rattle.arm.specs.Codes.{codeOf};
 ghost use Rattle.arm.specs.Holds.{Holds};
-ghost use Rattle.arm.specs.Sums.{endsAt, Sums};
+ghost use Rattle.summary.specs.Sums.{Sums};
+ghost use Rattle.arm.specs.Runs.{endsAt};
 use crate::limits::add;
 use crate::limits::higher;
 use crate::page::Act;
 use crate::page::Page;
 use crate::page::Space;
-use crate::summary::Ending;
-use crate::summary::Summary;
+use summary::Ending;
+use summary::Summary;
 
 // The page; the operators performed (past 1,000,000 always 1,000,001); the most states saved right after a PushGS (past 24 always 25); whether an open source
 // was needed, a cursor needed and not set, a colour space needed and another set.

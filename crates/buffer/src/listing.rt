@@ -5,7 +5,7 @@ ghost use Prim.Native.Nat.{suc, _+_, _*_, _/_, _%_, _≤_, _<_};
 ghost use lib.Dec.{leb};
 ghost use lib.ListN.{length};
 ghost use Rattle.scope.specs.Verdict.{attributeRecord, attributeRecords};
-ghost use Rattle.wire.specs.Rows.{Sized, rowAt, rowsOf};
+ghost use Rattle.items.specs.Rows.{Sized, rowAt, rowsOf};
 ghost use Rattle.buffer.specs.Over.{over, joinedAt};
 ghost use Rattle.buffer.specs.Listed.{BytesIn, lowOf, lows, roomFor, sixteen, recordsFor};
 use crate::copying::copy;

@@ -1,7 +1,7 @@
 -- The three demands, of every answer that meets the promise of `check`.
 -- Assumes nothing.
 use Prim.Native.Nat.{ℕ, _+_, _≤_}
-use mathlib.Core.Path.{_≡_, refl, sym, ap, _∙_, subst, subst⁻¹}
+use mathlib.Core.Path.{_≡_, sym, ap, _∙_, subst, subst⁻¹}
 use mathlib.Core.Logic.{_↔_}
 use mathlib.Core.Bool.{Bool, true}
 use mathlib.Core.List.{List, _++_}
@@ -18,8 +18,8 @@ use Rattle.scope.proofs.Demand.{demand-3}
 use Rattle.scope.proofs.Whole.{verdict-placed, passes-exactly}
 use Rattle.scope.proofs.Sessions.{isolated}
 use Rattle.scope.proofs.Buffers.{no-motif-left, zeroed}
-use Rattle.checker.specs.Views.{verdictAs}
-use Rattle.checker.specs.declared.verdict.Verdict.{Verdict}
+use Rattle.state.specs.Views.{verdictAs}
+use Rattle.state.specs.declared.verdict.Verdict.{Verdict}
 use Rattle.checker.proofs.Entering.{Promised, lets-in}
 
 -- two answers whose five numbers agree are one

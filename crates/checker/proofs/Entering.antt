@@ -1,19 +1,18 @@
 -- The entry: 29, 1, then the header, then the items; and both buffers afterwards.
 -- Assumes nothing.
 use Prim.Native.Nat.{ℕ, _≤_, _<_}
-use mathlib.Core.Path.{_≡_, refl, sym, ap, _∙_, subst, subst⁻¹}
-use mathlib.Core.Bool.{Bool, true, false}
+use mathlib.Core.Path.{_≡_, refl, sym, ap, _∙_, subst}
+use mathlib.Core.Bool.{Bool}
 use mathlib.Core.List.{List, [], _++_}
 use borrow.Author.Tests.{lt-ltb, le-ltb}
 use lib.ListN.{length, drop}
-use Rattle.scope.specs.Choice.{pick}
 use Rattle.scope.specs.Header.{Header, headerOf}
 use Rattle.scope.specs.Judge.{Outcome, refusedAt, outer, starting, judgedFrom}
 use Rattle.scope.specs.Verdict as verdict
-use Rattle.scope.specs.Verdict.{startsGray, every, Entry, refused, admitted, entryOf, judgedAfter, outcomeAt, outcomeOf, verdictOf, listOf, listAfter, clearedBy, workAfter}
-use Rattle.checker.specs.Views.{verdictAs}
-use Rattle.checker.specs.Standing.{Listed}
-use Rattle.checker.specs.declared.verdict.Verdict.{Verdict}
+use Rattle.scope.specs.Verdict.{startsGray, every, refused, admitted, entryOf, judgedAfter, outcomeAt, outcomeOf, verdictOf, listOf, listAfter, clearedBy, workAfter}
+use Rattle.state.specs.Views.{verdictAs}
+use Rattle.state.specs.Standing.{Listed}
+use Rattle.state.specs.declared.verdict.Verdict.{Verdict}
 
 pub short-work : (n w : ℕ) → w < 16384 → entryOf n w ≡ refused 29 0
 unfolding entryOf

@@ -1,17 +1,17 @@
 // The one public entry, and its C export.
 ghost use mathlib.Core.Path.{_≡_};
-ghost use Prim.Native.Nat.{ℕ, _≤_};
+ghost use Prim.Native.Nat.{_≤_};
 ghost use lib.ListN.{length};
-ghost use Rattle.scope.specs.Verdict.{startsGray, every, verdictOf, listAfter, workAfter, judgedAfter};
+ghost use Rattle.scope.specs.Verdict.{every, verdictOf, listAfter, workAfter, judgedAfter};
 ghost use Rattle.scope.specs.Verdict as verdict;
 ghost use Rattle.scope.specs.Header.{headerOf};
-ghost use Rattle.checker.specs.Views.{verdictAs};
-ghost use Rattle.checker.specs.Standing.{Lasts, Listed};
-use crate::stepping::judge_items;
-use crate::verdict::OUTER;
-use crate::verdict::Verdict;
-use crate::verdict::told;
-use wire::Header;
+ghost use Rattle.state.specs.Views.{verdictAs};
+ghost use Rattle.state.specs.Standing.{Lasts, Listed};
+use header::Header;
+use state::OUTER;
+use state::Verdict;
+use state::told;
+use stepping::judge_items;
 
 // A job that is not too long, with a work buffer that is long enough: its header, then its items.
 fn judge_job(job: &[u8], work: &mut [u8], list: &mut [u8]) -> Verdict
@@ -20,7 +20,7 @@ fn judge_job(job: &[u8], work: &mut [u8], list: &mut [u8]) -> Verdict
     ensures { λ r. ⌜ (verdictAs r ≡ verdict.told (judgedAfter every (now (job .entry)) (length (now (list .entry))) (headerOf (now (job .entry)))))
         × Listed (now (list .entry)) (judgedAfter every (now (job .entry)) (length (now (list .entry))) (headerOf (now (job .entry))) .state .past) (now (list .exit)) ⌝ }
 {
-    match wire::header_of(job) {
+    match header::header_of(job) {
         Header::No(code, place) => told(code, place, OUTER, 0, 0),
         Header::Is(high, next) => judge_items(job, high, false, next, work, list),
     }

@@ -4,7 +4,7 @@ use crate::names;
 use crate::out::number;
 use crate::out::say;
 use crate::values;
-use wire::Scan;
+use items::Scan;
 
 // The attribute's number, the value's type, how many elements it has and where they start, the operator's tag.
 pub struct Blamed {
@@ -19,7 +19,7 @@ pub struct Blamed {
 pub fn read_on(s: &[u8], at: usize) -> Blamed {
     let mut attrs = [0usize; 80];
     let high = byte_at(s, 0) == 0x28;
-    match wire::scan_at(s, at, high, &mut attrs) {
+    match items::scan_at(s, at, high, &mut attrs) {
         Scan::Tagged(tag, _, _) => Blamed {
             number: attrs[0],
             kind: byte_at(s, at),

@@ -6,7 +6,7 @@ use crate::inside::say_name;
 use crate::listing;
 use crate::out::number;
 use crate::out::say;
-use checker::Verdict;
+use state::Verdict;
 
 const OUTER: u32 = 4_294_967_295;
 

@@ -12,11 +12,11 @@ use borrow.Author.Tests.{le-leb}
 use Rattle.scope.specs.Choice.{same}
 use Rattle.scope.specs.Motif.{Motif, Held, heldAs, flat, unfolded}
 use Rattle.scope.proofs.Ends.{pick-all}
-use Rattle.arm.specs.Balance.{Balanced, Level}
-use Rattle.arm.specs.Sums.{SumsAs}
+use Rattle.summary.specs.Balance.{Balanced, Level}
+use Rattle.summary.specs.Sums.{SumsAs}
 use Rattle.motif.specs.Held.{Named, Keeps, keeps-none, keeps-more, Finds, finds-at, finds-none}
 use Rattle.motif.specs.Search.{isName, findIn}
-use Rattle.motif.specs.declared.names.Where.{Where}
+use Rattle.motif.specs.declared.held.Where.{Where}
 
 -- a name that lies within the job, compared
 is-name : {job : List ℕ} {at long : ℕ} {kept : List ℕ} (name : List ℕ) → Named job at long kept → isName job at long name ≡ same kept name

@@ -1,4 +1,3 @@
-pub mod Matches
 pub mod Keeping
-pub mod Operators
+pub mod Matches
 pub mod Within

@@ -14,8 +14,8 @@ use borrow.Author.Tests.{le-leb, lt-leb, leb-true, leb-false}
 use Rattle.scope.specs.Choice.{pick, same}
 use Rattle.scope.proofs.Ends.{pick-all}
 use Rattle.motif.specs.Search.{isName, findIn, Row}
-use Rattle.motif.specs.declared.names.Where.{Where}
-use Rattle.motif.specs.declared.names.Where.the-variants.{At, Nowhere}
+use Rattle.motif.specs.declared.held.Where.{Where}
+use Rattle.motif.specs.declared.held.Where.the-variants.{At, Nowhere}
 
 -- rows of other lengths are not the same
 pub same-length : (xs ys : List ℕ) → length xs ≢ length ys → same xs ys ≡ false

@@ -1,15 +1,15 @@
 -- How the code keeps the held motifs: for each a row of three numbers (place and length of its name in the job, how deep it nests) and its summary, one
 -- number in a column of its own. Row 0 is the first motif of the session.
 -- Assumes nothing.
-use Prim.Native.Nat.{ℕ, suc, _+_, _*_, _≤_, _<_}
+use Prim.Native.Nat.{ℕ, suc, _+_, _*_, _≤_}
 use mathlib.Core.Path.{_≡_}
 use mathlib.Core.List.{List, [], _∷_}
 use lib.ListN.{length, getD, take, drop}
 use Rattle.scope.specs.Motif.{Motif, heldAs, flat, unfolded}
 use Rattle.scope.specs.Motif.{Held}
-use Rattle.arm.specs.Sums.{SumsAs}
-use Rattle.motif.specs.declared.names.Where.{Where}
-use Rattle.motif.specs.declared.names.Where.the-variants.{At, Nowhere}
+use Rattle.summary.specs.Sums.{SumsAs}
+use Rattle.motif.specs.declared.held.Where.{Where}
+use Rattle.motif.specs.declared.held.Where.the-variants.{At, Nowhere}
 
 -- a name is so many bytes of the job from a place on, and they lie within it
 pub record Named (job : List ℕ) (first count : ℕ) (name : List ℕ) : Type 0 where

@@ -1,4 +1,2 @@
-pub mod Acts
-pub mod Pictures
-pub mod Search
 pub mod Held
+pub mod Search

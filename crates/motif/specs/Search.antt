@@ -6,8 +6,8 @@ use mathlib.Core.List.{List}
 use lib.ListN.{length, getD, take, drop}
 use lib.Dec.{leb, ltb}
 use Rattle.scope.specs.Choice.{pick, same}
-use Rattle.motif.specs.declared.names.Where.{Where}
-use Rattle.motif.specs.declared.names.Where.the-variants.{At, Nowhere}
+use Rattle.motif.specs.declared.held.Where.{Where}
+use Rattle.motif.specs.declared.held.Where.the-variants.{At, Nowhere}
 
 -- the bytes of the job from a place on are a name; none are that do not lie within the job
 unfoldable pub isName : (job : List ℕ) (at long : ℕ) (name : List ℕ) → Bool

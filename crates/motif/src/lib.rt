@@ -1,14 +1,7 @@
-// Motifs: what is held, and how one is judged when EndStream holds it.
-mod act;
-mod names;
+// The held motifs, by name.
+mod held;
 mod part;
-mod picture;
 
-pub use act::act_of;
-pub use act::is_plain;
-pub use act::needs_cursor;
-pub use names::Where;
-pub use names::find;
+pub use held::Where;
+pub use held::find;
 pub use part::name_in;
-pub use picture::Picture;
-pub use picture::picture_after;

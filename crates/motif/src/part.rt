@@ -3,7 +3,7 @@ ghost use mathlib.Core.Path.{_≡_};
 ghost use mathlib.Core.List.{List};
 ghost use Prim.Native.Nat.{ℕ, _+_, _≤_};
 ghost use lib.ListN.{length, take, drop};
-ghost use Rattle.wire.specs.Rows.{rowsOf, Sized};
+ghost use Rattle.items.specs.Rows.{rowsOf, Sized};
 ghost use Rattle.scope.specs.Attributes.{bytesIn};
 use rules::Part;
 

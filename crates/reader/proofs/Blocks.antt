@@ -1,7 +1,7 @@
 -- Embedded data, case by case.
 -- Assumes nothing.
 use Prim.Native.Nat.{ℕ, _+_, _-_, _≤_, _<_}
-use mathlib.Core.Path.{_≡_, refl}
+use mathlib.Core.Path.{_≡_}
 use mathlib.Core.Bool.{Bool}
 use mathlib.Core.List.{List}
 use native.Mathlib.Omega.{arith}
@@ -9,7 +9,7 @@ use borrow.Author.Tests.{le-leb, lt-leb, eq-eqb, ne-eqb}
 use lib.ListN.{length}
 use Rattle.scope.specs.Number.{number}
 use Rattle.scope.specs.Data.{at, no, blockOf}
-use Rattle.reader.specs.Views.{Placed}
+use Rattle.reader.specs.Reads.{Placed}
 use Rattle.reader.specs.declared.data.Found.{Found}
 use Rattle.reader.specs.declared.data.Found.the-variants as Code
 

@@ -1,25 +1,24 @@
 -- A line by its end point with nothing between its items, in a page: how it is read.
 -- Assumes nothing.
-use Prim.Native.Nat.{ℕ, suc, _+_, _*_, _≤_, _<_}
+use Prim.Native.Nat.{ℕ, _+_, _*_, _<_}
 use mathlib.Core.Path.{_≡_, refl, sym, ap, _∙_}
 use mathlib.Core.Bool.{Bool, true, false}
 use mathlib.Core.List.{List, [], _∷_}
 use native.Mathlib.Omega.{arith}
-use native.Mathlib.Numerals.{add-one}
 use borrow.Author.Tests.{le-leb, lt-leb}
 use lib.ListN.{length, getD}
 use Rattle.scope.specs.Choice.{among, between}
 use Rattle.scope.specs.Iterate.{onward}
-use Rattle.scope.specs.Item.{Attribute, Kind, plain, widthOf, kindOf, numbersAt, valueOf, Pair, numbered, numberAt, pairOf, pairAt, Scan, white, onPair, scanFrom, scanAt}
+use Rattle.scope.specs.Item.{Attribute, plain, widthOf, kindOf, valueOf, Pair, numbered, numberAt, pairOf, pairAt, Scan, white, onPair, scanFrom, scanAt}
 use Rattle.scope.specs.Names.{EndPoint}
 use Rattle.scope.specs.Table.{table, lineIn, ruleIn}
 use Rattle.scope.specs.Attributes.{has, typeTaken, inRange, attributeCode, oneByOne, formCode}
 use Rattle.scope.specs.Data.{dueOf}
 use Rattle.scope.specs.Order.{in-page, drawn, mayCome, rowsFit}
 use Rattle.scope.specs.Reading.{Context, Read, withData, asWhole, withAttributes, withLine, scanned, operatorAt}
-use Rattle.wire.proofs.Digits.{one-digit}
-use Rattle.wire.proofs.Pairs.{numbers-all, scan-tag, black-item}
-use Rattle.wire.proofs.Spaces.{after-black}
+use Rattle.number.proofs.Digits.{one-digit}
+use Rattle.items.proofs.Pairs.{numbers-all, scan-tag, black-item}
+use Rattle.number.proofs.Spaces.{after-black}
 use Rattle.reader.specs.EndPoint.{lineOf, Point, point-ubyte, point-uint16, point-sint16, point-none, Drawn, drawn-path, drawn-rel, Ends, Line}
 
 -- a point's tag: two numbers, no white space and no operator

@@ -1,3 +1,3 @@
 pub mod Blocks
-pub mod Lines
 pub mod EndPoint
+pub mod Lines

@@ -1,3 +1,2 @@
-pub mod Views
-pub mod Reads
 pub mod EndPoint
+pub mod Reads

@@ -3,7 +3,7 @@
 use Prim.Native.Nat.{ℕ, suc, _+_, _≤_, _<_}
 use mathlib.Core.Bool.{not, _&&_}
 use mathlib.Core.List.{List}
-use Rattle.wire.specs.Rows.{rowsOf}
+use Rattle.items.specs.Rows.{rowsOf}
 use Rattle.rules.specs.Lines.{isLine}
 use Rattle.rules.specs.Judging.{lineFault}
 use Rattle.scope.specs.Choice.{pick}
@@ -12,11 +12,13 @@ use Rattle.scope.specs.Table.{Line}
 use Rattle.scope.specs.Attributes.{Fault, bad}
 use Rattle.scope.specs.Order.{mayCome}
 use Rattle.scope.specs.Data.{Found, no, blockAt}
+use Rattle.scope.specs.Data as Def-data
 use Rattle.scope.specs.Reading as Def
+use Rattle.reader.specs.declared.data.Found as Code-found
 use Rattle.reader.specs.declared.reading.Context.{Context}
 use Rattle.reader.specs.declared.reading.Operator as Code-operator
 use Rattle.reader.specs.declared.reading.Read as Code-read
-use Rattle.reader.specs.Views.{phaseAs}
+use Rattle.order.specs.Views.{phaseAs}
 
 -- what reading has to know
 abbrev pub contextAs : Context → Def.Context
@@ -56,3 +58,13 @@ Within len start (Code-read.the-variants.Operator o) =
     (start ≤ o .at) × (o .at < o .next) × (o .next ≤ len) × (o .first + o .length ≤ len) × (o .count ≤ 16)
 Within len start Code-read.the-variants.Ended = Unit {0}
 Within len start (Code-read.the-variants.No code place) = Unit {0}
+
+-- where the data is, or a refusal
+abbrev pub foundAs : Code-found.Found → Def-data.Found
+foundAs (Code-found.the-variants.At first) = Def-data.at first
+foundAs (Code-found.the-variants.No code place) = Def-data.no code place
+
+-- data that was found begins past p and ends within the bytes
+abbrev pub Placed : (len p due : ℕ) → Code-found.Found → Type 0
+Placed len p due (Code-found.the-variants.At first) = (p < first) × (first + due ≤ len)
+Placed len p due (Code-found.the-variants.No code place) = Unit {0}

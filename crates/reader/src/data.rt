@@ -1,11 +1,11 @@
 // Embedded data: where it is, or why there is none.
 ghost use mathlib.Core.Path.{_≡_};
-ghost use Prim.Native.Nat.{ℕ, _+_, _^_, _≤_, _<_};
+ghost use Prim.Native.Nat.{_+_, _≤_, _<_};
 ghost use lib.ListN.{length};
-ghost use Rattle.wire.specs.Widths.{bytesOf};
+ghost use Rattle.number.specs.Widths.{bytesOf};
 ghost use Rattle.scope.specs.Data.{blockOf, blockAt};
-ghost use Rattle.reader.specs.Views.{foundAs, Placed};
-use wire::Width;
+ghost use Rattle.reader.specs.Reads.{foundAs, Placed};
+use number::Width;
 
 // The place of the first data byte, or a code and a place.
 pub enum Found {
@@ -23,7 +23,7 @@ fn block_of(s: &[u8], high: bool, op: usize, due: usize, p: usize, n: usize, wid
     if s.len() < first {
         return Found::No(5, p);
     }
-    let told = wire::number_at(s, p + 1, width, high) as usize;
+    let told = number::number_at(s, p + 1, width, high) as usize;
     if told != due {
         return Found::No(18, op);
     }

@@ -3,23 +3,23 @@ ghost use mathlib.Core.Path.{_≡_};
 ghost use Prim.Native.Nat.{_<_};
 ghost use mathlib.Core.Bool.{_&&_, not};
 ghost use lib.ListN.{length};
-ghost use Rattle.wire.specs.Rows.{rowsOf, Sized};
+ghost use Rattle.items.specs.Rows.{rowsOf, Sized};
 ghost use Rattle.scope.specs.Order.{imageOf};
 ghost use Rattle.scope.specs.Reading.{operatorAt};
 ghost use Rattle.scope.specs.Table.{table, lineIn};
 ghost use Rattle.rules.specs.Judging.{faultAs};
-ghost use Rattle.reader.specs.Views.{phaseAs, imageAs, foundAs, Placed};
-ghost use Rattle.reader.specs.Reads.{contextAs, readAs, dataAt, lineAt, Within};
+ghost use Rattle.order.specs.Views.{phaseAs, imageAs};
+ghost use Rattle.reader.specs.Reads.{foundAs, Placed, contextAs, readAs, dataAt, lineAt, Within};
 use crate::data::Found;
 use crate::data::block_at;
-use crate::due::Due;
-use crate::due::due_of;
-use crate::due::rows_fit;
-use crate::order::Image;
-use crate::order::Phase;
-use crate::order::may_come;
+use items::Scan;
+use order::Due;
+use order::Image;
+use order::Phase;
+use order::due_of;
+use order::may_come;
+use order::rows_fit;
 use rules::Fault;
-use wire::Scan;
 
 // What reading has to know: the byte order, the phase, whether the source is open, and whether 17 is judged.
 pub struct Context {
@@ -83,7 +83,7 @@ fn data_at(c: Context, s: &[u8], at: usize, due: usize) -> Found
     if lacks(c.asked, c.opened) {
         return Found::No(17, at);
     }
-    let p = wire::after_white(s, at + 1);
+    let p = number::after_white(s, at + 1);
     block_at(s, c.high, at, due, p)
 }
 
@@ -107,7 +107,7 @@ pub fn operator_at(c: Context, s: &[u8], start: usize, attrs: &mut [usize; 80]) 
     ensures { λ r. ⌜ (length (now (attrs .entry)) ≡ 80 → readAs r (now (attrs .exit)) ≡ operatorAt (contextAs c) (now (s .entry)) start) ⌝ }
     ensures { λ r. ⌜ Within (length (now (s .entry))) start r ⌝ }
 {
-    match wire::scan_at(s, start, c.high, attrs) {
+    match items::scan_at(s, start, c.high, attrs) {
         Scan::Ended => Read::Ended,
         Scan::No(code, place) => Read::No(code, place),
         Scan::Tagged(tag, many, at) => {

@@ -12,7 +12,7 @@ use Rattle.scope.specs.Names.{EndPoint, NumberOfPoints, PointType}
 use Rattle.scope.specs.Item.{Attribute}
 use Rattle.scope.specs.Table as scope
 use Rattle.scope.specs.Attributes.{has, typeTaken, inRange, Fault, fine, bad, attributeCode, oneByOne, allThere, howMany, pairCode, formCode}
-use Rattle.wire.specs.Rows.{rowAt, rowsFrom, rowsOf}
+use Rattle.items.specs.Rows.{rowAt, rowsFrom, rowsOf}
 use Rattle.rules.specs.Lines.{upToNo, ruleOf, isKnown, formAs, mustAs}
 use Rattle.rules.specs.Judging.{ruledIn, allIn, manyIn, asUsual, Stands, Led, thenWhole, lineFault}
 use Rattle.rules.specs.declared.table.Row.{Row}

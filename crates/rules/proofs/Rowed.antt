@@ -12,7 +12,7 @@ use borrow.Author.Tests.{lt-ltb, eq-eqb}
 use Rattle.scope.specs.Choice.{pick}
 use Rattle.scope.specs.Item.{Attribute}
 use Rattle.scope.specs.Attributes.{has, firstOf, valueIn, bytesIn}
-use Rattle.wire.specs.Rows.{rowAt, rowsFrom, rowsOf}
+use Rattle.items.specs.Rows.{rowAt, rowsFrom, rowsOf}
 use Rattle.rules.specs.Places.{placeFrom, placeOf}
 
 module _ (a : List ℕ) where

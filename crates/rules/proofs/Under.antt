@@ -13,7 +13,7 @@ use Rattle.scope.specs.Item.{Attribute}
 use Rattle.scope.specs.Table as scope
 use Rattle.scope.specs.Attributes.{Fault, fine, bad, attributeCode, oneByOne, formCode}
 use Rattle.scope.specs.Reading.{Context, Read, no, asWhole, withAttributes}
-use Rattle.wire.specs.Rows.{rowAt, rowsFrom, rowsOf}
+use Rattle.items.specs.Rows.{rowAt, rowsFrom, rowsOf}
 use Rattle.rules.specs.Judging.{thenWhole, lineFault}
 use Rattle.rules.proofs.Tested.{row-small}
 

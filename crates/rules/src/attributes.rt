@@ -7,9 +7,9 @@ ghost use lib.Dec.{eqb};
 ghost use Rattle.scope.specs.Choice.{pick};
 ghost use Rattle.scope.specs.Number.{number as numberIn};
 ghost use Rattle.scope.specs.Attributes.{has as hasIn, valueIn, bytesIn};
-ghost use Rattle.wire.specs.Rows.{rowsOf, Sized};
+ghost use Rattle.items.specs.Rows.{rowsOf, Sized};
 ghost use Rattle.rules.specs.Places.{placeOf};
-use wire::Width;
+use number::Width;
 
 // A part of the bytes: where it starts, and how long it is.
 pub struct Part {
@@ -54,9 +54,9 @@ pub fn first_of(s: &[u8], high: bool, tag: usize, first: usize) -> u32
     ensures { λ r. ⌜ r < 65536 ⌝ }
 {
     if tag == 0xc0 {
-        return wire::number_at(s, first, Width::One, high);
+        return number::number_at(s, first, Width::One, high);
     }
-    wire::number_at(s, first, Width::Two, high)
+    number::number_at(s, first, Width::Two, high)
 }
 
 // The value of the attribute of this number; 0 where it is not there.

@@ -8,7 +8,7 @@ ghost use Rattle.scope.specs.Choice.{pick};
 ghost use Rattle.scope.specs.Names.{EndPoint, NumberOfPoints, PointType};
 ghost use Rattle.scope.specs.Table.{Rule as RuleIn, table, lineIn};
 ghost use Rattle.scope.specs.Attributes.{fine, bad, has as hasIn, attributeCode, oneByOne, choiceCode, pairCode, formCode};
-ghost use Rattle.wire.specs.Rows.{rowAt, rowsOf, Sized};
+ghost use Rattle.items.specs.Rows.{rowAt, rowsOf, Sized};
 ghost use Rattle.rules.specs.Lines.{upToNo, isKnown, formAs, mustAs};
 ghost use Rattle.rules.specs.Judging.{attributeAs, ruledIn, Stands, Led, asUsual, faultAs, lineFault};
 use crate::attributes::at_most;

@@ -4,7 +4,7 @@ ghost use Prim.Native.Nat.{_≤_, _<_};
 ghost use lib.ListN.{take};
 ghost use Rattle.scope.specs.Choice.{pick, among};
 ghost use Rattle.scope.specs.Attributes.{has as hasIn};
-ghost use Rattle.wire.specs.Rows.{rowsOf, Sized};
+ghost use Rattle.items.specs.Rows.{rowsOf, Sized};
 ghost use Rattle.rules.specs.Lines.{upToNo};
 ghost use Rattle.rules.specs.Judging.{allIn, manyIn};
 use crate::attributes::has;

@@ -10,7 +10,7 @@ ghost use Rattle.rules.specs.Lines.{takesAs};
 ghost use Rattle.rules.specs.Judging.{attributeAs};
 use crate::attributes::first_of;
 use crate::table::Kind;
-use wire::Width;
+use number::Width;
 
 // An attribute as the lent array has it.
 pub struct Attribute {
@@ -79,7 +79,7 @@ fn second_number(s: &[u8], high: bool, a: Attribute) -> usize
     if s.len() <= first {
         return 0;
     }
-    wire::number_at(s, first + 2, Width::Two, high) as usize
+    number::number_at(s, first + 2, Width::Two, high) as usize
 }
 
 // Both numbers are at least this.

@@ -1,34 +1,35 @@
 -- One operator of a motif: where the code stands after it, the definition stands.
 -- Assumes nothing.
-use Prim.Native.Nat.{ℕ, zero, suc, _+_, _-_, _*_, _≤_, _<_, max}
+use Prim.Native.Nat.{ℕ, suc, _+_, _-_, _*_, _≤_, _<_, max}
 use mathlib.Core.Path.{_≡_, refl, sym, ap, _∙_, subst, subst⁻¹}
 use mathlib.Core.Bool.{Bool, true, false}
 use mathlib.Core.List.{List, [], _∷_, _++_}
 use native.Mathlib.Omega.{arith}
 use native.Mathlib.Numerals.{add-one}
-use borrow.Author.Tests.{le-leb, lt-leb, eqb-true, eq-eqb, ne-eqb}
+use borrow.Author.Tests.{le-leb, lt-leb, eq-eqb, ne-eqb}
 use lib.ListN.{length, getD}
-use lib.Dec.{eqb, leb}
+use lib.Dec.{eqb}
 use Rattle.scope.specs.Choice.{pick}
 use Rattle.scope.specs.Iterate.{Next, go, stop, onward}
 use Rattle.scope.specs.Attributes.{bytesIn}
 use Rattle.scope.specs.Data.{Image}
 use Rattle.scope.specs.Order.{Phase, mayCome, imageOf, rowsFit}
 use Rattle.scope.specs.Reading.{Context, Operator, Read, operatorAt}
-use Rattle.scope.specs.Arm.{Act, Stroke, idle, actOf}
+use Rattle.scope.specs.Arm.{Stroke, idle, actOf}
 use Rattle.scope.specs.Motif as scope
 use Rattle.scope.specs.Motif.{Motif, flat, unfolded, phaseIn, contextIn, savedAfter, onCall, onDeed, onEnd, motifStep, judgedInside}
 use Rattle.scope.proofs.Ends.{GoodRead, read-good}
 use Rattle.scope.proofs.Taken.{Taken, read-taken}
 use Rattle.scope.proofs.Falls.{motif-step}
-use Rattle.arm.specs.Sums.{Runs, SumsAs}
-use Rattle.arm.specs.Balance.{Balanced, OwnLevel}
+use Rattle.summary.specs.Sums.{SumsAs}
+use Rattle.arm.specs.Runs.{Runs}
+use Rattle.summary.specs.Balance.{Balanced, OwnLevel}
 use Rattle.arm.proofs.Rows.{flat-does, flat-calls}
 use Rattle.arm.proofs.Levels.{own-does, own-calls, own-level, saved-depth, may-saved, drawn-pop}
-use Rattle.motif.specs.Pictures.{pictureAs, imageIn}
+use Rattle.order.specs.Pictures.{pictureAs, imageIn}
 use Rattle.motif.specs.Held.{Finds, finds-at, finds-none}
-use Rattle.motif.specs.declared.names.Where.{Where}
-use Rattle.motif.specs.declared.names.Where.the-variants.{At, Nowhere}
+use Rattle.motif.specs.declared.held.Where.{Where}
+use Rattle.motif.specs.declared.held.Where.the-variants.{At, Nowhere}
 use Rattle.stream.specs.Judging.{Follows, Judges, judges-valid, judges-faulty, Turns, turns-go, turns-stop, called, Lands, Ahead}
 use Rattle.stream.specs.declared.judging.Inside.{Inside}
 use Rattle.stream.specs.declared.judging.Judged.{Judged}

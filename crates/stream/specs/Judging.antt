@@ -2,14 +2,15 @@
 -- Assumes nothing.
 use Prim.Native.Nat.{ℕ, _+_, _≤_, _<_}
 use mathlib.Core.Path.{_≡_}
-use mathlib.Core.List.{List, []}
+use mathlib.Core.List.{List}
 use Rattle.scope.specs.Iterate.{Next, go, stop}
 use Rattle.scope.specs.Attributes.{bytesIn}
 use Rattle.scope.specs.Reading.{Operator}
 use Rattle.scope.specs.Motif as scope
-use Rattle.arm.specs.Sums.{Runs, SumsAs}
-use Rattle.arm.specs.Balance.{OwnLevel}
-use Rattle.motif.specs.Pictures.{pictureAs}
+use Rattle.summary.specs.Sums.{SumsAs}
+use Rattle.arm.specs.Runs.{Runs}
+use Rattle.summary.specs.Balance.{OwnLevel}
+use Rattle.order.specs.Pictures.{pictureAs}
 use Rattle.stream.specs.declared.judging.Inside.{Inside}
 use Rattle.stream.specs.declared.judging.Judged.{Judged}
 use Rattle.stream.specs.declared.judging.Judged.the-variants.{Valid, Faulty}

@@ -2,33 +2,34 @@
 ghost use mathlib.Core.Path.{_≡_};
 ghost use mathlib.Core.List.{List, []};
 ghost use mathlib.Core.Bool.{true};
-ghost use Prim.Native.Nat.{ℕ, suc, _+_, _^_, _≤_, _<_, max};
-ghost use lib.ListN.{length, getD};
-ghost use Rattle.wire.specs.Rows.{rowsOf, Sized};
+ghost use Prim.Native.Nat.{ℕ, _+_, _^_, _≤_, _<_, max};
+ghost use lib.ListN.{length};
+ghost use Rattle.items.specs.Rows.{rowsOf, Sized};
 ghost use Rattle.scope.specs.Motif as scope;
 ghost use Rattle.scope.specs.Motif.{Motif, flat, unfolded, phaseIn, savedAfter, motifStep, onCall, onDeed, onEnd, judgedInside, motifOf};
 ghost use Rattle.scope.specs.Order.{rowsFit};
 ghost use Rattle.scope.specs.Choice.{pick};
-ghost use Rattle.arm.specs.Balance.{Balanced, OwnLevel};
-ghost use Rattle.arm.specs.Sums.{Runs, SumsAs};
+ghost use Rattle.summary.specs.Balance.{Balanced, OwnLevel};
+ghost use Rattle.summary.specs.Sums.{SumsAs};
+ghost use Rattle.arm.specs.Runs.{Runs};
 ghost use lib.Dec.{eqb};
-ghost use Rattle.reader.specs.Views.{phaseAs};
+ghost use Rattle.order.specs.Views.{phaseAs};
 ghost use Rattle.reader.specs.Reads.{operatorAs};
 ghost use Rattle.motif.specs.Held.{Keeps};
-ghost use Rattle.motif.specs.Pictures.{pictureAs, imageIn};
+ghost use Rattle.order.specs.Pictures.{pictureAs, imageIn};
 ghost use Rattle.stream.specs.Judging.{Follows, Turns, Judges, Ahead, Lands, called};
+use act::act_of;
 use arm::both::Both;
-use motif::Picture;
+use header::Header;
 use motif::Where;
-use motif::act_of;
 use motif::find;
 use motif::name_in;
-use motif::picture_after;
+use order::Phase;
+use order::Picture;
+use order::picture_after;
 use reader::Context;
 use reader::Operator;
-use reader::Phase;
 use reader::Read;
-use wire::Header;
 
 // A valid motif, with how deep it nests and its summary; or a code and a place inside it.
 pub enum Judged {
@@ -94,7 +95,7 @@ fn enter(o: Operator, inside: Inside, depth: usize, sum: u64) -> Turn
     }
     let picture = inside.picture;
     let both = inside.both;
-    let next = both.call(arm::summary::unpacked(sum));
+    let next = both.call(summary::unpacked(sum));
     Turn::Go(Inside {
         at: o.next,
         saved: inside.saved,
@@ -258,7 +259,7 @@ pub fn judge_motif(
         → Judges ms r (motifOf ms (now (s .entry)))) ⌝ }
 {
     let mut attrs = [0usize; 80];
-    match wire::header_of(s) {
+    match header::header_of(s) {
         Header::No(code, place) => Judged::Faulty(code, place),
         Header::Is(high, next) => operators(s, high, next, job, rows, sums, held, &mut attrs),
     }

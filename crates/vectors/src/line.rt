@@ -28,7 +28,7 @@ fn write(line: &[u8], n: usize) {
 }
 
 // The five numbers and two checksums.
-pub fn print(verdict: checker::Verdict, work: u64, list: u64) {
+pub fn print(verdict: state::Verdict, work: u64, list: u64) {
     let mut line = [0u8; 160];
     let mut at = put_number(verdict.code as u64, b" ", &mut line, 0);
     at = put_number(verdict.position as u64, b" ", &mut line, at);

@@ -27,9 +27,9 @@ fn judge(
     held: usize,
     list: &mut [u8],
     room: usize,
-) -> checker::Verdict {
+) -> state::Verdict {
     if job.len() < n || work.len() < held || list.len() < room {
-        return checker::Verdict {
+        return state::Verdict {
             code: 99,
             position: 0,
             inner: 0,

@@ -1,7 +1,7 @@
 // Judges the job on standard input and prints code, position, inner, records and performed.
 
 // The five numbers on one line.
-fn print(v: checker::Verdict) {
+fn print(v: state::Verdict) {
     io::print_decimal(1, v.code as u64);
     io::write_all(1, b" ");
     io::print_decimal(1, v.position as u64);

@@ -1,14 +1,11 @@
 -- `at_start` meets its contract.
 -- Assumes nothing.
 use Rattle.arm.specs.Views.{stack}
-use Rattle.arm.specs.Sums.{fresh}
+use Rattle.summary.specs.Sums.{fresh}
 use Rattle.scope.specs.Arm.{from}
 use borrow.Author.Needs.{needs}
 use Rattle.arm.proofs.both.at_start.Statement.{statement}
 use Rattle.arm.proofs.both.at_start.Tie as tie
-use Rattle.arm.proofs.both.at_start.Reads as reads
-use Rattle.arm.proofs.both.at_start.Lts as lts
-use Rattle.arm.proofs.seen.Seen.from.Reads as from-reads
 
 from-requires : tie.Need-from-requires
 from-requires c κs = search needs

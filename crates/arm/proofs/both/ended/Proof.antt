@@ -4,8 +4,6 @@ use Rattle.scope.specs.Arm.{Page}
 use mathlib.Core.Path.{ap}
 use Rattle.arm.proofs.both.ended.Statement.{statement}
 use Rattle.arm.proofs.both.ended.Tie as tie
-use Rattle.arm.proofs.both.ended.Reads as reads
-use Rattle.arm.proofs.both.ended.Lts as lts
 
 returns : tie.Need-returns
 returns c w h m =

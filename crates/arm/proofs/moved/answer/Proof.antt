@@ -7,9 +7,6 @@ use mathlib.Core.Path.{sym, _∙_}
 use borrow.Author.Needs.{needs}
 use Rattle.arm.proofs.moved.answer.Statement.{statement}
 use Rattle.arm.proofs.moved.answer.Tie as tie
-use Rattle.arm.proofs.moved.answer.Reads as reads
-use Rattle.arm.proofs.moved.answer.Lts as lts
-use Rattle.arm.proofs.seen.Seen.code.Reads as code-reads
 
 code-requires : tie.Need-code-requires
 code-requires c κs = search needs

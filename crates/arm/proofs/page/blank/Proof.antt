@@ -5,8 +5,6 @@ use Rattle.arm.specs.Views.{stack}
 use mathlib.Core.Path.{refl}
 use Rattle.arm.proofs.page.blank.Statement.{statement}
 use Rattle.arm.proofs.page.blank.Tie as tie
-use Rattle.arm.proofs.page.blank.Reads as reads
-use Rattle.arm.proofs.page.blank.Lts as lts
 
 returns : tie.Need-returns
 unfolding stack

@@ -4,9 +4,6 @@ use mathlib.Core.Path.{refl}
 use borrow.Author.Needs.{needs}
 use Rattle.arm.proofs.seen.ends_at.Statement.{statement}
 use Rattle.arm.proofs.seen.ends_at.Tie as tie
-use Rattle.arm.proofs.seen.ends_at.Reads as reads
-use Rattle.arm.proofs.seen.ends_at.Lts as lts
-use Rattle.arm.proofs.seen.choose.Reads as choose-reads
 
 choose-requires : tie.Need-choose-requires
 choose-requires c κs = search needs

@@ -6,7 +6,7 @@ use Prim.Native.Nat.{suc, _+_, _*_, _-_, _≤_}
 use native.Mathlib.Omega.{arith}
 use lib.ListN.{length}
 use Rattle.scope.specs.Verdict.{attributeRecords}
-use Rattle.wire.specs.Rows.{rowsFrom, rowsOf}
+use Rattle.items.specs.Rows.{rowsFrom, rowsOf}
 use Rattle.buffer.specs.Over.{over}
 use Rattle.buffer.specs.Listed.{lows}
 use Rattle.buffer.proofs.Parts.{over-nil}

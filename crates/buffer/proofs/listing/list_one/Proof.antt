@@ -1,8 +1,7 @@
 -- `list_one`: the operator's record right after its attribute's.
 -- Assumes nothing.
 use borrow.Author.Tests.{not-true, not-false, le-leb}
-use mathlib.Core.Path.{_≡_, sym, refl, _∙_}
-use mathlib.Core.Bool.{true, false}
+use mathlib.Core.Path.{sym, refl, _∙_}
 use Prim.Native.Nat.{_+_, _*_, _≤_}
 use native.Mathlib.Omega.{arith}
 use lib.ListN.{length}
@@ -10,12 +9,6 @@ use Rattle.buffer.proofs.Listed.{room-few, room-is, one-listed}
 use borrow.Author.Needs.{needs}
 use Rattle.buffer.proofs.listing.list_one.Statement.{statement}
 use Rattle.buffer.proofs.listing.list_one.Tie as tie
-use Rattle.buffer.proofs.listing.list_one.Reads as reads
-use Rattle.buffer.proofs.listing.list_one.Lts as lts
-use Rattle.buffer.proofs.listing.has_room.Reads as has-room-reads
-use Rattle.buffer.proofs.listing.operator_row.Reads as operator-row-reads
-use Rattle.buffer.proofs.listing.put.Reads as put-reads
-use Rattle.buffer.proofs.listing.row.Reads as row-reads
 
 -- past the test there is room
 room : (c : tie.Else1)

@@ -7,7 +7,7 @@ use mathlib.Core.Bool.{true, false}
 use Prim.Native.Nat.{suc, _+_, _*_, _≤_}
 use native.Mathlib.Omega.{arith}
 use lib.ListN.{length}
-use Rattle.wire.specs.Rows.{rowsOf}
+use Rattle.items.specs.Rows.{rowsOf}
 use Rattle.buffer.specs.Over.{over}
 use Rattle.buffer.specs.Listed.{lows, roomFor, recordsFor}
 use Rattle.buffer.proofs.Listed.{room-is, operator-listed, listed-whole}

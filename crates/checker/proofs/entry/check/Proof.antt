@@ -2,20 +2,12 @@
 -- Assumes nothing.
 use lib.ListN.{length}
 use lib.Dec.{lit<}
-use Prim.Native.Nat.{ℕ}
-use mathlib.Core.List.{List}
-use mathlib.Core.Path.{refl, sym, _∙_}
-use native.Mathlib.Omega.{arith}
+use mathlib.Core.Path.{_∙_}
 use Rattle.buffer.proofs.Parts.{cleared-alike}
-use Rattle.checker.proofs.Entering.{short-work, long-job, lets-in, early, whole, Promised}
+use Rattle.checker.proofs.Entering.{short-work, long-job, lets-in, early, whole}
 use borrow.Author.Needs.{needs}
 use Rattle.checker.proofs.entry.check.Statement.{statement}
 use Rattle.checker.proofs.entry.check.Tie as tie
-use Rattle.checker.proofs.entry.check.Reads as reads
-use Rattle.checker.proofs.entry.check.Lts as lts
-use Rattle.buffer.proofs.zero.Reads as zero-reads
-use Rattle.checker.proofs.entry.judge_job.Reads as judge-job-reads
-use Rattle.checker.proofs.verdict.told.Reads as told-reads
 
 told-requires : tie.Need-told-requires
 told-requires c κs = search needs

@@ -1,18 +1,13 @@
--- `judge_job` meets its contract.
+-- `judge_job`: the header is that of the definitions, and so are the items behind it.
 -- Assumes nothing.
 use lib.Dec.{lit<}
-use mathlib.Core.Path.{refl, sym, _∙_}
+use mathlib.Core.Path.{refl, sym}
 use native.Mathlib.Omega.{arith}
 use Rattle.scope.proofs.Placed.{header-placed}
 use Rattle.checker.proofs.Entering.{header-no, header-is}
 use borrow.Author.Needs.{needs}
 use Rattle.checker.proofs.entry.judge_job.Statement.{statement}
 use Rattle.checker.proofs.entry.judge_job.Tie as tie
-use Rattle.checker.proofs.entry.judge_job.Reads as reads
-use Rattle.checker.proofs.entry.judge_job.Lts as lts
-use Rattle.checker.proofs.stepping.judge_items.Reads as judge-items-reads
-use Rattle.checker.proofs.verdict.told.Reads as told-reads
-use Rattle.wire.proofs.header_of.Reads as header-of-reads
 
 header-of-requires : tie.Need-header-of-requires
 header-of-requires c κs = search needs
@@ -27,10 +22,7 @@ enum-known-high : tie.Need-enum-known-high
 enum-known-high c = search needs
 
 judge-items-requires : tie.Need-judge-items-requires
-judge-items-requires c κs =
-    let h = c .before .before .before .before .before in
-    let st = h .before .before .before .before in
-    (st .pre .0, st .pre .1, rw (c .before .before .before .high .given .1) at (h .header-of .ensures .1))
+judge-items-requires c κs = search needs
 
 returns : tie.Need-returns
 returns c =
@@ -54,7 +46,8 @@ returns-2 c =
     let st = h .before .before .before .before in
     let a = st .args in
     let e = rw (g .before .before .before .before .high .given .1) at (h .header-of .ensures .0) in
-    (g .judge-items .ensures .0, header-is (a .job .now) (a .list .now) _ (g .judge-items .result) _ _ e (g .judge-items .ensures .1))
+    let n = rw (g .before .before .before .before .high .given .1) at (h .header-of .ensures .1) in
+    (g .judge-items .ensures .0, header-is (a .job .now) (a .list .now) _ (g .judge-items .result) _ _ e (g .judge-items .ensures .1 (st .pre .0) (st .pre .1) n))
 
 pub judge-job-spec : {M : Type 1} → statement M
 judge-job-spec =

@@ -4,10 +4,6 @@ use mathlib.Core.Path.{refl, sym, _∙_}
 use borrow.Author.Needs.{needs}
 use Rattle.motif.proofs.part.name_in.Statement.{statement}
 use Rattle.motif.proofs.part.name_in.Tie as tie
-use Rattle.motif.proofs.part.name_in.Reads as reads
-use Rattle.motif.proofs.part.name_in.Lts as lts
-use Rattle.motif.proofs.part.within.Reads as within-reads
-use Rattle.rules.proofs.part_in.Reads as part-in-reads
 
 part-in-requires : tie.Need-part-in-requires
 part-in-requires c κs = search needs

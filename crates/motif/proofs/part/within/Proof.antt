@@ -1,15 +1,12 @@
 -- `within` meets its contract.
 -- Assumes nothing.
-use lib.ListN.{length, take, drop}
-use Prim.Native.Nat.{_≤_, _<_, _-_}
-use mathlib.Core.Path.{refl, sym, subst}
+use Prim.Native.Nat.{_-_}
+use mathlib.Core.Path.{refl}
 use native.Mathlib.Omega.{arith}
 use Rattle.motif.proofs.Within.{part-none, part-all}
 use borrow.Author.Needs.{needs}
 use Rattle.motif.proofs.part.within.Statement.{statement}
 use Rattle.motif.proofs.part.within.Tie as tie
-use Rattle.motif.proofs.part.within.Reads as reads
-use Rattle.motif.proofs.part.within.Lts as lts
 
 returns : tie.Need-returns
 returns c =

@@ -5,9 +5,6 @@ use Rattle.scope.specs.Data.{blockAt}
 use borrow.Author.Needs.{needs}
 use Rattle.reader.proofs.data.block_at.Statement.{statement}
 use Rattle.reader.proofs.data.block_at.Tie as tie
-use Rattle.reader.proofs.data.block_at.Reads as reads
-use Rattle.reader.proofs.data.block_at.Lts as lts
-use Rattle.reader.proofs.data.block_of.Reads as block-of-reads
 
 returns : tie.Need-returns
 unfolding blockAt

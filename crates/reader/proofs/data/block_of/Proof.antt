@@ -8,9 +8,6 @@ use Rattle.reader.proofs.Blocks.{cut, other, short, there}
 use borrow.Author.Needs.{needs}
 use Rattle.reader.proofs.data.block_of.Statement.{statement}
 use Rattle.reader.proofs.data.block_of.Tie as tie
-use Rattle.reader.proofs.data.block_of.Reads as reads
-use Rattle.reader.proofs.data.block_of.Lts as lts
-use Rattle.wire.proofs.number_at.Reads as number-at-reads
 
 add-first : tie.Need-add-first
 add-first c = search needs

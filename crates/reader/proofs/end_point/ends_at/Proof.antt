@@ -7,9 +7,6 @@ use Rattle.reader.specs.EndPoint.{endsAt}
 use borrow.Author.Needs.{needs}
 use Rattle.reader.proofs.end_point.ends_at.Statement.{statement}
 use Rattle.reader.proofs.end_point.ends_at.Tie as tie
-use Rattle.reader.proofs.end_point.ends_at.Reads as reads
-use Rattle.reader.proofs.end_point.ends_at.Lts as lts
-use Rattle.reader.proofs.end_point.is_drawn_line.Reads as is-drawn-line-reads
 
 add-op : tie.Need-add-op
 add-op c = search needs

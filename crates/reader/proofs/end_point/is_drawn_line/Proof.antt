@@ -5,8 +5,6 @@ use borrow.Author.Tests.{ne-eqb, eqb-true}
 use Rattle.reader.specs.EndPoint.{Drawn, drawn-path, drawn-rel}
 use Rattle.reader.proofs.end_point.is_drawn_line.Statement.{statement}
 use Rattle.reader.proofs.end_point.is_drawn_line.Tie as tie
-use Rattle.reader.proofs.end_point.is_drawn_line.Reads as reads
-use Rattle.reader.proofs.end_point.is_drawn_line.Lts as lts
 
 returns : tie.Need-returns
 returns c = rw (c .if1 .taken) (refl, λ e. drawn-path)

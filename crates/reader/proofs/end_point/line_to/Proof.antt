@@ -9,10 +9,6 @@ use Rattle.reader.specs.EndPoint.{pointLength, lineTo}
 use borrow.Author.Needs.{needs}
 use Rattle.reader.proofs.end_point.line_to.Statement.{statement}
 use Rattle.reader.proofs.end_point.line_to.Tie as tie
-use Rattle.reader.proofs.end_point.line_to.Reads as reads
-use Rattle.reader.proofs.end_point.line_to.Lts as lts
-use Rattle.reader.proofs.end_point.ends_at.Reads as ends-at-reads
-use Rattle.reader.proofs.end_point.point_length.Reads as point-length-reads
 
 returns : tie.Need-returns
 unfolding lineTo pointLength

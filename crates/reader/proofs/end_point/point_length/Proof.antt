@@ -6,8 +6,6 @@ use borrow.Author.Tests.{ne-eqb}
 use Rattle.reader.specs.EndPoint.{pointLength, point-ubyte, point-uint16, point-sint16, point-none}
 use Rattle.reader.proofs.end_point.point_length.Statement.{statement}
 use Rattle.reader.proofs.end_point.point_length.Tie as tie
-use Rattle.reader.proofs.end_point.point_length.Reads as reads
-use Rattle.reader.proofs.end_point.point_length.Lts as lts
 
 returns : tie.Need-returns
 unfolding pointLength

@@ -11,11 +11,6 @@ use Rattle.reader.proofs.Blocks.{placed-from}
 use borrow.Author.Needs.{needs}
 use Rattle.reader.proofs.reading.data_at.Statement.{statement}
 use Rattle.reader.proofs.reading.data_at.Tie as tie
-use Rattle.reader.proofs.reading.data_at.Reads as reads
-use Rattle.reader.proofs.reading.data_at.Lts as lts
-use Rattle.reader.proofs.data.block_at.Reads as block-at-reads
-use Rattle.reader.proofs.reading.lacks.Reads as lacks-reads
-use Rattle.wire.proofs.after_white.Reads as after-white-reads
 
 lacks-requires : tie.Need-lacks-requires
 lacks-requires c κs = search needs

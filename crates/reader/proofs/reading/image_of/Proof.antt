@@ -3,8 +3,6 @@
 use borrow.Author.Needs.{needs}
 use Rattle.reader.proofs.reading.image_of.Statement.{statement}
 use Rattle.reader.proofs.reading.image_of.Tie as tie
-use Rattle.reader.proofs.reading.image_of.Reads as reads
-use Rattle.reader.proofs.reading.image_of.Lts as lts
 
 enum-told : tie.Need-enum-told
 enum-told c = search needs

@@ -6,11 +6,6 @@ use Rattle.reader.specs.Reads.{lineAt}
 use borrow.Author.Needs.{needs}
 use Rattle.reader.proofs.reading.line_at.Statement.{statement}
 use Rattle.reader.proofs.reading.line_at.Tie as tie
-use Rattle.reader.proofs.reading.line_at.Reads as reads
-use Rattle.reader.proofs.reading.line_at.Lts as lts
-use Rattle.reader.proofs.order.may_come.Reads as may-come-reads
-use Rattle.rules.proofs.line_fault.Reads as line-fault-reads
-use Rattle.rules.proofs.is_operator.Reads as is-operator-reads
 
 is-operator-requires : tie.Need-is-operator-requires
 is-operator-requires c κs = search needs

@@ -15,25 +15,17 @@ use Rattle.scope.specs.Data.{dueOf}
 use Rattle.scope.specs.Reading.{Context, Read, withBlock, withData, scanned, operatorAt}
 use Rattle.rules.specs.Judging.{faultAs}
 use Rattle.rules.specs.declared.judge.Fault.{Fault}
-use Rattle.wire.specs.Rows.{Sized, rowsOf}
-use Rattle.wire.specs.Scans.{scanAs}
-use Rattle.wire.specs.declared.scan.Scan.{Scan}
-use Rattle.reader.specs.Views.{imageAs, dueAs, foundAs}
-use Rattle.reader.specs.Reads.{contextAs}
-use Rattle.reader.specs.declared.due.Due.{Due}
+use Rattle.items.specs.Rows.{Sized, rowsOf}
+use Rattle.items.specs.Scans.{scanAs}
+use Rattle.items.specs.declared.scan.Scan.{Scan}
+use Rattle.order.specs.Views.{imageAs, dueAs}
+use Rattle.reader.specs.Reads.{foundAs, contextAs}
+use Rattle.order.specs.declared.due.Due.{Due}
 use Rattle.reader.specs.declared.data.Found.{Found}
 use Rattle.reader.proofs.Lines.{afterLine, line-after, rows-after, data-after}
 use borrow.Author.Needs.{needs}
 use Rattle.reader.proofs.reading.operator_at.Statement.{statement}
 use Rattle.reader.proofs.reading.operator_at.Tie as tie
-use Rattle.reader.proofs.reading.operator_at.Reads as reads
-use Rattle.reader.proofs.reading.operator_at.Lts as lts
-use Rattle.reader.proofs.due.due_of.Reads as due-of-reads
-use Rattle.reader.proofs.due.rows_fit.Reads as rows-fit-reads
-use Rattle.reader.proofs.reading.data_at.Reads as data-at-reads
-use Rattle.reader.proofs.reading.image_of.Reads as image-of-reads
-use Rattle.reader.proofs.reading.line_at.Reads as line-at-reads
-use Rattle.wire.proofs.scan_at.Reads as scan-at-reads
 
 -- what is read, and the array as the scan left it
 abbrev context : tie.After-scan-at → Context

@@ -8,7 +8,7 @@ use Rattle.rules.proofs.attributes.first_of.Statement.{statement}
 use Rattle.rules.proofs.attributes.first_of.Tie as tie
 use Rattle.rules.proofs.attributes.first_of.Reads as reads
 use Rattle.rules.proofs.attributes.first_of.Lts as lts
-use Rattle.wire.proofs.number_at.Reads as number-at-reads
+use Rattle.number.proofs.number_at.Reads as number-at-reads
 
 number-at-requires : tie.Need-number-at-requires
 number-at-requires c κs = search needs

@@ -2,7 +2,7 @@
 -- Assumes nothing.
 use mathlib.Core.Path.{_≡_, sym, _∙_}
 use borrow.Author.Tests.{lt-ltb, le-ltb}
-use Rattle.wire.specs.Rows.{rowAt}
+use Rattle.items.specs.Rows.{rowAt}
 use Rattle.rules.proofs.Rowed.{bytes-at}
 use borrow.Author.Needs.{needs}
 use Rattle.rules.proofs.attributes.part_in.Statement.{statement}

@@ -5,7 +5,7 @@ use mathlib.Core.Path.{_≡_, refl, sym, _∙_}
 use mathlib.Core.List.{List}
 use native.Mathlib.Omega.{arith}
 use borrow.Author.Tests.{eq-eqb, ne-eqb}
-use Rattle.wire.specs.Rows.{rowAt, rowsFrom, rowsOf, Sized}
+use Rattle.items.specs.Rows.{rowAt, rowsFrom, rowsOf, Sized}
 use Rattle.rules.specs.Places.{placeFrom, placeOf}
 use Rattle.rules.proofs.Rowed.{place-more, place-end}
 use borrow.Author.Needs.{needs}

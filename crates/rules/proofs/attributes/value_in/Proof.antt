@@ -3,7 +3,7 @@
 use mathlib.Core.Path.{_≡_, sym, _∙_}
 use borrow.Author.Tests.{lt-ltb, le-ltb}
 use Rattle.scope.specs.Attributes.{firstOf}
-use Rattle.wire.specs.Rows.{rowAt}
+use Rattle.items.specs.Rows.{rowAt}
 use Rattle.rules.proofs.Rowed.{value-at}
 use lib.Dec.{lit<}
 use borrow.Author.Needs.{needs}

@@ -1,6 +1,6 @@
 -- `rules::judge::attribute_at` meets its contract: field by field.
 -- Assumes nothing.
-use Rattle.wire.specs.Rows.{rowAt}
+use Rattle.items.specs.Rows.{rowAt}
 use borrow.Author.Needs.{needs}
 use Rattle.rules.proofs.judge.attribute_at.Statement.{statement}
 use Rattle.rules.proofs.judge.attribute_at.Tie as tie

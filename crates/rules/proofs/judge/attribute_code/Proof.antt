@@ -4,7 +4,7 @@ use mathlib.Core.Path.{_≡_, refl, sym, ap, _∙_}
 use mathlib.Core.Bool.{true, false}
 use borrow.Author.Tests.{not-true, not-false}
 use Rattle.scope.specs.Table.{Rule}
-use Rattle.wire.specs.Rows.{rowAt, rowsOf}
+use Rattle.items.specs.Rows.{rowAt, rowsOf}
 use Rattle.rules.specs.Lines.{upToNo, takesAs}
 use Rattle.rules.specs.Judging.{attributeAs}
 use Rattle.rules.proofs.Faults.{code-11, code-12, code-15, code-16}

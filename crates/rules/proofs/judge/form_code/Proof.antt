@@ -5,7 +5,7 @@ use mathlib.Core.Bool.{false≢true}
 use mathlib.Core.List.{List}
 use Rattle.scope.specs.Table.{Rule}
 use Rattle.scope.specs.Attributes.{allThere, formCode}
-use Rattle.wire.specs.Rows.{rowsOf, Sized}
+use Rattle.items.specs.Rows.{rowsOf, Sized}
 use Rattle.rules.specs.Lines.{isKnown, mustAs}
 use Rattle.rules.specs.Judging.{Stands, Led}
 use Rattle.rules.proofs.Faults.{stands-all, stands-many}

@@ -1,7 +1,7 @@
 -- `rules::judge::line_code` meets its contract: what is as usual is fine, and the rest goes by what is there.
 -- Assumes nothing.
 use mathlib.Core.Path.{_≡_, sym, _∙_}
-use Rattle.wire.specs.Rows.{rowsOf}
+use Rattle.items.specs.Rows.{rowsOf}
 use Rattle.rules.proofs.Faults.{usual-fine}
 use borrow.Author.Needs.{needs}
 use Rattle.rules.proofs.judge.line_code.Statement.{statement}

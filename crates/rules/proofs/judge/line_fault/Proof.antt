@@ -3,7 +3,7 @@
 use mathlib.Core.Path.{_≡_, refl, sym, ap, _∙_}
 use borrow.Author.Tests.{not-true, not-false}
 use Rattle.scope.specs.Table.{table, lineIn}
-use Rattle.wire.specs.Rows.{rowsOf}
+use Rattle.items.specs.Rows.{rowsOf}
 use Rattle.rules.specs.Judging.{faultAs}
 use Rattle.rules.proofs.Briefs.{stood}
 use Rattle.rules.proofs.Faults.{fault-9, fault-one, fault-whole}

@@ -10,7 +10,7 @@ use borrow.Author.Tests.{eq-eqb, ne-eqb}
 use Rattle.scope.specs.Choice.{pick}
 use Rattle.scope.specs.Table.{Rule}
 use Rattle.scope.specs.Attributes.{bad, oneByOne, attributeCode}
-use Rattle.wire.specs.Rows.{rowAt, rowsFrom, rowsOf, Sized}
+use Rattle.items.specs.Rows.{rowAt, rowsFrom, rowsOf, Sized}
 use Rattle.rules.specs.Judging.{Stands}
 use Rattle.rules.proofs.Faults.{stands-ruled, one-more, one-end}
 use borrow.Author.Needs.{needs}

@@ -7,7 +7,7 @@ use native.Mathlib.Omega.{arith}
 use lib.ListN.{length, take, drop}
 use borrow.Author.Tests.{not-true, not-false}
 use Rattle.scope.specs.Choice.{pick}
-use Rattle.wire.specs.Rows.{rowsOf, Sized}
+use Rattle.items.specs.Rows.{rowsOf, Sized}
 use Rattle.rules.specs.Judging.{allIn}
 use Rattle.rules.proofs.Numbered.{all-step, all-end}
 use borrow.Author.Needs.{needs}

@@ -6,7 +6,7 @@ use mathlib.Core.List.{List}
 use native.Mathlib.Omega.{arith}
 use lib.ListN.{length, drop}
 use borrow.Author.Tests.{eq-eqb, ne-eqb}
-use Rattle.wire.specs.Rows.{rowsOf, Sized}
+use Rattle.items.specs.Rows.{rowsOf, Sized}
 use Rattle.rules.specs.Lines.{upToNo}
 use native.Mathlib.Nat.{add-zero, zero-add}
 use Rattle.scope.specs.Choice.{pick}

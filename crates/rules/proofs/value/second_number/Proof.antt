@@ -5,13 +5,13 @@ use native.Mathlib.Omega.{arith}
 use lib.ListN.{length}
 use mathlib.Core.Path.{_≡_, sym, _∙_}
 use Rattle.scope.specs.Attributes.{secondOf}
-use Rattle.wire.proofs.Digits.{past}
+use Rattle.number.proofs.Digits.{past}
 use borrow.Author.Needs.{needs}
 use Rattle.rules.proofs.value.second_number.Statement.{statement}
 use Rattle.rules.proofs.value.second_number.Tie as tie
 use Rattle.rules.proofs.value.second_number.Reads as reads
 use Rattle.rules.proofs.value.second_number.Lts as lts
-use Rattle.wire.proofs.number_at.Reads as number-at-reads
+use Rattle.number.proofs.number_at.Reads as number-at-reads
 
 returns : tie.Need-returns
 unfolding secondOf

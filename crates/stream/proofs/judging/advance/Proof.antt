@@ -2,27 +2,19 @@
 -- Assumes nothing.
 use lib.ListN.{length}
 use mathlib.Core.List.{List}
-use mathlib.Core.Path.{refl, sym, ap, _∙_, _≡_}
+use mathlib.Core.Path.{refl, sym, _∙_, _≡_}
 use native.Mathlib.Omega.{arith}
-use Rattle.wire.specs.Rows.{Sized}
 use Rattle.motif.proofs.Keeping.{keeps-balanced}
 use Rattle.scope.specs.Reading.{operatorAt}
 use Rattle.scope.specs.Motif as scope
 use Rattle.scope.specs.Motif.{Motif, contextIn}
-use Rattle.reader.specs.Views.{phaseAs}
-use Rattle.reader.specs.Reads.{operatorAs, readAs, contextAs}
+use Rattle.order.specs.Views.{phaseAs}
+use Rattle.reader.specs.Reads.{readAs}
 use Rattle.stream.specs.Judging.{Follows}
 use Rattle.stream.proofs.Turning.{context-is, rows-read, pop-read, step-no, step-ended, step-call, step-deed, ahead-lands}
 use borrow.Author.Needs.{needs}
 use Rattle.stream.proofs.judging.advance.Statement.{statement}
 use Rattle.stream.proofs.judging.advance.Tie as tie
-use Rattle.stream.proofs.judging.advance.Reads as reads
-use Rattle.stream.proofs.judging.advance.Lts as lts
-use Rattle.reader.proofs.operator_at.Reads as operator-at-reads
-use Rattle.stream.proofs.judging.call.Reads as call-reads
-use Rattle.stream.proofs.judging.deed.Reads as deed-reads
-use Rattle.stream.proofs.judging.ended.Reads as ended-reads
-use Rattle.stream.proofs.judging.phase_in.Reads as phase-in-reads
 
 -- what was read is what the definition reads where it stands
 read-is : (c : tie.After-operator-at) (ms : List Motif) (w : scope.Inside) → length (c .before .before .before .before .before .args .attrs .now) ≡ 80

@@ -1,16 +1,11 @@
 -- `balanced` meets its contract.
 -- Assumes nothing.
-use mathlib.Core.Path.{refl, sym, _∙_}
 use borrow.Author.Tests.{eq-eqb, ne-eqb}
 use Rattle.stream.proofs.Turning.{ended-even}
-use Rattle.stream.specs.Judging.{judges-faulty, judges-valid}
+use Rattle.stream.specs.Judging.{judges-faulty}
 use borrow.Author.Needs.{needs}
 use Rattle.stream.proofs.judging.balanced.Statement.{statement}
 use Rattle.stream.proofs.judging.balanced.Tie as tie
-use Rattle.stream.proofs.judging.balanced.Reads as reads
-use Rattle.stream.proofs.judging.balanced.Lts as lts
-use Rattle.arm.proofs.both.Both.summary.Reads as summary-reads
-use Rattle.arm.proofs.summary.Summary.packed.Reads as packed-reads
 
 returns : tie.Need-returns
 returns c = λ ms ops b r l. rw (ne-eqb _ 0 (c .if1 .taken)) judges-faulty

@@ -1,21 +1,12 @@
 -- `call` meets its contract.
 -- Assumes nothing.
 use Prim.Native.Nat.{_<_}
-use mathlib.Core.Path.{refl, sym, _∙_}
 use Rattle.reader.specs.Reads.{operatorAs}
 use Rattle.stream.proofs.Turning.{called-none, called-at}
 use native.Mathlib.Omega.{arith}
-use Rattle.motif.specs.Search.{Row}
-use Rattle.motif.specs.Held.{Finds, finds-at, finds-none}
-use Rattle.stream.specs.Judging.{called, Turns, turns-stop, judges-faulty}
 use borrow.Author.Needs.{needs}
 use Rattle.stream.proofs.judging.call.Statement.{statement}
 use Rattle.stream.proofs.judging.call.Tie as tie
-use Rattle.stream.proofs.judging.call.Reads as reads
-use Rattle.stream.proofs.judging.call.Lts as lts
-use Rattle.motif.proofs.find.Reads as find-reads
-use Rattle.motif.proofs.name_in.Reads as name-in-reads
-use Rattle.stream.proofs.judging.enter.Reads as enter-reads
 
 -- the row that was found is one of 64
 few : (c : tie.After-known-told) → c .before .i .given .0 .0 < 64

@@ -2,24 +2,16 @@
 -- Assumes nothing.
 use Rattle.scope.specs.Order.{rowsFit}
 use Rattle.stream.proofs.Turning.{saved-most}
-use Prim.Native.Nat.{ℕ, _+_, _≤_}
-use mathlib.Core.Bool.{true, false}
+use mathlib.Core.Bool.{true}
 use mathlib.Core.Path.{refl, sym, ap, _∙_, subst⁻¹, _≡_}
-use native.Mathlib.Omega.{arith}
-use Rattle.scope.specs.Motif.{savedAfter}
 use Rattle.reader.specs.Reads.{operatorAs}
-use Rattle.motif.specs.Pictures.{pictureAs, imageIn, pictureFor}
-use Rattle.motif.proofs.Operators.{act-is, picture-is}
+use Rattle.order.specs.Pictures.{imageIn, pictureFor}
+use Rattle.act.proofs.Operators.{act-is}
+use Rattle.order.proofs.Pictures.{picture-is}
 use Rattle.stream.proofs.Turning.{deed-on}
 use borrow.Author.Needs.{needs}
 use Rattle.stream.proofs.judging.deed.Statement.{statement}
 use Rattle.stream.proofs.judging.deed.Tie as tie
-use Rattle.stream.proofs.judging.deed.Reads as reads
-use Rattle.stream.proofs.judging.deed.Lts as lts
-use Rattle.arm.proofs.both.Both.step.Reads as step-reads
-use Rattle.motif.proofs.act_of.Reads as act-of-reads
-use Rattle.motif.proofs.picture_after.Reads as picture-after-reads
-use Rattle.stream.proofs.judging.saved_after.Reads as saved-after-reads
 
 act-of-requires : tie.Need-act-of-requires
 act-of-requires c κs = search needs

@@ -1,14 +1,11 @@
 -- `ended` meets its contract.
 -- Assumes nothing.
-use Rattle.reader.specs.Views.{imageAs}
-use mathlib.Core.Path.{refl, sym, _∙_}
+use Rattle.order.specs.Views.{imageAs}
+use mathlib.Core.Path.{sym, _∙_}
 use Rattle.stream.proofs.Turning.{ended-open, ended-closed}
 use borrow.Author.Needs.{needs}
 use Rattle.stream.proofs.judging.ended.Statement.{statement}
 use Rattle.stream.proofs.judging.ended.Tie as tie
-use Rattle.stream.proofs.judging.ended.Reads as reads
-use Rattle.stream.proofs.judging.ended.Lts as lts
-use Rattle.stream.proofs.judging.balanced.Reads as balanced-reads
 
 enum-told : tie.Need-enum-told
 enum-told c = search needs

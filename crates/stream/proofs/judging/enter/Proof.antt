@@ -1,19 +1,13 @@
 -- `enter` meets its contract.
 -- Assumes nothing.
-use mathlib.Core.Path.{_≡_}
-use Prim.Native.Nat.{_+_, _≤_, _<_, max}
-use mathlib.Core.Path.{refl, sym, _∙_, subst}
+use Prim.Native.Nat.{_<_}
+use mathlib.Core.Path.{refl, _∙_}
 use native.Mathlib.Omega.{arith}
 use Rattle.reader.specs.Reads.{operatorAs}
 use Rattle.stream.proofs.Turning.{enter-deep, enter-on}
 use borrow.Author.Needs.{needs}
 use Rattle.stream.proofs.judging.enter.Statement.{statement}
 use Rattle.stream.proofs.judging.enter.Tie as tie
-use Rattle.stream.proofs.judging.enter.Reads as reads
-use Rattle.stream.proofs.judging.enter.Lts as lts
-use Rattle.arm.proofs.both.Both.call.Reads as call-reads
-use Rattle.arm.proofs.summary.unpacked.Reads as unpacked-reads
-use Rattle.stream.proofs.judging.deeper.Reads as deeper-reads
 
 returns : tie.Need-returns
 returns c =

@@ -1,15 +1,11 @@
 -- `judge_motif` meets its contract.
 -- Assumes nothing.
-use mathlib.Core.Path.{refl, sym, _∙_}
+use mathlib.Core.Path.{refl}
 use Rattle.stream.specs.Judging.{judges-faulty}
 use Rattle.scope.specs.Motif.{motifOf, motifFrom}
 use borrow.Author.Needs.{needs}
 use Rattle.stream.proofs.judging.judge_motif.Statement.{statement}
 use Rattle.stream.proofs.judging.judge_motif.Tie as tie
-use Rattle.stream.proofs.judging.judge_motif.Reads as reads
-use Rattle.stream.proofs.judging.judge_motif.Lts as lts
-use Rattle.stream.proofs.judging.operators.Reads as operators-reads
-use Rattle.wire.proofs.header_of.Reads as header-of-reads
 
 header-of-requires : tie.Need-header-of-requires
 header-of-requires c κs = search needs

@@ -1,7 +1,7 @@
 -- The invariant: the definition stands somewhere that the code follows, and judging from there is judging from the start.
 -- Assumes nothing.
 use Prim.Native.Nat.{_-_, _≤_}
-use mathlib.Core.Path.{_≡_, refl, sym, _∙_}
+use mathlib.Core.Path.{_≡_, refl, _∙_}
 use mathlib.Core.List.{List}
 use native.Mathlib.Omega.{arith}
 use lib.ListN.{length}
@@ -13,10 +13,6 @@ use Rattle.stream.proofs.Turning.{starting, starts, turned-go, turned-s
 use borrow.Author.Needs.{needs}
 use Rattle.stream.proofs.judging.operators.Statement.{statement}
 use Rattle.stream.proofs.judging.operators.Tie as tie
-use Rattle.stream.proofs.judging.operators.Reads as reads
-use Rattle.stream.proofs.judging.operators.Lts as lts
-use Rattle.arm.proofs.both.Both.fresh.Reads as fresh-reads
-use Rattle.stream.proofs.judging.advance.Reads as advance-reads
 
 abbrev Inv-loop : tie.InvT-loop
 Inv-loop s high next job rows sums held attrs₀ inside₀ attrs inside =

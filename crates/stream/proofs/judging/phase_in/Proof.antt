@@ -4,8 +4,6 @@ use Rattle.scope.specs.Motif.{phaseIn}
 use borrow.Author.Needs.{needs}
 use Rattle.stream.proofs.judging.phase_in.Statement.{statement}
 use Rattle.stream.proofs.judging.phase_in.Tie as tie
-use Rattle.stream.proofs.judging.phase_in.Reads as reads
-use Rattle.stream.proofs.judging.phase_in.Lts as lts
 
 enum-told : tie.Need-enum-told
 enum-told c = search needs

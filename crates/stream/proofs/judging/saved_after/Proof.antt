@@ -1,14 +1,11 @@
 -- `saved_after` meets its contract.
 -- Assumes nothing.
-use native.Mathlib.Omega.{arith}
 use native.Mathlib.Numerals.{add-one}
 use borrow.Author.Tests.{eq-eqb, ne-eqb}
 use Rattle.scope.specs.Motif.{savedAfter}
 use borrow.Author.Needs.{needs}
 use Rattle.stream.proofs.judging.saved_after.Statement.{statement}
 use Rattle.stream.proofs.judging.saved_after.Tie as tie
-use Rattle.stream.proofs.judging.saved_after.Reads as reads
-use Rattle.stream.proofs.judging.saved_after.Lts as lts
 
 add-result : tie.Need-add-result
 add-result c = search needs

@@ -3,14 +3,11 @@
 use Rattle.arm.proofs.Rows.{walk-append}
 use mathlib.Core.Bool.{true, false}
 use mathlib.Core.List.{_∷_}
-use Rattle.arm.specs.Sums.{fresh}
+use Rattle.summary.specs.Sums.{fresh}
 use Rattle.scope.specs.Arm.{walk}
 use borrow.Author.Needs.{needs}
 use Rattle.arm.proofs.both.Both.call.Statement.{statement}
 use Rattle.arm.proofs.both.Both.call.Tie as tie
-use Rattle.arm.proofs.both.Both.call.Reads as reads
-use Rattle.arm.proofs.both.Both.call.Lts as lts
-use Rattle.arm.proofs.seen.Seen.call.Reads as call-reads
 
 call-requires : tie.Need-call-requires
 call-requires c κs = search needs

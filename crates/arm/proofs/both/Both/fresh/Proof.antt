@@ -4,9 +4,6 @@ use Rattle.scope.specs.Arm.{walk}
 use borrow.Author.Needs.{needs}
 use Rattle.arm.proofs.both.Both.fresh.Statement.{statement}
 use Rattle.arm.proofs.both.Both.fresh.Tie as tie
-use Rattle.arm.proofs.both.Both.fresh.Reads as reads
-use Rattle.arm.proofs.both.Both.fresh.Lts as lts
-use Rattle.arm.proofs.both.at_start.Reads as at-start-reads
 
 at-start-requires : tie.Need-at-start-requires
 at-start-requires c κs = search needs

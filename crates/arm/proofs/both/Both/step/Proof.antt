@@ -3,14 +3,11 @@
 use Rattle.arm.proofs.Rows.{walk-append}
 use mathlib.Core.Bool.{true, false}
 use mathlib.Core.List.{[], _∷_}
-use Rattle.arm.specs.Sums.{fresh}
+use Rattle.summary.specs.Sums.{fresh}
 use Rattle.scope.specs.Arm.{walk, step}
 use borrow.Author.Needs.{needs}
 use Rattle.arm.proofs.both.Both.step.Statement.{statement}
 use Rattle.arm.proofs.both.Both.step.Tie as tie
-use Rattle.arm.proofs.both.Both.step.Reads as reads
-use Rattle.arm.proofs.both.Both.step.Lts as lts
-use Rattle.arm.proofs.seen.Seen.step.Reads as step-reads
 
 step-requires : tie.Need-step-requires
 step-requires c κs = search needs

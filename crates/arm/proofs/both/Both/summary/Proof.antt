@@ -3,14 +3,11 @@
 use Rattle.arm.proofs.Rows.{fresh-count}
 use Rattle.arm.proofs.Ways.{fresh-most}
 use mathlib.Core.Bool.{true, false}
-use Rattle.arm.specs.Sums.{fresh}
+use Rattle.summary.specs.Sums.{fresh}
 use Rattle.scope.specs.Arm.{walk}
 use borrow.Author.Needs.{needs}
 use Rattle.arm.proofs.both.Both.summary.Statement.{statement}
 use Rattle.arm.proofs.both.Both.summary.Tie as tie
-use Rattle.arm.proofs.both.Both.summary.Reads as reads
-use Rattle.arm.proofs.both.Both.summary.Lts as lts
-use Rattle.arm.proofs.both.ended.Reads as ended-reads
 
 ended-requires : tie.Need-ended-requires
 ended-requires c κs = search needs

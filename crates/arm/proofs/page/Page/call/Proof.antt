@@ -8,11 +8,6 @@ use mathlib.Core.Path.{_≡_, ap}
 use borrow.Author.Needs.{needs}
 use Rattle.arm.proofs.page.Page.call.Statement.{statement}
 use Rattle.arm.proofs.page.Page.call.Tie as tie
-use Rattle.arm.proofs.page.Page.call.Reads as reads
-use Rattle.arm.proofs.page.Page.call.Lts as lts
-use Rattle.arm.proofs.moved.answer.Reads as answer-reads
-use Rattle.arm.proofs.seen.Seen.call.Reads as call-reads
-use Rattle.arm.proofs.seen.Seen.from.Reads as from-reads
 
 from-requires : tie.Need-from-requires
 from-requires c κs = search needs

@@ -6,11 +6,6 @@ use native.Mathlib.Omega.{arith}
 use borrow.Author.Needs.{needs}
 use Rattle.arm.proofs.page.Page.done.Statement.{statement}
 use Rattle.arm.proofs.page.Page.done.Tie as tie
-use Rattle.arm.proofs.page.Page.done.Reads as reads
-use Rattle.arm.proofs.page.Page.done.Lts as lts
-use Rattle.arm.proofs.page.Page.pop.Reads as pop-reads
-use Rattle.arm.proofs.page.Page.push.Reads as push-reads
-use Rattle.arm.proofs.page.Page.put.Reads as put-reads
 
 enum-told : tie.Need-enum-told
 enum-told c = search needs

@@ -19,7 +19,6 @@ use Rattle.arm.specs.declared.moved.Moved.the-variants.{To, No}
 use borrow.Author.Needs.{needs}
 use Rattle.arm.proofs.page.Page.keep.Statement.{statement}
 use Rattle.arm.proofs.page.Page.keep.Tie as tie
-use Rattle.arm.proofs.seen.lacks.Reads as lacks-reads
 
 module _ (opened s k : Bool) (q : scope.Page) (n : ℕ) (x : Stroke) (e : x .act ≡ keeping s k) where
   abbrev after : scope.Seen

@@ -8,11 +8,6 @@ use mathlib.Core.Path.{_≡_, ap}
 use borrow.Author.Needs.{needs}
 use Rattle.arm.proofs.page.Page.perform.Statement.{statement}
 use Rattle.arm.proofs.page.Page.perform.Tie as tie
-use Rattle.arm.proofs.page.Page.perform.Reads as reads
-use Rattle.arm.proofs.page.Page.perform.Lts as lts
-use Rattle.arm.proofs.moved.answer.Reads as answer-reads
-use Rattle.arm.proofs.seen.Seen.from.Reads as from-reads
-use Rattle.arm.proofs.seen.Seen.step.Reads as step-reads
 
 from-requires : tie.Need-from-requires
 from-requires c κs = search needs

@@ -8,8 +8,6 @@ use mathlib.Core.Path.{_≡_, refl}
 use borrow.Author.Needs.{needs}
 use Rattle.arm.proofs.page.Page.pop.Statement.{statement}
 use Rattle.arm.proofs.page.Page.pop.Tie as tie
-use Rattle.arm.proofs.page.Page.pop.Reads as reads
-use Rattle.arm.proofs.page.Page.pop.Lts as lts
 
 returns : tie.Need-returns
 unfolding done stack

@@ -8,9 +8,6 @@ use mathlib.Core.Path.{refl}
 use borrow.Author.Needs.{needs}
 use Rattle.arm.proofs.page.Page.push.Statement.{statement}
 use Rattle.arm.proofs.page.Page.push.Tie as tie
-use Rattle.arm.proofs.page.Page.push.Reads as reads
-use Rattle.arm.proofs.page.Page.push.Lts as lts
-use Rattle.arm.proofs.page.bits.Reads as bits-reads
 
 returns : tie.Need-returns
 returns c h = absurd (let t = c .if1 .taken in omega arith)

@@ -5,9 +5,6 @@ use mathlib.Core.Path.{refl}
 use borrow.Author.Needs.{needs}
 use Rattle.arm.proofs.page.Page.put.Statement.{statement}
 use Rattle.arm.proofs.page.Page.put.Tie as tie
-use Rattle.arm.proofs.page.Page.put.Reads as reads
-use Rattle.arm.proofs.page.Page.put.Lts as lts
-use Rattle.arm.proofs.page.marks.Reads as marks-reads
 
 marks-requires : tie.Need-marks-requires
 marks-requires c κs = search needs

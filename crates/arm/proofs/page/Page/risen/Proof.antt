@@ -6,9 +6,6 @@ use native.Mathlib.Omega.{arith}
 use borrow.Author.Needs.{needs}
 use Rattle.arm.proofs.page.Page.risen.Statement.{statement}
 use Rattle.arm.proofs.page.Page.risen.Tie as tie
-use Rattle.arm.proofs.page.Page.risen.Reads as reads
-use Rattle.arm.proofs.page.Page.risen.Lts as lts
-use Rattle.arm.proofs.limits.higher.Reads as higher-reads
 
 enum-told : tie.Need-enum-told
 enum-told c = search needs

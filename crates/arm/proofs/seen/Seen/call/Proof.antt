@@ -1,7 +1,7 @@
 -- `Seen::call` meets its contract.
 -- Assumes nothing.
 use Rattle.arm.proofs.Keeping.{call-holds}
-use Rattle.arm.specs.Sums.{fresh}
+use Rattle.summary.specs.Sums.{fresh}
 use Rattle.scope.specs.Arm.{walk}
 use native.Mathlib.Omega.{arith}
 use lib.ListN.{length}
@@ -11,13 +11,6 @@ use mathlib.Core.Path.{ap, _∙_}
 use borrow.Author.Needs.{needs}
 use Rattle.arm.proofs.seen.Seen.call.Statement.{statement}
 use Rattle.arm.proofs.seen.Seen.call.Tie as tie
-use Rattle.arm.proofs.seen.Seen.call.Reads as reads
-use Rattle.arm.proofs.seen.Seen.call.Lts as lts
-use Rattle.arm.proofs.limits.add.Reads as add-reads
-use Rattle.arm.proofs.limits.higher.Reads as higher-reads
-use Rattle.arm.proofs.seen.choose.Reads as choose-reads
-use Rattle.arm.proofs.seen.either.Reads as either-reads
-use Rattle.arm.proofs.seen.ends_at.Reads as ends-at-reads
 
 add-requires : tie.Need-add-requires
 add-requires c κs = search needs

@@ -6,9 +6,6 @@ use mathlib.Core.Path.{sym, _∙_}
 use borrow.Author.Needs.{needs}
 use Rattle.arm.proofs.seen.Seen.code.Statement.{statement}
 use Rattle.arm.proofs.seen.Seen.code.Tie as tie
-use Rattle.arm.proofs.seen.Seen.code.Reads as reads
-use Rattle.arm.proofs.seen.Seen.code.Lts as lts
-use Rattle.arm.proofs.seen.lacks.Reads as lacks-reads
 
 lacks-requires : tie.Need-lacks-requires
 lacks-requires c κs = search needs

@@ -5,8 +5,6 @@ use native.Mathlib.Omega.{arith}
 use mathlib.Core.Path.{refl}
 use Rattle.arm.proofs.seen.Seen.from.Statement.{statement}
 use Rattle.arm.proofs.seen.Seen.from.Tie as tie
-use Rattle.arm.proofs.seen.Seen.from.Reads as reads
-use Rattle.arm.proofs.seen.Seen.from.Lts as lts
 
 returns : tie.Need-returns
 unfolding from

@@ -7,14 +7,6 @@ use mathlib.Core.Path.{ap, _∙_}
 use borrow.Author.Needs.{needs}
 use Rattle.arm.proofs.seen.Seen.step.Statement.{statement}
 use Rattle.arm.proofs.seen.Seen.step.Tie as tie
-use Rattle.arm.proofs.seen.Seen.step.Reads as reads
-use Rattle.arm.proofs.seen.Seen.step.Lts as lts
-use Rattle.arm.proofs.page.Page.done.Reads as done-reads
-use Rattle.arm.proofs.page.Page.risen.Reads as risen-reads
-use Rattle.arm.proofs.limits.add.Reads as add-reads
-use Rattle.arm.proofs.seen.clashes.Reads as clashes-reads
-use Rattle.arm.proofs.seen.either.Reads as either-reads
-use Rattle.arm.proofs.seen.lacks.Reads as lacks-reads
 
 add-requires : tie.Need-add-requires
 add-requires c κs = search needs

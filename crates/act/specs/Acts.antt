@@ -1,0 +1,28 @@
+-- Parts of 01's rules on what an operator needs and does, where the code has a function of its own for them.
+-- Assumes nothing.
+use Prim.Native.Nat.{ℕ}
+use mathlib.Core.Bool.{Bool, not}
+use mathlib.Core.List.{List, [], _∷_}
+use lib.Dec.{eqb}
+use Rattle.scope.specs.Choice.{pick, among}
+use Rattle.scope.specs.Names.{PopGS, PushGS, SetBrushSource, SetColorSpace, SetCursor, SetPenSource, NewPath, BeginImage}
+use Rattle.scope.specs.Item.{Attribute}
+use Rattle.scope.specs.Attributes.{has, valueIn}
+use Rattle.scope.specs.Arm.{Act, Space, any, gray, rgb, Effect, put, kept, to, needsCursor, needsSpace, effectOf}
+
+-- RGBColor needs RGB; GrayLevel needs gray
+unfoldable pub brushSpace : List Attribute → Space
+brushSpace l = pick (has 11 l) rgb (pick (has 9 l) gray any)
+
+-- SetColorSpace sets the colour space
+unfoldable pub spaceEffect : Bool → List ℕ → List Attribute → Effect
+spaceEffect high s l = put kept (to (eqb (valueIn high s l 3) 1))
+
+-- an operator of this tag, which reads data or not, with these attributes
+unfoldable pub actFor : Bool → List ℕ → ℕ → Bool → List Attribute → Act
+actFor high s tag reads l =
+    record { source = reads; cursor = needsCursor tag; space = needsSpace tag l; effect = effectOf high s tag l }
+
+-- these need a colour space or do something to the page; every other operator needs at most an open source and a set cursor, and leaves the page as it is
+unfoldable pub plain : ℕ → Bool
+plain tag = not (among (PopGS ∷ PushGS ∷ SetBrushSource ∷ SetColorSpace ∷ SetCursor ∷ SetPenSource ∷ NewPath ∷ BeginImage ∷ []) tag)

@@ -1,0 +1,115 @@
+// What an operator needs of the arm and does to it.
+ghost use mathlib.Core.Path.{_≡_};
+ghost use Rattle.items.specs.Rows.{rowsOf, Sized};
+ghost use Rattle.scope.specs.Arm.{needsCursor, needsSpace, effectOf};
+ghost use Rattle.arm.specs.Views.{spaceAs, effectAs, actAs};
+ghost use Rattle.act.specs.Acts.{actFor, brushSpace, spaceEffect, plain};
+use arm::page::Act;
+use arm::page::Effect;
+use arm::page::Mark;
+use arm::page::Space;
+
+// The operator needs no colour space and does nothing to the page, as most.
+pub fn is_plain(tag: u8) -> bool
+    ensures { λ r. ⌜ r ≡ plain tag ⌝ }
+{
+    match tag {
+        0x60 => false,
+        0x61 => false,
+        0x63 => false,
+        0x6a => false,
+        0x6b => false,
+        0x79 => false,
+        0x85 => false,
+        0xb0 => false,
+        _ => true,
+    }
+}
+
+// SetCursorRel, LinePath, LineRelPath and BeginImage need the cursor set.
+pub fn needs_cursor(tag: u8) -> bool
+    ensures { λ r. ⌜ r ≡ needsCursor tag ⌝ }
+{
+    if tag == 0x6c {
+        return true;
+    }
+    if tag == 0x9b {
+        return true;
+    }
+    if tag == 0x9d {
+        return true;
+    }
+    tag == 0xb0
+}
+
+// Of a brush or a pen: RGBColor needs RGB, GrayLevel gray.
+fn brush_space(attrs: &[usize; 80], n: usize) -> Space
+    ensures { λ r. ⌜ (Sized (now (attrs .entry)) n → spaceAs r ≡ brushSpace (rowsOf (now (attrs .entry)) n)) ⌝ }
+{
+    if rules::has(attrs, n, 11) {
+        return Space::Rgb;
+    }
+    if rules::has(attrs, n, 9) {
+        return Space::Gray;
+    }
+    Space::Any
+}
+
+fn needs_space(tag: u8, attrs: &[usize; 80], n: usize) -> Space
+    ensures { λ r. ⌜ (Sized (now (attrs .entry)) n → spaceAs r ≡ needsSpace tag (rowsOf (now (attrs .entry)) n)) ⌝ }
+{
+    if tag == 0xb0 {
+        return Space::Gray;
+    }
+    if tag == 0x63 {
+        return brush_space(attrs, n);
+    }
+    if tag == 0x79 {
+        return brush_space(attrs, n);
+    }
+    Space::Any
+}
+
+// SetColorSpace sets the colour space.
+fn space_effect(s: &[u8], high: bool, attrs: &[usize; 80], n: usize) -> Effect
+    ensures { λ r. ⌜ (Sized (now (attrs .entry)) n → effectAs r ≡ spaceEffect high (now (s .entry)) (rowsOf (now (attrs .entry)) n)) ⌝ }
+{
+    let space = rules::value_in(s, high, attrs, n, 3);
+    Effect::Put(Mark::Keep, Mark::To(space == 1))
+}
+
+fn effect_of(s: &[u8], high: bool, tag: u8, attrs: &[usize; 80], n: usize) -> Effect
+    ensures { λ r. ⌜ (Sized (now (attrs .entry)) n → effectAs r ≡ effectOf high (now (s .entry)) tag (rowsOf (now (attrs .entry)) n)) ⌝ }
+{
+    if tag == 0x61 {
+        return Effect::Push;
+    }
+    if tag == 0x60 {
+        return Effect::Pop;
+    }
+    if tag == 0x6b {
+        return Effect::Put(Mark::To(true), Mark::Keep);
+    }
+    if tag == 0x85 {
+        return Effect::Put(Mark::To(false), Mark::Keep);
+    }
+    if tag == 0x6a {
+        return space_effect(s, high, attrs, n);
+    }
+    Effect::Put(Mark::Keep, Mark::Keep)
+}
+
+// What an operator needs and does, which reads data or not.
+pub fn act_of(s: &[u8], high: bool, tag: u8, reads: bool, attrs: &[usize; 80], n: usize) -> Act
+    ensures { λ r. ⌜ (Sized (now (attrs .entry)) n → actAs r ≡ actFor high (now (s .entry)) tag reads (rowsOf (now (attrs .entry)) n)) ⌝ }
+{
+    let cursor = needs_cursor(tag);
+    let space = needs_space(tag, attrs, n);
+    let effect = effect_of(s, high, tag, attrs, n);
+    Act {
+        source: reads,
+        cursor,
+        space,
+        effect,
+    }
+}

@@ -1,4 +1,0 @@
-pub mod Views
-pub mod Judged
-pub mod Standing
-pub mod Running

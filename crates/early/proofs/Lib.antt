@@ -1,0 +1,3 @@
+pub mod Breaking
+pub mod Parts
+pub mod Tags

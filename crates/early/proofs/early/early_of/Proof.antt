@@ -1,0 +1,30 @@
+-- `session::early::early_of` meets its contract: between sessions nothing is judged.
+-- Assumes nothing.
+use Rattle.early.proofs.Breaking.{outer-fine, inner-early}
+use borrow.Author.Needs.{needs}
+use Rattle.early.proofs.early.early_of.Statement.{statement}
+use Rattle.early.proofs.early.early_of.Tie as tie
+
+enum-told : tie.Need-enum-told
+enum-told c = search needs
+
+enum-known-place : tie.Need-enum-known-place
+enum-known-place c = search needs
+
+inside-early-requires : tie.Need-inside-early-requires
+inside-early-requires c κs = search needs
+
+returns : tie.Need-returns
+returns c =
+    let a = c .before .before .before .before .args in
+    rw (c .enum-told .given .1) (λ q st high h s w m. outer-fine (a .attrs .now) q (a .o) st high h m)
+
+returns-2 : tie.Need-returns-2
+returns-2 c =
+    let b = c .before .before in
+    let a = b .before .before .before .before .args in
+    rw (b .place .given .1) (λ q st high h s w m. inner-early q (a .o) st high (c .inside-early .result) (c .inside-early .ensures) h s w m)
+
+pub early-of-spec : {M : Type 1} → statement M
+early-of-spec =
+    tie.close (tie.spec enum-told enum-known-place inside-early-requires returns returns-2)

@@ -1,0 +1,53 @@
+-- `session::early::inside_early` meets its contract: case by case of what the session is at.
+-- Assumes nothing.
+use Rattle.place.proofs.Standing.{rest-phase, is-drawn}
+use borrow.Author.Needs.{needs}
+use Rattle.early.proofs.early.inside_early.Statement.{statement}
+use Rattle.early.proofs.early.inside_early.Tie as tie
+
+enum-told : tie.Need-enum-told
+enum-told c = search needs
+
+resting-early-requires : tie.Need-resting-early-requires
+resting-early-requires c κs = search needs
+
+enum-known-busy : tie.Need-enum-known-busy
+enum-known-busy c = search needs
+
+reading-early-requires : tie.Need-reading-early-requires
+reading-early-requires c κs = search needs
+
+enum-told-2 : tie.Need-enum-told-2
+enum-told-2 c = search needs
+
+drawing-early-requires : tie.Need-drawing-early-requires
+drawing-early-requires c κs = search needs
+
+returns : tie.Need-returns
+returns c =
+    let a = c .before .before .before .before .before .args in
+    rw (c .before .enum-told .given .1) (λ x h u k y s w m. c .resting-early .ensures (a .sums .now) x h k s (rw (← rest-phase y) at m))
+
+returns-2 : tie.Need-returns-2
+returns-2 c =
+    let b = c .before .before in
+    let a = b .before .before .before .before .args in
+    rw (b .busy .given .1) (λ x h u k y s w m. c .reading-early .ensures (a .attrs .now) x _ _ h u k y w m)
+
+returns-3 : tie.Need-returns-3
+returns-3 c =
+    rw (c .before .enum-told2 .given .1) (λ x h u k y s w m. c .drawing-early .ensures x h k s (is-drawn y) m)
+
+pub inside-early-spec : {M : Type 1} → statement M
+inside-early-spec =
+    tie.close
+    (tie.spec
+    enum-told
+    resting-early-requires
+    enum-known-busy
+    reading-early-requires
+    enum-told-2
+    drawing-early-requires
+    returns
+    returns-2
+    returns-3)

@@ -1,0 +1,107 @@
+-- The rules after reading, but for that of the room: what the code finds is the first rule broken.
+-- Assumes nothing.
+use Prim.Native.Nat.{ℕ}
+use mathlib.Core.Path.{_≡_, refl, sym, ap, _∙_, subst}
+use mathlib.Core.Bool.{Bool, true, false}
+use mathlib.Core.List.{List, [], _∷_}
+use borrow.Author.Tests.{eqb-true, eq-eqb, ne-eqb}
+use lib.Dec.{eqb}
+use Rattle.scope.specs.Choice.{pick}
+use Rattle.scope.specs.Attributes.{bytesIn}
+use Rattle.scope.specs.Reading.{Operator}
+use Rattle.scope.specs.Arm.{idle, actOf, walk, from, Stroke, Seen}
+use Rattle.scope.specs.Motif.{unfolded}
+use Rattle.scope.specs.Session.{Session, pageOf, rowFor}
+use Rattle.scope.specs.Judge.{State, Case, caseOf, Rule, rule, Refusal, refused, outer, firstBroken, rules, roomOver, sourceClosed, savedOver, cursorUnset, spaceWrong, countOver}
+use Rattle.scope.specs.Verdict.{every}
+use Rattle.arm.specs.Codes.{codeOf}
+use Rattle.summary.specs.Sums.{SumsAs}
+use Rattle.arm.specs.Holds.{Moves, moves-to, moves-no}
+use Rattle.arm.proofs.Rules.{rules-code}
+use Rattle.arm.proofs.Clean.{clean-code}
+use Rattle.arm.specs.declared.moved.Moved.{Moved}
+use Rattle.arm.specs.declared.moved.Moved.the-variants.{No}
+use Rattle.early.specs.Earlier.{Earlies, Unbroken, early-fine, early-call, early-held, early-no}
+use Rattle.early.proofs.Breaking.{unbroken-first}
+use Rattle.early.specs.declared.early.Early.the-variants as Early-is
+use Rattle.judging.specs.Judged.{Judgement, judged-to, judged-no}
+
+-- the row of an operator that is no call, and of a call
+module _ (high : Bool) (s : List ℕ) (st : State) (x : Session) (o : Operator) where
+  pub seen-plain : eqb (o .tag) 0x5e ≡ false
+      → walk (record { motif = 0; at = o .at; act = actOf high s o } ∷ []) (from (pageOf (x .busy)) (st .performed)) ≡ caseOf high s st x o .seen
+  unfolding caseOf rowFor
+  seen-plain e = rw e
+
+  pub seen-call : eqb (o .tag) 0x5e ≡ true
+      → walk (record { motif = 0; at = o .at; act = idle } ∷ unfolded (x .held) (bytesIn s (o .attrs) 139)) (from (pageOf (x .busy)) (st .performed)) ≡ caseOf high s st x o .seen
+  unfolding caseOf rowFor
+  seen-call e = rw e
+
+-- the rules of the state, and behind them that of the room
+abbrev later : ℕ → List Rule
+later room =
+    rule 17 sourceClosed ∷ rule 23 savedOver ∷ rule 24 cursorUnset ∷ rule 25 spaceWrong ∷ rule 26 countOver ∷ rule 28 (roomOver room) ∷ []
+
+last-rule : (room : ℕ) (c : Case) → firstBroken every c (rule 28 (roomOver room) ∷ []) ≡ pick (roomOver room c) (refused 28 outer) Refusal.none
+unfolding firstBroken
+last-rule room c = refl
+
+module _ (c : Case) (u : Unbroken c) where
+  by-code : (room : ℕ) → firstBroken every c (rules room)
+      ≡ pick (eqb (codeOf (c .session .opened) (c .seen)) 0) (firstBroken every c (rule 28 (roomOver room) ∷ [])) (refused (codeOf (c .session .opened) (c .seen)) outer)
+  unfolding rules
+  by-code room = unbroken-first u (later room) ∙ rules-code c (rule 28 (roomOver room) ∷ [])
+
+  -- what the arm answers is what these rules come to
+  pub moved-judged : {m : Moved} {w : Seen} → w ≡ c .seen → Moves (c .session .opened) m w → Judgement c outer m
+  moved-judged {m} e h = go-on (subst (λ v. Moves (c .session .opened) m v) e h)
+    where
+      go-on : {m : Moved} → Moves (c .session .opened) m (c .seen) → Judgement c outer m
+      go-on (moves-to z p n) =
+          judged-to (λ room. by-code room ∙ rw (eq-eqb (codeOf (c .session .opened) (c .seen)) 0 z) (last-rule room c)) p n
+          (clean-code (c .session .opened) (c .seen) z .count)
+      go-on (moves-no {k = k} e n) =
+          judged-no {code = k} (λ room. by-code room ∙ rw (ne-eqb (codeOf (c .session .opened) (c .seen)) 0 (λ z. n (e ∙ z))) (ap (λ x. refused x outer) (sym e)))
+
+-- one of the earlier rules is broken
+pub early-judged : (c : Case) {code inner : ℕ} → Earlies c (Early-is.No code inner) → Judgement c inner (No code)
+unfolding rules
+early-judged c (early-no f l) = judged-no (λ room. f (later room))
+
+held-call : (tag : ℕ) → eqb tag 0x5d ≡ true → eqb tag 0x5e ≡ false
+held-call tag e = rw (eqb-true tag 0x5d e) refl
+
+-- what the earlier rules tell of an operator that they let pass
+pub fine-call : (c : Case) → Earlies c Early-is.Fine → eqb (c .op .tag) 0x5e ≡ false
+fine-call c (early-fine a b u) = a
+
+pub fine-unbroken : (c : Case) → Earlies c Early-is.Fine → Unbroken c
+fine-unbroken c (early-fine a b u) = u
+
+pub held-no-call : (c : Case) {n v : ℕ} → Earlies c (Early-is.Held n v) → eqb (c .op .tag) 0x5e ≡ false
+held-no-call c (early-held a b u) = held-call (c .op .tag) a
+
+pub held-unbroken : (c : Case) {n v : ℕ} → Earlies c (Early-is.Held n v) → Unbroken c
+held-unbroken c (early-held a b u) = u
+
+-- what the arm answers to an operator in the page where the session stands
+module _ (high : Bool) (s : List ℕ) (st : State) (x : Session) (o : Operator) (b : Bool) (n : ℕ) (m : Moved) (opened : b ≡ x .opened) (performed : n ≡ st .performed) where
+  there : (w : ℕ → Seen) → Moves b m (w n) → Moves (x .opened) m (w (st .performed))
+  there w h = subst (λ k. Moves (x .opened) m (w k)) performed (subst (λ t. Moves t m (w n)) opened h)
+
+  pub plain-judged : Unbroken (caseOf high s st x o) → eqb (o .tag) 0x5e ≡ false
+      → Moves b m (walk (record { motif = 0; at = o .at; act = actOf high s o } ∷ []) (from (pageOf (x .busy)) n)) → Judgement (caseOf high s st x o) outer m
+  unfolding caseOf
+  plain-judged u e h =
+      moved-judged (caseOf high s st x o) u (seen-plain high s st x o e)
+      (there (λ k. walk (record { motif = 0; at = o .at; act = actOf high s o } ∷ []) (from (pageOf (x .busy)) k)) h)
+
+  pub call-judged : (v : ℕ) → Earlies (caseOf high s st x o) (Early-is.Call v)
+      → ((row : List Stroke) → SumsAs v row → Moves b m (walk (record { motif = 0; at = o .at; act = idle } ∷ row) (from (pageOf (x .busy)) n)))
+      → Judgement (caseOf high s st x o) outer m
+  unfolding caseOf
+  call-judged v (early-call e k u) h =
+      moved-judged (caseOf high s st x o) u (seen-call high s st x o e)
+      (there (λ k. walk (record { motif = 0; at = o .at; act = idle } ∷ unfolded (x .held) (bytesIn s (o .attrs) 139)) (from (pageOf (x .busy)) k))
+      (h (unfolded (x .held) (bytesIn s (o .attrs) 139)) k))

@@ -1,0 +1,291 @@
+-- One operator of a job: after it the code stands where the definition stands, or both have ended with the same verdict and list.
+-- Assumes nothing.
+use Prim.Native.Nat.{ℕ, suc, _+_, _*_, _≤_}
+use mathlib.Core.Path.{_≡_, refl, sym, ap, _∙_, subst, subst⁻¹}
+use mathlib.Core.Bool.{Bool, true, false}
+use mathlib.Core.List.{List, [], _∷_, _++_}
+use native.Mathlib.Omega.{arith}
+use borrow.Author.Tests.{leb-true, leb-false, lt-ltb, le-ltb}
+use lib.ListN.{length, drop, length-append}
+use lib.Dec.{leb}
+use Rattle.items.specs.Rows.{Sized}
+use Rattle.reader.specs.Reads.{operatorAs}
+use Rattle.reader.specs.declared.reading.Operator as Reader
+use Rattle.arm.specs.declared.page.Page.{Page}
+use Rattle.after.specs.Afterwards as Afterwards
+use Rattle.early.specs.Earlier.{Earlies, early-no, Passes}
+use Rattle.early.specs.declared.early.Early.the-variants as Early-is
+use Rattle.arm.specs.Holds.{PageHolds}
+use Rattle.arm.specs.declared.moved.Moved.the-variants as Moved-is
+use Rattle.judging.specs.Judged.{Judgement, judged-to, judged-no}
+use Rattle.early.specs.declared.early.Early.{Early}
+use Rattle.place.specs.declared.place.Place.{Place}
+use Rattle.place.specs.declared.place.Busy.{Busy}
+use Rattle.scope.specs.Choice.{pick}
+use Rattle.scope.specs.Iterate.{Next, go, stop, onward}
+use Rattle.scope.specs.Order.{Phase, mayCome, rowsFit, imageOf}
+use Rattle.scope.specs.Reading.{Context, Operator, Read, operatorAt}
+use Rattle.scope.specs.Session as session
+use Rattle.scope.specs.Session.{Setting, sessionOf, phaseOf, placeAfter}
+use Rattle.scope.specs.Judge.{State, Case, caseOf, Outcome, Refusal, refused, refusedAt, outer, firstBroken, rules, roomOver, after, endAt, onRefusal, onCase, onRead, contextOf, jobStep, judgedFrom, starting}
+use Rattle.scope.specs.Verdict as verdict
+use Rattle.scope.specs.Verdict.{every}
+use Rattle.scope.proofs.Ends.{GoodRead, read-good}
+use Rattle.scope.proofs.Taken.{Taken, read-taken}
+use Rattle.scope.proofs.Falls.{judged-step}
+use Rattle.buffer.specs.Over.{over}
+use Rattle.buffer.specs.Listed.{BytesIn, recordsFor}
+use Rattle.buffer.proofs.Listed.{listed-more, recordsBefore-more, length-recordsFor}
+use Rattle.place.specs.Places.{PlaceHolds, outside-holds, inside-holds}
+use Rattle.place.specs.declared.place.Place.the-variants as Place-is
+use Rattle.state.specs.Views.{verdictAs}
+use Rattle.state.specs.Standing.{Listed, Lent, Stands, Steps, steps-go, steps-stop, Comes, endCode}
+use Rattle.state.specs.declared.verdict.Verdict.{Verdict}
+use Rattle.state.specs.declared.state.State as Code
+use Rattle.state.specs.declared.state.Step.{Step}
+use Rattle.state.specs.declared.state.Step.the-variants.{Go, Stop}
+use Rattle.judging.proofs.Bytes.{bytes-taken}
+
+-- what is known of an operator that was read
+module _ (c : Context) (s : List ℕ) (at : ℕ) (o : Operator) (e : operatorAt c s at ≡ Read.operator o) where
+  may-read : {len at : ℕ} {may : ℕ → Bool} → GoodRead len at may (Read.operator o) → may (o .tag) ≡ true
+  may-read (GoodRead.operator a b k) = k
+
+  pub read-may : mayCome (c .phase) (c .opened) (o .tag) ≡ true
+  read-may = may-read (subst (λ r. GoodRead (length s) at (mayCome (c .phase) (c .opened)) r) e (read-good c s at))
+
+  rows-read : Taken c s (Read.operator o) → rowsFit (c .high) s (imageOf (c .phase)) (o .tag) (o .attrs) ≡ true
+  rows-read (Taken.operator a b k) = k
+
+  pub read-rows : rowsFit (c .high) s (imageOf (c .phase)) (o .tag) (o .attrs) ≡ true
+  read-rows = rows-read (subst (λ r. Taken c s r) e (read-taken c s at))
+
+  pub read-bytes : BytesIn (o .attrs)
+  read-bytes = bytes-taken (subst (λ r. Taken c s r) e (read-taken c s at))
+
+-- what the rules come to decides the step
+module _ (set : Setting) (s : List ℕ) (room : ℕ) (d : State) (o : Operator) where
+  abbrev c : Case
+  c = caseOf (set .high) s d (sessionOf (d .place)) o
+
+  pub step-refused : (code inner : ℕ) → firstBroken every c (rules room) ≡ refused code inner
+      → onRead every set s room d (Read.operator o) ≡ stop (refusedAt code (o .at) inner d)
+  unfolding onRead onCase onRefusal caseOf
+  step-refused code inner e = rw e
+
+  pub step-room : firstBroken every c (rules room) ≡ pick (roomOver room c) (refused 28 outer) Refusal.none
+      → leb ((d .records + suc (length (o .attrs))) * 16) room ≡ false → onRead every set s room d (Read.operator o) ≡ stop (refusedAt 28 (o .at) outer d)
+  unfolding roomOver caseOf
+  step-room e f =
+      let h = leb-false ((d .records + suc (length (o .attrs))) * 16) room f in
+      step-refused 28 outer (e ∙ ap (λ b. pick b (refused 28 outer) Refusal.none) (lt-ltb room ((d .records + suc (length (o .attrs))) * 16) h))
+
+  step-on : firstBroken every c (rules room) ≡ Refusal.none → onRead every set s room d (Read.operator o) ≡ go (after set s d c)
+  unfolding onRead onCase onRefusal
+  step-on e = rw e
+
+  pub step-fits : firstBroken every c (rules room) ≡ pick (roomOver room c) (refused 28 outer) Refusal.none
+      → leb ((d .records + suc (length (o .attrs))) * 16) room ≡ true → onRead every set s room d (Read.operator o) ≡ go (after set s d c)
+  unfolding roomOver caseOf
+  step-fits e f =
+      let h = leb-true ((d .records + suc (length (o .attrs))) * 16) room f in
+      step-on (e ∙ ap (λ b. pick b (refused 28 outer) Refusal.none) (le-ltb room ((d .records + suc (length (o .attrs))) * 16) h))
+
+-- a stop, where the code stands
+pub stopped : {job list₀ : List ℕ} {l : Lent} {st : Code.State} {d : State} (v : Verdict) (n : Next State Outcome) (code position inner : ℕ)
+    → Stands job list₀ l st d → n ≡ stop (refusedAt code position inner d) → verdictAs v ≡ verdict.told (refusedAt code position inner d) → Steps job list₀ l (Stop v) n
+stopped {job} {list₀} {l} {st} {d} v n code position inner h e f =
+    subst⁻¹ (λ x. Steps job list₀ l (Stop v) x) e (steps-stop {e = refusedAt code position inner d} f (h .listed))
+
+-- the list with one operator more
+module _ (list₀ list : List ℕ) (past : List Operator) (n : ℕ) (o : Operator) (h : Listed list₀ past list) (k : length (verdict.recordsBefore past []) ≡ n * 16) where
+  abbrev new : List ℕ
+  new = recordsFor (o .tag) (o .at) (o .length) (o .first) (o .attrs)
+
+  pub counted-more : length (verdict.recordsBefore (o ∷ past) []) ≡ (n + suc (length (o .attrs))) * 16
+  counted-more =
+      ap length (recordsBefore-more o past) ∙ length-append (verdict.recordsBefore past []) new
+      ∙ (let a = length-recordsFor (o .tag) (o .at) (o .length) (o .first) (o .attrs) in omega arith)
+
+  pub listed-on : (list₁ : List ℕ) → list₁ ≡ over list (n * 16) new → Listed list₀ (o ∷ past) list₁
+  listed-on list₁ e =
+      record {
+        is = e ∙ listed-more list₀ list (verdict.recordsBefore past []) new n (h .is) k
+            ∙ ap (λ r. r ++ drop (length r) list₀) (sym (recordsBefore-more o past));
+      }
+
+-- a step that goes on
+pub gone : {job list₀ : List ℕ} {l l₁ : Lent} {st t : Code.State} {d : State} (set : Setting) (o : Operator) (n : Next State Outcome) → Stands job list₀ l st d
+    → n ≡ go (after set job d (caseOf (set .high) job d (sessionOf (d .place)) o)) → t .at ≡ o .next
+    → PlaceHolds job (l₁ .rows) (l₁ .sums) (l₁ .work) (t .place)
+    (placeAfter set job o (caseOf (set .high) job d (sessionOf (d .place)) o .seen .page) (d .place))
+    → t .performed ≡ caseOf (set .high) job d (sessionOf (d .place)) o .seen .count → t .records ≡ st .records + length (o .attrs) + 1
+    → l₁ .list ≡ over (l .list) (st .records * 16) (recordsFor (o .tag) (o .at) (o .length) (o .first) (o .attrs))
+    → length (l₁ .rows) ≡ length (l .rows) → length (l₁ .sums) ≡ length (l .sums) → Steps job list₀ l₁ (Go t) n
+unfolding after caseOf
+gone {job} {list₀} {l} {l₁} {st} {t} {d} set o n h e a p c r w x y =
+    let q : t .records ≡ d .records + suc (length (o .attrs)) = let z = h .records in omega arith in
+    let v : l₁ .list ≡ over (l .list) (d .records * 16) (recordsFor (o .tag) (o .at) (o .length) (o .first) (o .attrs)) =
+    w ∙ ap (λ k. over (l .list) (k * 16) (recordsFor (o .tag) (o .at) (o .length) (o .first) (o .attrs))) (h .records) in
+    subst⁻¹ (λ z. Steps job list₀ l₁ (Go t) z) e
+    (steps-go
+    (record {
+      at = a;
+      place = p;
+      performed = c;
+      records = q;
+      counted = counted-more list₀ (l .list) (d .past) (d .records) o (h .listed) (h .counted);
+      listed = listed-on list₀ (l .list) (d .past) (d .records) o (h .listed) (h .counted) (l₁ .list) v;
+      rows-long = x ∙ h .rows-long;
+      sums-long = y ∙ h .sums-long;
+    }))
+
+-- what reading knows where the definition stands
+pub context-is : (high : Bool) (job : List ℕ) (at : ℕ) (d : State) (p : Phase) (b : Bool) → at ≡ d .at → p ≡ phaseOf (d .place) → b ≡ sessionOf (d .place) .opened
+    → operatorAt (record { high = high; phase = p; opened = b; asked = true }) job at ≡ operatorAt (contextOf every high (d .place)) job (d .at)
+unfolding contextOf
+context-is high job at d p b e f g = λ i. operatorAt (record { high = high; phase = f i; opened = g i; asked = true }) job (e i)
+
+module _ (set : Setting) (s : List ℕ) (room : ℕ) (d : State) where
+  pub step-no : (code place : ℕ) → operatorAt (contextOf every (set .high) (d .place)) s (d .at) ≡ Read.no code place
+      → jobStep every set s room d ≡ stop (refusedAt code place outer d)
+  unfolding jobStep onRead
+  step-no code place e = rw e
+
+  end-is : (q : session.Place) → endAt s d q ≡ refusedAt (endCode q) (length s) outer d
+  unfolding endAt
+  end-is (session.outside true) = refl
+  end-is (session.outside false) = refl
+  end-is (session.inside x) = refl
+
+  pub step-ended : operatorAt (contextOf every (set .high) (d .place)) s (d .at) ≡ Read.ended
+      → jobStep every set s room d ≡ stop (refusedAt (endCode (d .place)) (length s) outer d)
+  unfolding jobStep onRead
+  step-ended e = rw e (ap stop (end-is (d .place)))
+
+  pub step-operator : (o : Operator) → operatorAt (contextOf every (set .high) (d .place)) s (d .at) ≡ Read.operator o
+      → jobStep every set s room d ≡ onRead every set s room d (Read.operator o)
+  unfolding jobStep
+  step-operator o e = rw e
+
+-- the code at the end
+pub end-outside : {job rows sums work : List ℕ} {b : Bool} {q : session.Place} → PlaceHolds job rows sums work (Place-is.Outside b) q → endCode q ≡ pick b 0 27
+end-outside (outside-holds {b = true}) = refl
+end-outside (outside-holds {b = false}) = refl
+
+-- the walk goes on from where the code goes on, and stops with what the code stops with
+module _ (job list₀ : List ℕ) (set : Setting) (end : Outcome) where
+  abbrev J : State → Outcome
+  J = judgedFrom every set job (length list₀)
+
+  goes : (l : Lent) (t : Code.State) (n : Next State Outcome) → Steps job list₀ l (Go t) n → onward J n ≡ end → (d : State) × (Stands job list₀ l t d × (J d ≡ end))
+  goes l t (go d) (steps-go h) e = (d, (h, e))
+
+  stops : (l : Lent) (v : Verdict) (n : Next State Outcome) → Steps job list₀ l (Stop v) n → onward J n ≡ end
+      → (verdictAs v ≡ verdict.told end) × Listed list₀ (end .state .past) (l .list)
+  stops l v (stop r) (steps-stop h k) e = (h ∙ ap verdict.told e, subst (λ x. Listed list₀ (x .state .past) (l .list)) e k)
+
+  pub turned-go : (l : Lent) (t : Code.State) (d : State) → J d ≡ end → Steps job list₀ l (Go t) (jobStep every set job (length list₀) d)
+      → (d′ : State) × (Stands job list₀ l t d′ × (J d′ ≡ end))
+  turned-go l t d e h = goes l t (jobStep every set job (length list₀) d) h (sym (judged-step every set job (length list₀) d) ∙ e)
+
+  pub turned-stop : (l : Lent) (v : Verdict) (d : State) → J d ≡ end → Steps job list₀ l (Stop v) (jobStep every set job (length list₀) d)
+      → (verdictAs v ≡ verdict.told end) × Listed list₀ (end .state .past) (l .list)
+  turned-stop l v d e h = stops l v (jobStep every set job (length list₀) d) h (sym (judged-step every set job (length list₀) d) ∙ e)
+
+-- before the first item
+pub starts : (job list₀ : List ℕ) (l : Lent) (st : Code.State) (next : ℕ) → st .at ≡ next → PlaceHolds job (l .rows) (l .sums) (l .work) (st .place) (session.outside false)
+    → st .performed ≡ 0 → st .records ≡ 0 → l .list ≡ list₀ → length (l .rows) ≡ 192 → length (l .sums) ≡ 64 → Stands job list₀ l st (starting next)
+unfolding verdict.recordsBefore
+starts job list₀ l st next a p b c e x y =
+    record { at = a; place = p; performed = b; records = c; counted = refl; listed = record { is = e }; rows-long = x; sums-long = y }
+
+-- an operator whose records do not fit, and one whose do
+module _ (job list₀ : List ℕ) (l : Lent) (st : Code.State) (d : State) (set : Setting) (o : Operator) (n : ℕ) (h : Stands job list₀ l st d) (many : n ≡ length (o .attrs))
+    (same : length list₀ ≡ length (l .list))
+    (ruled : firstBroken every (caseOf (set .high) job d (sessionOf (d .place)) o) (rules (length list₀))
+    ≡ pick (roomOver (length list₀) (caseOf (set .high) job d (sessionOf (d .place)) o)) (refused 28 outer) Refusal.none) where
+  room-is : (b : Bool) → b ≡ leb ((st .records + suc n) * 16) (length (l .list)) → leb ((d .records + suc (length (o .attrs))) * 16) (length list₀) ≡ b
+  room-is b e = let t = sym same in sym (e ∙ (λ i. leb ((h .records i + suc (many i)) * 16) (t i)))
+
+  pub listed-no : (list₁ : List ℕ) (v : Verdict) → list₁ ≡ l .list → false ≡ leb ((st .records + suc n) * 16) (length (l .list))
+      → verdictAs v ≡ verdict.told (refusedAt 28 (o .at) outer d)
+      → Steps job list₀ (record { rows = l .rows; sums = l .sums; work = l .work; list = list₁ }) (Stop v) (onRead every set job (length list₀) d (Read.operator o))
+  listed-no list₁ v e r f =
+      subst⁻¹ (λ x. Steps job list₀ (record { rows = l .rows; sums = l .sums; work = l .work; list = x }) (Stop v) (onRead every set job (length list₀) d (Read.operator o))) e
+      (stopped v (onRead every set job (length list₀) d (Read.operator o)) 28 (o .at) outer h (step-room set job (length list₀) d o ruled (room-is false r)) f)
+
+  pub listed-go : (l₁ : Lent) (t : Code.State) → true ≡ leb ((st .records + suc n) * 16) (length (l .list)) → t .at ≡ o .next
+      → PlaceHolds job (l₁ .rows) (l₁ .sums) (l₁ .work) (t .place)
+      (placeAfter set job o (caseOf (set .high) job d (sessionOf (d .place)) o .seen .page) (d .place))
+      → t .performed ≡ caseOf (set .high) job d (sessionOf (d .place)) o .seen .count → t .records ≡ st .records + n + 1
+      → l₁ .list ≡ over (l .list) (st .records * 16) (recordsFor (o .tag) (o .at) (o .length) (o .first) (o .attrs))
+      → length (l₁ .rows) ≡ length (l .rows) → length (l₁ .sums) ≡ length (l .sums) → Steps job list₀ l₁ (Go t) (onRead every set job (length list₀) d (Read.operator o))
+  listed-go l₁ t r a p c k w x y =
+      gone {l = l} {l₁ = l₁} {st = st} {t = t} set o (onRead every set job (length list₀) d (Read.operator o)) h (step-fits set job (length list₀) d o ruled (room-is true r)) a p c
+      (k ∙ ap (λ z. st .records + z + 1) many) w x y
+
+-- what the session knows of an operator that was read
+pub comes-in : (job attrs rows sums work list₀ : List ℕ) (set : Setting) (d : State) (o : Reader.Operator) (early : Early) (page : Page) (n : ℕ) (place : Place)
+    → PlaceHolds job rows sums work place (d .place) → Sized attrs (o .count) → length rows ≡ 192 → length sums ≡ 64 → 16384 ≤ length work → o .first + o .length ≤ length job
+    → Comes job list₀ set d (operatorAs o attrs) early page n → Afterwards.Comes job attrs (set .high) o early page rows sums work place (d .place) d
+unfolding contextOf
+comes-in job attrs rows sums work list₀ set d o early page n place h z x y w i m =
+    record {
+      holds = h;
+      sized = z;
+      long-rows = x;
+      long-sums = y;
+      room = w;
+      within = i;
+      may = read-may (contextOf every (set .high) (d .place)) job (d .at) (operatorAs o attrs) (m .read);
+      fits = read-rows (contextOf every (set .high) (d .place)) job (d .at) (operatorAs o attrs) (m .read);
+      passes = m .passes;
+      earlier = m .earlier;
+      drawn = m .drawn;
+    }
+
+pub comes-bytes : (job list₀ : List ℕ) (set : Setting) (d : State) (o : Operator) (early : Early) (page : Page) (n : ℕ) → Comes job list₀ set d o early page n → BytesIn (o .attrs)
+comes-bytes job list₀ set d o early page n m = read-bytes (contextOf every (set .high) (d .place)) job (d .at) o (m .read)
+
+pub end-inside : {job rows sums work : List ℕ} {o : Bool} {n used : ℕ} {b : Busy} {q : session.Place} → PlaceHolds job rows sums work (Place-is.Inside o n used b) q → endCode q ≡ 27
+end-inside (inside-holds a b c d e f) = refl
+
+-- what a judgement says
+pub judged-refused : {c : Case} {inner code : ℕ} → Judgement c inner (Moved-is.No code) → (room : ℕ) → firstBroken every c (rules room) ≡ refused code inner
+judged-refused (judged-no f) = f
+
+pub judged-rules : {c : Case} {inner n : ℕ} {p : Page} → Judgement c inner (Moved-is.To p n) → (room : ℕ)
+    → firstBroken every c (rules room) ≡ pick (roomOver room c) (refused 28 outer) Refusal.none
+judged-rules (judged-to f a b e) = f
+
+pub judged-page : {c : Case} {inner n : ℕ} {p : Page} → Judgement c inner (Moved-is.To p n) → PageHolds p (c .seen .page)
+judged-page (judged-to f a b e) = a
+
+pub judged-count : {c : Case} {inner n : ℕ} {p : Page} → Judgement c inner (Moved-is.To p n) → n ≡ c .seen .count
+judged-count (judged-to f a b e) = b
+
+abbrev IsNone : Refusal → Type 0
+IsNone Refusal.none = Unit {0}
+IsNone (refused code inner) = ⊥
+
+unrefused : {A : Type 0} {code inner : ℕ} → refused code inner ≡ Refusal.none → A
+unrefused e = absurd (subst⁻¹ IsNone e tt)
+
+-- with room enough nothing is left to break
+enough : (c : Case) → pick (roomOver (c .records * 16) c) (refused 28 outer) Refusal.none ≡ Refusal.none
+unfolding roomOver
+enough c = let h : c .records * 16 ≤ c .records * 16 = omega arith in rw (le-ltb (c .records * 16) (c .records * 16) h)
+
+-- what is judged to go on was not refused before
+pub judged-passes : {c : Case} {inner n : ℕ} {p : Page} (early : Early) → Judgement c inner (Moved-is.To p n) → Earlies c early → Passes early
+unfolding rules
+judged-passes Early-is.Fine j e = tt
+judged-passes (Early-is.Call v) j e = tt
+judged-passes (Early-is.Held n v) j e = tt
+judged-passes {c} (Early-is.No code inner) (judged-to f a b k) (early-no g l) = unrefused (sym (g _) ∙ f (c .records * 16) ∙ enough c)
+
+-- a step over an operator that was read
+pub steps-read : {job list₀ : List ℕ} {l : Lent} {t : Step} (set : Setting) (d : State) (o : Operator) → operatorAt (contextOf every (set .high) (d .place)) job (d .at) ≡ Read.operator o
+    → Steps job list₀ l t (onRead every set job (length list₀) d (Read.operator o)) → Steps job list₀ l t (jobStep every set job (length list₀) d)
+steps-read {job} {list₀} {l} {t} set d o e h = subst⁻¹ (λ n. Steps job list₀ l t n) (step-operator set job (length list₀) d o e) h

@@ -1,0 +1,33 @@
+-- `call` meets its contract.
+-- Assumes nothing.
+use mathlib.Core.Path.{refl}
+use Rattle.scope.specs.Session.{sessionOf}
+use Rattle.judging.proofs.Ruling.{call-judged}
+use borrow.Author.Needs.{needs}
+use Rattle.judging.proofs.judging.call.Statement.{statement}
+use Rattle.judging.proofs.judging.call.Tie as tie
+
+page-in-requires : tie.Need-page-in-requires
+page-in-requires c κs = search needs
+
+opened-in-requires : tie.Need-opened-in-requires
+opened-in-requires c κs = search needs
+
+unpacked-requires : tie.Need-unpacked-requires
+unpacked-requires c κs = search needs
+
+call-requires : tie.Need-call-requires
+call-requires c κs = search needs
+
+returns : tie.Need-returns
+returns c =
+    let a = c .before .before .before .before .args in
+    λ q st job rows sums work high o h e f.
+    call-judged high job st (sessionOf q) o (c .before .before .opened-in .result) (a .performed) (c .call .result)
+    (c .before .before .opened-in .ensures q job rows sums work h) e (a .sum) f
+    (λ row k. c .call .ensures _ _ row (c .before .before .before .page-in .ensures q job rows sums work h) refl (c .before .unpacked .ensures row k))
+
+pub call-spec : {M : Type 1} → statement M
+call-spec =
+    tie.close
+    (tie.spec page-in-requires opened-in-requires unpacked-requires call-requires returns)

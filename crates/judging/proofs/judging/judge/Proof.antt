@@ -1,0 +1,73 @@
+-- `judging::judge` meets its contract: an earlier rule that is broken, a call, or any other operator.
+-- Assumes nothing.
+use mathlib.Core.Path.{_≡_}
+use mathlib.Core.Bool.{false}
+use mathlib.Core.List.{[], _∷_}
+use mathlib.Core.Logic.{inl, inr}
+use native.Mathlib.Omega.{arith}
+use lib.Dec.{eqb}
+use types.Run.{OneOf}
+use denote.Enum.Declared.{tagOf}
+use Rattle.reader.specs.Reads.{operatorAs}
+use Rattle.scope.specs.Judge.{Case, caseOf, outer}
+use Rattle.scope.specs.Session.{sessionOf}
+use Rattle.arm.specs.declared.moved.Moved.{Moved}
+use Rattle.early.specs.Earlier.{Earlies, Unbroken}
+use Rattle.early.specs.declared.early.Early.{Early}
+use Rattle.early.specs.declared.early.Early.the-variants as Early-is
+use Rattle.early.proofs.early.Early.{the-type}
+use Rattle.judging.specs.Judged.{Judgement, innerOf}
+use Rattle.judging.proofs.Ruling.{early-judged, fine-call, fine-unbroken, held-no-call, held-unbroken}
+use borrow.Author.Needs.{needs}
+use Rattle.judging.proofs.judging.judge.Statement.{statement}
+use Rattle.judging.proofs.judging.judge.Tie as tie
+
+enum-known-early : tie.Need-enum-known-early
+enum-known-early c = search needs
+
+enum-known-early-2 : tie.Need-enum-known-early-2
+enum-known-early-2 c = search needs
+
+call-requires : tie.Need-call-requires
+call-requires c κs = search needs
+
+perform-requires : tie.Need-perform-requires
+perform-requires c κs = search needs
+
+returns : tie.Need-returns
+returns c =
+    let a = c .before .before .before .before .args in
+    λ q st rows sums work h z e f. rw (c .before .early .given .1) (early-judged _ (rw (c .before .early .given .1) at f))
+
+returns-2 : tie.Need-returns-2
+returns-2 c =
+    let a = c .before .before .before .before .before .args in
+    λ q st rows sums work h z e f. rw (c .before .before .early2 .given .1) (c .call .ensures q st (a .job .now) rows sums work (a .high) (operatorAs (a .o) (a .attrs .now)) h e (rw (c .before .before .early2 .given .1) at f))
+
+-- none of the earlier rules is broken, and it is no call
+others-judged : (c : Case) {m : Moved} (early : Early) → OneOf (0 ∷ 2 ∷ []) (tagOf the-type early) → Earlies c early
+    → (eqb (c .op .tag) 0x5e ≡ false → Unbroken c → Judgement c outer m) → Judgement c (innerOf early) m
+others-judged c Early-is.Fine t f k = k (fine-call c f) (fine-unbroken c f)
+others-judged c (Early-is.Call v) t f k = absurd (elim t [ inl e ↦ omega arith | inr e ↦ omega arith ])
+others-judged c (Early-is.Held n v) t f k = k (held-no-call c f) (held-unbroken c f)
+others-judged c (Early-is.No a b) t f k = absurd (elim t [ inl e ↦ omega arith | inr e ↦ omega arith ])
+
+returns-3 : tie.Need-returns-3
+unfolding caseOf
+returns-3 c =
+    let a = c .before .before .before .args in
+    λ q st rows sums work h z e f.
+    others-judged (caseOf (a .high) (a .job .now) st (sessionOf q) (operatorAs (a .o) (a .attrs .now))) (a .early) (c .before .match .keys3) f
+    (λ t u. c .perform .ensures q st rows sums work h z e t u)
+
+pub judge-spec : {M : Type 1} → statement M
+judge-spec =
+    tie.close
+    (tie.spec
+    enum-known-early
+    enum-known-early-2
+    call-requires
+    perform-requires
+    returns
+    returns-2
+    returns-3)

@@ -1,0 +1,86 @@
+// The rules after reading but for the list: 19 to 21, a motif's own, 17, 23 to 26.
+ghost use mathlib.Core.Path.{_≡_};
+ghost use mathlib.Core.Bool.{Bool, false};
+ghost use mathlib.Core.List.{List};
+ghost use Prim.Native.Nat.{ℕ};
+ghost use lib.Dec.{eqb};
+ghost use Rattle.items.specs.Rows.{Sized};
+ghost use Rattle.scope.specs.Reading as reading;
+ghost use Rattle.scope.specs.Session as scope;
+ghost use Rattle.scope.specs.Session.{sessionOf};
+ghost use Rattle.scope.specs.Judge.{State, Case, caseOf, outer};
+ghost use Rattle.reader.specs.Reads.{operatorAs};
+ghost use Rattle.place.specs.Places.{PlaceHolds};
+ghost use Rattle.early.specs.Earlier.{Earlies, Unbroken};
+ghost use Rattle.early.specs.declared.early.Early.the-variants as early-is;
+ghost use Rattle.judging.specs.Judged.{Judgement, innerOf};
+use arm::moved::Moved;
+use early::Early;
+use place::Place;
+use reader::Operator;
+use state::OUTER;
+
+// The inner position of a refusal.
+pub fn inner_of(early: Early) -> u32
+    ensures { λ r. ⌜ ((c : Case) → Earlies c early → r ≡ innerOf early) ⌝ }
+{
+    match early {
+        Early::Fine => OUTER,
+        Early::Call(_) => OUTER,
+        Early::Held(_, _) => OUTER,
+        Early::No(_, inner) => (inner % 4_294_967_296) as u32,
+    }
+}
+
+// An operator that is no call, in its page. Most are plain, and have a shorter way.
+fn perform(
+    job: &[u8],
+    high: bool,
+    attrs: &[usize; 80],
+    place: Place,
+    o: Operator,
+    performed: u32,
+) -> Moved
+    ensures { λ r. ⌜ ((q : scope.Place) (st : State) (rows sums work : List ℕ) → PlaceHolds (now (job .entry)) rows sums work place q → Sized (now (attrs .entry)) (o .count)
+        → performed ≡ st .performed → eqb (o .tag) 0x5e ≡ false → Unbroken (caseOf high (now (job .entry)) st (sessionOf q) (operatorAs o (now (attrs .entry))))
+        → Judgement (caseOf high (now (job .entry)) st (sessionOf q) (operatorAs o (now (attrs .entry)))) outer r) ⌝ }
+{
+    let page = place::page_in(place);
+    let opened = place::opened_in(place);
+    if act::is_plain(o.tag) {
+        return page.keep(o.reads, act::needs_cursor(o.tag), opened, performed);
+    }
+    let act = act::act_of(job, high, o.tag, o.reads, attrs, o.count);
+    page.perform(act, opened, performed)
+}
+
+// A call, from its motif's summary.
+fn call(sum: u64, place: Place, performed: u32) -> Moved
+    ensures { λ r. ⌜ ((q : scope.Place) (st : State) (job rows sums work : List ℕ) (high : Bool) (o : reading.Operator) → PlaceHolds job rows sums work place q
+        → performed ≡ st .performed → Earlies (caseOf high job st (sessionOf q) o) (early-is.Call sum) → Judgement (caseOf high job st (sessionOf q) o) outer r) ⌝ }
+{
+    let page = place::page_in(place);
+    let opened = place::opened_in(place);
+    page.call(summary::unpacked(sum), opened, performed)
+}
+
+// The page after an operator and the number performed, or the code of the first rule broken.
+pub fn judge(
+    job: &[u8],
+    high: bool,
+    attrs: &[usize; 80],
+    early: Early,
+    place: Place,
+    o: Operator,
+    performed: u32,
+) -> Moved
+    ensures { λ r. ⌜ ((q : scope.Place) (st : State) (rows sums work : List ℕ) → PlaceHolds (now (job .entry)) rows sums work place q → Sized (now (attrs .entry)) (o .count)
+        → performed ≡ st .performed → Earlies (caseOf high (now (job .entry)) st (sessionOf q) (operatorAs o (now (attrs .entry)))) early
+        → Judgement (caseOf high (now (job .entry)) st (sessionOf q) (operatorAs o (now (attrs .entry)))) (innerOf early) r) ⌝ }
+{
+    match early {
+        Early::No(code, _) => Moved::No(code),
+        Early::Call(sum) => call(sum, place, performed),
+        _ => perform(job, high, attrs, place, o, performed),
+    }
+}

@@ -1,0 +1,92 @@
+// How much data an operator reads.
+ghost use mathlib.Core.Path.{_≡_};
+ghost use Prim.Native.Nat.{_+_, _*_, _≤_};
+ghost use Rattle.items.specs.Rows.{rowsOf, Sized};
+ghost use Rattle.scope.specs.Attributes.{has};
+ghost use Rattle.scope.specs.Data.{bitsOf, rowOf, pointBytes, dueOf};
+ghost use Rattle.scope.specs.Order.{rowsFit};
+ghost use Rattle.order.specs.Views.{dueAs, imageAs, pointsDue};
+use crate::order::Image;
+
+// So many bytes, or none if the operator reads none.
+pub enum Due {
+    Reads(usize),
+    Nothing,
+}
+
+// The bits of a row.
+fn row_bits(width: u16, depth: u16) -> usize
+    ensures { λ r. ⌜ r ≡ width * bitsOf depth ⌝ }
+    ensures { λ r. ⌜ r ≤ 524_280 ⌝ }
+{
+    let wide = width as usize;
+    match depth {
+        0 => wide,
+        1 => wide * 4,
+        _ => wide * 8,
+    }
+}
+
+// The bytes of a row: rounded up to bytes, then to a multiple of 4 bytes.
+pub fn row_of(width: u16, depth: u16) -> usize
+    ensures { λ r. ⌜ r ≡ rowOf width depth ⌝ }
+    ensures { λ r. ⌜ r ≤ 65536 ⌝ }
+{
+    ((row_bits(width, depth) + 7) / 8 + 3) / 4 * 4
+}
+
+// Of points: 2n bytes for PointType 0 or 1, 4n for 2 or 3.
+fn point_bytes(kind: u32, n: u32) -> usize
+    ensures { λ r. ⌜ r ≡ pointBytes kind n ⌝ }
+{
+    let many = n as usize;
+    if kind <= 1 { 2 * many } else { 4 * many }
+}
+
+// Of a line: its points, if it has NumberOfPoints.
+fn points_due(s: &[u8], high: bool, attrs: &[usize; 80], n: usize) -> Due
+    ensures { λ r. ⌜ (Sized (now (attrs .entry)) n → dueAs r ≡ pointsDue high (now (s .entry)) (rowsOf (now (attrs .entry)) n)) ⌝ }
+{
+    if !rules::has(attrs, n, 77) {
+        return Due::Nothing;
+    }
+    let kind = rules::value_in(s, high, attrs, n, 80);
+    let many = rules::value_in(s, high, attrs, n, 77);
+    Due::Reads(point_bytes(kind, many))
+}
+
+// How much data an operator reads, of which the attributes are taken.
+pub fn due_of(s: &[u8], high: bool, image: Image, tag: u8, attrs: &[usize; 80], n: usize) -> Due
+    ensures { λ r. ⌜ (Sized (now (attrs .entry)) n → dueAs r ≡ dueOf high (now (s .entry)) (imageAs image) tag (rowsOf (now (attrs .entry)) n)) ⌝ }
+{
+    if tag == 0x5c {
+        return Due::Reads(rules::value_in(s, high, attrs, n, 140) as usize);
+    }
+    if tag == 0xb1 {
+        let rows = rules::value_in(s, high, attrs, n, 99) as usize;
+        return Due::Reads(rows * row_of(image.width, image.depth));
+    }
+    if tag != 0x9b {
+        if tag != 0x9d {
+            return Due::Nothing;
+        }
+    }
+    points_due(s, high, attrs, n)
+}
+
+// StartLine is the number of rows read so far, and rows do not exceed SourceHeight.
+pub fn rows_fit(s: &[u8], high: bool, image: Image, tag: u8, attrs: &[usize; 80], n: usize) -> bool
+    ensures { λ r. ⌜ (Sized (now (attrs .entry)) n → r ≡ rowsFit high (now (s .entry)) (imageAs image) tag (rowsOf (now (attrs .entry)) n)) ⌝ }
+{
+    if tag != 0xb1 {
+        return true;
+    }
+    let start = rules::value_in(s, high, attrs, n, 109);
+    let rows = image.rows;
+    if start != rows {
+        return false;
+    }
+    let block = rules::value_in(s, high, attrs, n, 99);
+    let height = image.height as usize;
+    rows as usize + block as usize <= height
+}

@@ -1,0 +1,24 @@
+-- `session::place::phase_drawing` meets its contract: case by case.
+-- Assumes nothing.
+use Rattle.place.proofs.Standing.{page-phase, image-phase}
+use borrow.Author.Needs.{needs}
+use Rattle.place.proofs.place.phase_drawing.Statement.{statement}
+use Rattle.place.proofs.place.phase_drawing.Tie as tie
+
+enum-told : tie.Need-enum-told
+enum-told c = search needs
+
+cast-t5 : tie.Need-cast-t5
+cast-t5 c = search needs
+
+enum-known-picture : tie.Need-enum-known-picture
+enum-known-picture c = search needs
+
+returns : tie.Need-returns
+returns c = rw (c .before .enum-told .given .1) (λ q job work n used h. page-phase h)
+
+returns-2 : tie.Need-returns-2
+returns-2 c = rw (c .before .picture .given .1) (λ q job work n used h. image-phase h)
+
+pub phase-drawing-spec : {M : Type 1} → statement M
+phase-drawing-spec = tie.close (tie.spec enum-told cast-t5 enum-known-picture returns returns-2)

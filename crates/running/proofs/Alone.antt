@@ -1,0 +1,129 @@
+-- An operator that is its tag alone, in a page with no image open: how it is read, that it breaks no rule, and where the job stands after it.
+-- Assumes nothing.
+use Prim.Native.Nat.{ℕ, suc, _+_, _≤_, _<_, max}
+use mathlib.Core.Path.{_≡_, refl, ap, _∙_, subst}
+use mathlib.Core.Bool.{Bool, true, false}
+use mathlib.Core.List.{List, [], _∷_}
+use native.Mathlib.Omega.{arith}
+use native.Mathlib.Numerals.{add-one}
+use borrow.Author.Tests.{le-leb, le-ltb}
+use lib.ListN.{length, getD}
+use lib.Dec.{eqb}
+use Rattle.scope.specs.Choice.{among, between}
+use Rattle.scope.specs.Item.{Scan, white, scanAt}
+use Rattle.scope.specs.Table.{table, lineIn}
+use Rattle.scope.specs.Attributes.{oneByOne, allThere, formCode}
+use Rattle.scope.specs.Data.{dueOf}
+use Rattle.scope.specs.Order.{in-page, drawn, mayCome, rowsFit}
+use Rattle.scope.specs.Reading.{Context, Operator, Read, withData, asWhole, withAttributes, withLine, scanned, operatorAt}
+use Rattle.scope.specs.Arm.{Page, needsCursor, needsSpace, effectOf, actOf, risen, Seen, step, walk, from}
+use Rattle.scope.specs.Motif.{Motif, Picture, pictureAfter}
+use Rattle.scope.specs.Session.{Setting, Session, drawing, inside, pageOf, sessionAfter, placeAfter}
+use Rattle.scope.specs.Judge.{State, caseOf, judgedAt, tooMuch, nameHeld, nameMissing, ownOr, outer}
+use Rattle.items.proofs.Pairs.{scan-tag}
+use Rattle.arm.specs.Alone.{Alone, alone-close, alone-new, alone-paint, alone-push, alone-pop}
+use Rattle.arm.specs.Codes.{codeOf}
+use Rattle.arm.specs.Holds.{PageHolds, Moves, moves-to}
+use Rattle.arm.specs.declared.page.Page as Code
+use Rattle.arm.specs.declared.moved.Moved.the-variants.{To}
+use Rattle.early.specs.Earlier.{Unbroken}
+use Rattle.judging.specs.Judged.{Judgement}
+use Rattle.judging.proofs.Ruling.{plain-judged}
+
+-- the operator of a tag alone
+abbrev pub alone : (tag at : ℕ) → Operator
+alone tag at = record { tag = tag; at = at; attrs = []; reads = false; length = 0; first = 0; next = suc at }
+
+-- what holds of each of the five tags
+each-tag : {tag : ℕ} {q q₁ : Page} (P : ℕ → Type 0) → P 0x84 → P 0x85 → P 0x86 → P 0x61 → P 0x60 → Alone tag q q₁ → P tag
+each-tag P a b c d e alone-close = a
+each-tag P a b c d e alone-new = b
+each-tag P a b c d e alone-paint = c
+each-tag P a b c d e (alone-push h) = d
+each-tag P a b c d e (alone-pop h) = e
+
+module _ {tag : ℕ} {q q₁ : Page} (a : Alone tag q q₁) where
+  black : white tag ≡ false
+  unfolding white
+  black = each-tag (λ t. white t ≡ false) refl refl refl refl refl a
+
+  tagged : between 0x41 0xbf tag ≡ true
+  tagged = each-tag (λ t. between 0x41 0xbf t ≡ true) refl refl refl refl refl a
+
+  no-call : eqb tag 0x5e ≡ false
+  no-call = each-tag (λ t. eqb t 0x5e ≡ false) refl refl refl refl refl a
+
+may-come : (opened : Bool) {tag : ℕ} {q q₁ : Page} → Alone tag q q₁ → mayCome (in-page (length (q .saved))) opened tag ≡ true
+unfolding mayCome drawn among
+may-come opened alone-close = refl
+may-come opened alone-new = refl
+may-come opened alone-paint = refl
+may-come opened (alone-push h) = refl
+may-come opened (alone-pop {q = q} h) = le-leb 1 (length (q .saved)) h
+
+module _ (high opened : Bool) (s : List ℕ) (at : ℕ) {tag : ℕ} {q q₁ : Page} (a : Alone tag q q₁) where
+  abbrev c : Context
+  c = record { high = high; phase = in-page (length (q .saved)); opened = opened; asked = true }
+
+  lined : withLine c s tag at [] (lineIn table tag) ≡ Read.operator (alone tag at)
+  unfolding withLine lineIn table withAttributes oneByOne asWhole formCode allThere rowsFit withData dueOf
+  lined =
+      each-tag (λ t. mayCome (in-page (length (q .saved))) opened t ≡ true → withLine c s t at [] (lineIn table t) ≡ Read.operator (alone t at))
+      (λ e. rw e) (λ e. rw e) (λ e. rw e) (λ e. rw e) (λ e. rw e) a (may-come opened a)
+
+  pub read-alone : at < length s → getD s at 0 ≡ tag → operatorAt c s at ≡ Read.operator (alone tag at)
+  unfolding operatorAt scanned scanAt
+  read-alone h e =
+      ap (scanned c s) (scan-tag high s at [] h (rw e (black a)) (rw e (tagged a)) ∙ ap (λ t. Scan.tagged t at []) e) ∙ lined
+
+-- the rules of codes 19 to 21 and of a motif say nothing of it
+unbroken-alone : (high : Bool) (s : List ℕ) (st : State) (x : Session) (at : ℕ) {tag : ℕ} {q q₁ : Page} → Alone tag q q₁ → Unbroken (caseOf high s st x (alone tag at))
+unfolding caseOf tooMuch nameHeld nameMissing judgedAt
+unbroken-alone high s st x at a =
+    record {
+      room = each-tag (λ t. tooMuch (caseOf high s st x (alone t at)) ≡ false) refl refl refl refl refl a;
+      new = each-tag (λ t. nameHeld (caseOf high s st x (alone t at)) ≡ false) refl refl refl refl refl a;
+      known = each-tag (λ t. nameMissing (caseOf high s st x (alone t at)) ≡ false) refl refl refl refl refl a;
+      sound = λ r. each-tag (λ t. ownOr (caseOf high s st x (alone t at) .made) r ≡ r) refl refl refl refl refl a;
+    }
+
+-- the arm after it
+module _ (high opened : Bool) (s : List ℕ) (at n : ℕ) where
+  abbrev seen : ℕ → Page → Seen
+  seen tag q = walk (record { motif = 0; at = at; act = actOf high s (alone tag at) } ∷ []) (from q n)
+
+  page-alone : {tag : ℕ} {q q₁ : Page} → Alone tag q q₁ → q₁ ≡ seen tag q .page
+  unfolding walk step from actOf effectOf
+  page-alone alone-close = refl
+  page-alone alone-new = refl
+  page-alone alone-paint = refl
+  page-alone (alone-push h) = refl
+  page-alone (alone-pop h) = refl
+
+  -- no rule of the arm's is broken, where fewer than 1,000,000 were performed
+  code-alone : {tag : ℕ} {q q₁ : Page} → Alone tag q q₁ → n < 1_000_000 → codeOf opened (seen tag q) ≡ 0
+  unfolding walk step from actOf effectOf needsCursor needsSpace among codeOf risen
+  code-alone alone-close k = rw (le-ltb 1_000_000 (suc n) k)
+  code-alone alone-new k = rw (le-ltb 1_000_000 (suc n) k)
+  code-alone alone-paint k = rw (le-ltb 1_000_000 (suc n) k)
+  code-alone (alone-push {q = q} h) k = let m : max 0 (suc (length (q .saved))) ≤ 24 = omega arith in rw (le-ltb 24 (max 0 (suc (length (q .saved)))) m, le-ltb 1_000_000 (suc n) k)
+  code-alone (alone-pop h) k = rw (le-ltb 1_000_000 (suc n) k)
+
+  moves-alone : {tag : ℕ} {q q₁ : Page} {p : Code.Page} → Alone tag q q₁ → PageHolds p q₁ → n < 1_000_000 → Moves opened (To p (n + 1)) (seen tag q)
+  unfolding walk step from
+  moves-alone {tag} {q} {p = p} a h k = moves-to (code-alone a k) (subst (PageHolds p) (page-alone a) h) (add-one n)
+
+pub judged-alone : (high : Bool) (s : List ℕ) (st : State) (x : Session) {tag : ℕ} {q q₁ : Page} {p : Code.Page} → Alone tag q q₁ → PageHolds p q₁ → st .performed < 1_000_000
+    → q ≡ pageOf (x .busy) → Judgement (caseOf high s st x (alone tag (st .at))) outer (To p (st .performed + 1))
+judged-alone high s st x {tag} {p = p} a h k e =
+    plain-judged high s st x (alone tag (st .at)) (x .opened) (st .performed) (To p (st .performed + 1)) refl refl (unbroken-alone high s st x (st .at) a) (no-call a)
+    (rw e at (moves-alone high (x .opened) s (st .at) (st .performed) a h k))
+
+-- the session stays in the page, with no image open
+pub place-alone : (set : Setting) (s : List ℕ) (at : ℕ) (held : List Motif) (opened : Bool) (p : Page) {tag : ℕ} {q q₁ : Page} → Alone tag q q₁
+    → placeAfter set s (alone tag at) p (inside (record { held = held; opened = opened; busy = drawing q Picture.none }))
+    ≡ inside (record { held = held; opened = opened; busy = drawing p Picture.none })
+unfolding placeAfter sessionAfter pictureAfter
+place-alone set s at held opened p {q = q} a =
+    each-tag (λ t. placeAfter set s (alone t at) p (inside (record { held = held; opened = opened; busy = drawing q Picture.none }))
+    ≡ inside (record { held = held; opened = opened; busy = drawing p Picture.none })) refl refl refl refl refl a

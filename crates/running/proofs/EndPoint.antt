@@ -1,0 +1,74 @@
+-- A line by its end point, in a page with no image open and the cursor set: that it breaks no rule, and where the job stands after it.
+-- Assumes nothing.
+use Prim.Native.Nat.{ℕ, suc, _+_, _<_}
+use mathlib.Core.Path.{_≡_, refl, sym, ap, _∙_}
+use mathlib.Core.Bool.{Bool, true, false}
+use mathlib.Core.List.{List, [], _∷_}
+use native.Mathlib.Numerals.{add-one}
+use borrow.Author.Tests.{le-ltb}
+use lib.Dec.{eqb}
+use Rattle.scope.specs.Choice.{among}
+use Rattle.scope.specs.Arm.{Page, needsCursor, needsSpace, effectOf, actOf, risen, done, Seen, step, walk, from}
+use Rattle.scope.specs.Motif.{Motif, Picture, pictureAfter}
+use Rattle.scope.specs.Session.{Setting, Session, drawing, inside, pageOf, sessionAfter, placeAfter}
+use Rattle.scope.specs.Judge.{State, caseOf, judgedAt, tooMuch, nameHeld, nameMissing, ownOr, outer}
+use Rattle.arm.specs.Codes.{codeOf}
+use Rattle.arm.specs.Holds.{PageHolds, Moves, moves-to}
+use Rattle.arm.specs.declared.page.Page as Code
+use Rattle.arm.specs.declared.moved.Moved.the-variants.{To}
+use Rattle.reader.specs.EndPoint.{lineOf, Drawn, drawn-path, drawn-rel}
+use Rattle.early.specs.Earlier.{Unbroken}
+use Rattle.judging.specs.Judged.{Judgement}
+use Rattle.judging.proofs.Ruling.{plain-judged}
+
+-- what holds of both tags
+each-line : {tag : ℕ} (P : ℕ → Type 0) → P 0x9b → P 0x9d → Drawn tag → P tag
+each-line P a b drawn-path = a
+each-line P a b drawn-rel = b
+
+-- the rules of codes 19 to 21 and of a motif say nothing of it
+unbroken-line : (high : Bool) (s : List ℕ) (st : State) (x : Session) (point at op : ℕ) {tag : ℕ} → Drawn tag → Unbroken (caseOf high s st x (lineOf point tag at op))
+unfolding caseOf tooMuch nameHeld nameMissing judgedAt
+unbroken-line high s st x point at op d =
+    record {
+      room = each-line (λ t. tooMuch (caseOf high s st x (lineOf point t at op)) ≡ false) refl refl d;
+      new = each-line (λ t. nameHeld (caseOf high s st x (lineOf point t at op)) ≡ false) refl refl d;
+      known = each-line (λ t. nameMissing (caseOf high s st x (lineOf point t at op)) ≡ false) refl refl d;
+      sound = λ r. each-line (λ t. ownOr (caseOf high s st x (lineOf point t at op) .made) r ≡ r) refl refl d;
+    }
+
+-- the arm after it
+module _ (high opened : Bool) (s : List ℕ) (point at op n : ℕ) (q : Page) where
+  abbrev seen : ℕ → Seen
+  seen tag = walk (record { motif = 0; at = op; act = actOf high s (lineOf point tag at op) } ∷ []) (from q n)
+
+  page-line : {tag : ℕ} → Drawn tag → q ≡ seen tag .page
+  unfolding walk step from actOf effectOf done
+  page-line drawn-path = refl
+  page-line drawn-rel = refl
+
+  -- no rule of the arm's is broken, where the cursor is set and fewer than 1,000,000 were performed
+  code-line : {tag : ℕ} → Drawn tag → q .cursor ≡ true → n < 1_000_000 → codeOf opened (seen tag) ≡ 0
+  unfolding walk step from actOf effectOf needsCursor needsSpace among codeOf risen
+  code-line drawn-path e k = rw (e, le-ltb 1_000_000 (suc n) k)
+  code-line drawn-rel e k = rw (e, le-ltb 1_000_000 (suc n) k)
+
+  moves-line : {tag : ℕ} {p : Code.Page} → Drawn tag → PageHolds p q → p .cursor ≡ true → n < 1_000_000 → Moves opened (To p (n + 1)) (seen tag)
+  unfolding walk step from
+  moves-line {p = p} d h e k = moves-to (code-line d (ap (λ (x : Page). x .cursor) (sym (h .same)) ∙ e) k) (rw (page-line d) at h) (add-one n)
+
+pub judged-line : (high : Bool) (s : List ℕ) (st : State) (x : Session) (point op : ℕ) {tag : ℕ} {q : Page} {p : Code.Page} → Drawn tag → PageHolds p q → p .cursor ≡ true → st .performed < 1_000_000
+    → q ≡ pageOf (x .busy) → Judgement (caseOf high s st x (lineOf point tag (st .at) op)) outer (To p (st .performed + 1))
+judged-line high s st x point op {tag} {q} {p} d h c k e =
+    plain-judged high s st x (lineOf point tag (st .at) op) (x .opened) (st .performed) (To p (st .performed + 1)) refl refl (unbroken-line high s st x point (st .at) op d)
+    (each-line (λ t. eqb t 0x5e ≡ false) refl refl d)
+    (rw e at (moves-line high (x .opened) s point (st .at) op (st .performed) q d h c k))
+
+-- the session stays in the page, with no image open
+pub place-line : (set : Setting) (s : List ℕ) (point at op : ℕ) (held : List Motif) (opened : Bool) (p q : Page) {tag : ℕ} → Drawn tag
+    → placeAfter set s (lineOf point tag at op) p (inside (record { held = held; opened = opened; busy = drawing q Picture.none }))
+    ≡ inside (record { held = held; opened = opened; busy = drawing p Picture.none })
+unfolding placeAfter sessionAfter pictureAfter
+place-line set s point at op held opened p q d =
+    each-line (λ t. placeAfter set s (lineOf point t at op) p (inside (record { held = held; opened = opened; busy = drawing q Picture.none }))
+    ≡ inside (record { held = held; opened = opened; busy = drawing p Picture.none })) refl refl d

@@ -1,0 +1,3 @@
+pub mod Alone
+pub mod EndPoint
+pub mod Runs

@@ -1,0 +1,191 @@
+-- A run of operators: the definition goes as far as the code.
+-- Assumes nothing.
+use Prim.Native.Nat.{ℕ, suc, _+_, _*_, _≤_, _<_}
+use mathlib.Core.Path.{_≡_, refl, sym, ap, _∙_, subst, subst⁻¹}
+use mathlib.Core.Bool.{Bool, true}
+use mathlib.Core.List.{List, []}
+use native.Mathlib.Omega.{arith}
+use native.Mathlib.Numerals.{add-one}
+use lib.ListN.{length, getD}
+use lib.Dec.{leb}
+use Rattle.scope.specs.Reading.{Operator, Read, operatorAt}
+use Rattle.scope.specs.Arm.{Page}
+use Rattle.scope.specs.Motif.{Motif, Picture, bytesHeld}
+use Rattle.scope.specs.Session.{Setting, Session, Busy, Place, drawing, inside, phaseDrawing, phaseBusy, phaseOf, placeAfter}
+use Rattle.scope.specs.Judge as scope
+use Rattle.scope.specs.Judge.{contextOf, caseOf, judgedFrom, outer}
+use Rattle.scope.specs.Verdict.{every}
+use Rattle.arm.specs.Alone.{Leaves, leaves-to}
+use Rattle.arm.specs.Holds.{PageHolds}
+use Rattle.arm.specs.declared.page.Page as Code
+use Rattle.arm.specs.declared.page.Passed.the-variants as passed-is
+use Rattle.arm.specs.declared.moved.Moved.the-variants.{To}
+use Rattle.reader.specs.EndPoint.{lineOf, Line}
+use Rattle.reader.proofs.EndPoint.{read-line, line-drawn}
+use Rattle.buffer.specs.Over.{over}
+use Rattle.buffer.specs.Listed.{recordsFor}
+use Rattle.motif.specs.Held.{Keeps}
+use Rattle.order.specs.declared.picture.Picture.the-variants.{Nothing}
+use Rattle.place.specs.Places.{BusyHolds, drawing-holds, PlaceHolds, inside-holds}
+use Rattle.place.specs.declared.place.Busy.the-variants.{Drawing}
+use Rattle.place.specs.declared.place.Place.the-variants.{Inside}
+use Rattle.judging.specs.Judged.{Judgement}
+use Rattle.running.specs.Running.{inSession, Reaches, Runs}
+use Rattle.state.specs.Standing.{Lent, Stands}
+use Rattle.running.specs.declared.running.Run.{Run}
+use Rattle.state.specs.declared.state.State.{State}
+use Rattle.running.proofs.Alone.{alone, read-alone, judged-alone, place-alone}
+use Rattle.running.proofs.EndPoint.{judged-line, place-line}
+use Rattle.judging.proofs.Turns.{turned-go, listed-go, steps-read, judged-rules, judged-page, judged-count}
+
+-- no operator, and one run after another
+pub runs-none : {job list : List ℕ} {st : State} → Runs job list list st st
+runs-none =
+    record {
+      long = refl;
+      on = omega arith;
+      within = λ h. h;
+      counted = omega arith;
+      leads = λ list₀ rows sums work set d e h. record { there = d; stands = h; judged = refl };
+    }
+
+pub runs-still : {job list list₁ : List ℕ} {st : State} → list₁ ≡ list → Runs job list list₁ st st
+runs-still {job} {list} {st = st} e = subst⁻¹ (λ x. Runs job list x st st) e runs-none
+
+pub runs-then : {job a b c : List ℕ} {r s t : State} → Runs job a b r s → Runs job b c s t → Runs job a c r t
+runs-then f g =
+    record {
+      long = g .long ∙ f .long;
+      on = omega arith;
+      within = λ h. g .within (f .within h);
+      counted = omega arith;
+      leads = λ list₀ rows sums work set d e h.
+          let x = f .leads list₀ rows sums work set d e h in
+          let y = g .leads list₀ rows sums work set (x .there) (e ∙ sym (f .long)) (x .stands) in
+          record { there = y .there; stands = y .stands; judged = y .judged ∙ x .judged };
+    }
+
+-- a session in a page with no image open
+abbrev drawn : List Motif → Bool → Page → Place
+drawn motifs opened q = inside (record { held = motifs; opened = opened; busy = drawing q Picture.none })
+
+-- the definition's place is such a session, and the code keeps it whatever the page is
+record InPage (job rows sums work : List ℕ) (opened : Bool) (held used : ℕ) (p : Code.Page) (place : Place) : Type 0 where
+  motifs : List Motif
+  page : Page
+  is : drawn motifs opened page ≡ place
+  holds : PageHolds p page
+  keeps : (r : Code.Page) (q : Page) → PageHolds r q → PlaceHolds job rows sums work (Inside opened held used (Drawing r Nothing)) (drawn motifs opened q)
+
+module _ {job rows sums work : List ℕ} {opened : Bool} {held used : ℕ} {p : Code.Page} where
+  in-busy : (x : Session) (y : Busy) → x .busy ≡ y → opened ≡ x .opened → held ≤ 64 → used ≤ 16384 → used ≡ bytesHeld (x .held) → Keeps job rows sums held (x .held)
+      → BusyHolds job work held used (Drawing p Nothing) y → InPage job rows sums work opened held used p (inside x)
+  in-busy x y f e h u w k (drawing-holds {q = q} g v) =
+      let b : drawing q Picture.none ≡ x .busy = ap (drawing q) v ∙ sym f in
+      record {
+        motifs = x .held;
+        page = q;
+        is = λ i. inside (record { held = x .held; opened = e i; busy = b i });
+        holds = g;
+        keeps = λ r z m. inside-holds refl h u w k (drawing-holds m refl);
+      }
+
+  in-page : {place : Place} → PlaceHolds job rows sums work (Inside opened held used (Drawing p Nothing)) place → InPage job rows sums work opened held used p place
+  in-page (inside-holds {x = x} e h u w k y) = in-busy x (x .busy) refl e h u w k y
+
+-- one operator more, from the run r to the run t
+module _ (job list₀ rows sums work list list₁ : List ℕ) (set : Setting) (opened : Bool) (held used : ℕ) (r t : Run) (o : Operator) where
+  abbrev l : Lent
+  l = record { rows = rows; sums = sums; work = work; list = list }
+
+  abbrev l₁ : Lent
+  l₁ = record { rows = rows; sums = sums; work = work; list = list₁ }
+
+  abbrev here : Place → List Operator → scope.State
+  here place past = record { at = r .at; place = place; performed = r .performed; records = r .records; past = past }
+
+  -- it is read where r stands, breaks no rule, and leaves the session in its page
+  pub record Passes (motifs : List Motif) (past : List Operator) (q : Page) : Type 0 where
+    pub read : operatorAt (contextOf every (set .high) (drawn motifs opened q)) job (r .at) ≡ Read.operator o
+    pub judged : Judgement (caseOf (set .high) job (here (drawn motifs opened q) past) (record { held = motifs; opened = opened; busy = drawing q Picture.none }) o) outer
+        (To (t .page) (t .performed))
+    pub stays : (p : Page) → placeAfter set job o p (drawn motifs opened q) ≡ drawn motifs opened p
+
+  module _ (n : ℕ) (many : n ≡ length (o .attrs)) (same : length list₀ ≡ length list) (next : t .at ≡ o .next) (more : t .records ≡ r .records + n + 1)
+      (room : true ≡ leb ((r .records + suc n) * 16) (length list))
+      (listed : list₁ ≡ over list (r .records * 16) (recordsFor (o .tag) (o .at) (o .length) (o .first) (o .attrs))) where
+    from-place : (motifs : List Motif) (past : List Operator) (q : Page) → Passes motifs past q
+        → ((z : Code.Page) (q : Page) → PageHolds z q → PlaceHolds job rows sums work (Inside opened held used (Drawing z Nothing)) (drawn motifs opened q))
+        → Stands job list₀ l (inSession opened held used r) (here (drawn motifs opened q) past)
+        → Reaches job list₀ rows sums work list₁ set (inSession opened held used t) (here (drawn motifs opened q) past)
+    from-place motifs past q passes keeps s =
+        let d = here (drawn motifs opened q) past in
+        let j = passes .judged in
+        let c = caseOf (set .high) job d (record { held = motifs; opened = opened; busy = drawing q Picture.none }) o in
+        let place : PlaceHolds job rows sums work (inSession opened held used t .place) (placeAfter set job o (c .seen .page) (drawn motifs opened q)) =
+        subst⁻¹ (PlaceHolds job rows sums work (inSession opened held used t .place)) (passes .stays (c .seen .page)) (keeps (t .page) (c .seen .page) (judged-page j)) in
+        let z = turned-go job list₀ set (judgedFrom every set job (length list₀) d) l₁ (inSession opened held used t) d refl
+        (steps-read set d o (passes .read)
+        (listed-go job list₀ l (inSession opened held used r) d set o n s many same (judged-rules j (length list₀)) l₁ (inSession opened held used t) room next place (judged-count j) more listed
+        refl refl)) in
+        record { there = z .0; stands = z .1 .0; judged = z .1 .1 }
+
+    pub one-more : ((motifs : List Motif) (past : List Operator) (q : Page) → PageHolds (r .page) q → Passes motifs past q)
+        → (d : scope.State) → Stands job list₀ l (inSession opened held used r) d → Reaches job list₀ rows sums work list₁ set (inSession opened held used t) d
+    one-more passes d s =
+        let i = in-page (s .place) in
+        let e : here (drawn (i .motifs) opened (i .page)) (d .past) ≡ d =
+        λ k. record { at = s .at k; place = i .is k; performed = s .performed k; records = s .records k; past = d .past } in
+        subst (λ x. Stands job list₀ l (inSession opened held used r) x → Reaches job list₀ rows sums work list₁ set (inSession opened held used t) x) e
+        (from-place (i .motifs) (d .past) (i .page) (passes (i .motifs) (d .past) (i .page) (i .holds)) (i .keeps)) s
+
+-- an operator that is its tag alone
+module _ (job list₀ rows sums work list list₁ : List ℕ) (set : Setting) (opened : Bool) (held used : ℕ) (r : Run) (p : Code.Page) (tag : ℕ) where
+  abbrev after-alone : Run
+  after-alone = record { at = r .at + 1; page = p; performed = r .performed + 1; records = r .records + 1 }
+
+  passes-alone : r .at < length job → getD job (r .at) 0 ≡ tag → r .performed < 1_000_000 → (motifs : List Motif) (past : List Operator) (q : Page) → Leaves tag q (passed-is.To p)
+      → Passes job list₀ rows sums work list list₁ set opened held used r after-alone (alone tag (r .at)) motifs past q
+  unfolding contextOf phaseOf phaseBusy phaseDrawing
+  passes-alone h byte few motifs past q (leaves-to a k) =
+      record {
+        read = read-alone (set .high) opened job (r .at) a h byte;
+        judged = judged-alone (set .high) job (record { at = r .at; place = drawn motifs opened q; performed = r .performed; records = r .records; past = past })
+            (record { held = motifs; opened = opened; busy = drawing q Picture.none }) a k few refl;
+        stays = λ z. place-alone set job (r .at) motifs opened z a;
+      }
+
+  pub one-alone : r .at < length job → getD job (r .at) 0 ≡ tag → r .performed < 1_000_000 → length list₀ ≡ length list
+      → true ≡ leb ((r .records + 1) * 16) (length list) → list₁ ≡ over list (r .records * 16) (recordsFor tag (r .at) 0 0 [])
+      → ((q : Page) → PageHolds (r .page) q → Leaves tag q (passed-is.To p))
+      → (d : scope.State) → Stands job list₀ (record { rows = rows; sums = sums; work = work; list = list }) (inSession opened held used r) d
+      → Reaches job list₀ rows sums work list₁ set (inSession opened held used after-alone) d
+  one-alone h byte few same room listed leaves =
+      one-more job list₀ rows sums work list list₁ set opened held used r after-alone (alone tag (r .at)) 0 refl same (add-one (r .at)) (omega arith) room listed
+      (λ motifs past q k. passes-alone h byte few motifs past q (leaves q k))
+
+-- a line by its end point
+module _ (job list₀ rows sums work list list₁ : List ℕ) (set : Setting) (opened : Bool) (held used : ℕ) (r : Run) (op : ℕ) where
+  abbrev after-line : Run
+  after-line = record { at = op + 1; page = r .page; performed = r .performed + 1; records = r .records + 2 }
+
+  abbrev line : Operator
+  line = lineOf (getD job (r .at) 0) (getD job op 0) (r .at) op
+
+  passes-line : Line job (r .at) op → r .performed < 1_000_000 → r .page .cursor ≡ true → (motifs : List Motif) (past : List Operator) (q : Page) → PageHolds (r .page) q
+      → Passes job list₀ rows sums work list list₁ set opened held used r after-line line motifs past q
+  unfolding contextOf phaseOf phaseBusy phaseDrawing
+  passes-line h few cursor motifs past q k =
+      record {
+        read = read-line (set .high) opened (length (q .saved)) job (r .at) op h;
+        judged = judged-line (set .high) job (record { at = r .at; place = drawn motifs opened q; performed = r .performed; records = r .records; past = past })
+            (record { held = motifs; opened = opened; busy = drawing q Picture.none }) (getD job (r .at) 0) op (line-drawn h) k cursor few refl;
+        stays = λ z. place-line set job (getD job (r .at) 0) (r .at) op motifs opened z q (line-drawn h);
+      }
+
+  pub one-line : Line job (r .at) op → r .performed < 1_000_000 → r .page .cursor ≡ true → length list₀ ≡ length list
+      → true ≡ leb ((r .records + 2) * 16) (length list) → list₁ ≡ over list (r .records * 16) (recordsFor (getD job op 0) op 0 0 (line .attrs))
+      → (d : scope.State) → Stands job list₀ (record { rows = rows; sums = sums; work = work; list = list }) (inSession opened held used r) d
+      → Reaches job list₀ rows sums work list₁ set (inSession opened held used after-line) d
+  one-line h few cursor same room listed =
+      one-more job list₀ rows sums work list list₁ set opened held used r after-line line 1 refl same (add-one op) (omega arith) room listed (passes-line h few cursor)

@@ -1,0 +1,174 @@
+// Operators that are their tag alone, and lines by their end point, in a page with no image open: a run of them is judged in one small loop, as far as
+// nothing could refuse them.
+ghost use mathlib.Core.Path.{_≡_};
+ghost use mathlib.Core.Bool.{Bool};
+ghost use Prim.Native.Nat.{ℕ, _<_};
+ghost use lib.ListN.{length};
+ghost use Rattle.order.specs.declared.picture.Picture.the-variants.{Nothing};
+ghost use Rattle.place.specs.declared.place.Busy.the-variants.{Drawing};
+ghost use Rattle.place.specs.declared.place.Place.the-variants.{Inside};
+ghost use Rattle.running.specs.Running.{inSession, standing, Further, Runs};
+use arm::page::Page;
+use arm::page::Passed;
+use order::Picture;
+use place::Busy;
+use place::Place;
+use state::State;
+
+// Where a run stands.
+pub struct Run {
+    pub at: usize,
+    pub page: Page,
+    pub performed: u32,
+    pub records: usize,
+}
+
+// One operator more, or the run ends.
+pub enum Pass {
+    To(Run),
+    No,
+}
+
+// The next operator of a run, where it is its tag alone.
+fn pass_alone(job: &[u8], list: &mut [u8], from: Run) -> Pass
+    requires { ⌜ (from .at < length (now job)) × (from .performed < 1_000_000) ⌝ }
+    ensures { λ r. ⌜ Further (length (now (job .entry))) from r ⌝ }
+    ensures { λ r. ⌜ ((opened : Bool) (held used : ℕ)
+        → Runs (now (job .entry)) (now (list .entry)) (now (list .exit)) (inSession opened held used from) (inSession opened held used (standing from r))) ⌝ }
+{
+    let at = from.at;
+    let page = from.page;
+    let performed = from.performed;
+    let records = from.records;
+    let tag = job[at];
+    match page.past(tag) {
+        Passed::No => Pass::No,
+        Passed::To(next) => {
+            if !buffer::list_alone(list, records, tag, at) {
+                return Pass::No;
+            }
+            Pass::To(Run {
+                at: at + 1,
+                page: next,
+                performed: performed + 1,
+                records: records + 1,
+            })
+        }
+    }
+}
+
+// The next operator of a run, where it is a line by its end point and the cursor is set.
+fn pass_line(job: &[u8], list: &mut [u8], from: Run) -> Pass
+    requires { ⌜ (from .at < length (now job)) × (from .performed < 1_000_000) ⌝ }
+    ensures { λ r. ⌜ Further (length (now (job .entry))) from r ⌝ }
+    ensures { λ r. ⌜ ((opened : Bool) (held used : ℕ)
+        → Runs (now (job .entry)) (now (list .entry)) (now (list .exit)) (inSession opened held used from) (inSession opened held used (standing from r))) ⌝ }
+{
+    let at = from.at;
+    let page = from.page;
+    let performed = from.performed;
+    let records = from.records;
+    if !page.cursor {
+        return Pass::No;
+    }
+    let op = reader::line_to(job, at);
+    if job.len() <= op {
+        return Pass::No;
+    }
+    if !buffer::list_one(list, records, 69, job[at], at, 2, at + 1, job[op], op) {
+        return Pass::No;
+    }
+    Pass::To(Run {
+        at: op + 1,
+        page,
+        performed: performed + 1,
+        records: records + 2,
+    })
+}
+
+// The next operator of a run: a tag below 0xc0 is an operator's, any other a value's.
+fn pass_one(job: &[u8], list: &mut [u8], from: Run) -> Pass
+    ensures { λ r. ⌜ Further (length (now (job .entry))) from r ⌝ }
+    ensures { λ r. ⌜ ((opened : Bool) (held used : ℕ)
+        → Runs (now (job .entry)) (now (list .entry)) (now (list .exit)) (inSession opened held used from) (inSession opened held used (standing from r))) ⌝ }
+{
+    let at = from.at;
+    if job.len() <= at {
+        return Pass::No;
+    }
+    if 1_000_000 <= from.performed {
+        return Pass::No;
+    }
+    if job[at] < 0xc0 {
+        pass_alone(job, list, from)
+    } else {
+        pass_line(job, list, from)
+    }
+}
+
+// The whole of a run.
+fn run_from(job: &[u8], list: &mut [u8], from: Run) -> Run
+    ensures { λ r. ⌜ ((opened : Bool) (held used : ℕ)
+        → Runs (now (job .entry)) (now (list .entry)) (now (list .exit)) (inSession opened held used from) (inSession opened held used r)) ⌝ }
+{
+    let mut run = from;
+    loop {
+        match pass_one(job, list, run) {
+            Pass::To(on) => {
+                run = on;
+            }
+            Pass::No => {
+                return run;
+            }
+        }
+    }
+}
+
+// In a page with no image open: past the run that stands next.
+fn past_run(
+    job: &[u8],
+    list: &mut [u8],
+    st: State,
+    opened: bool,
+    held: usize,
+    used: usize,
+    page: Page,
+) -> State
+    ensures { λ r. ⌜ (st .place ≡ Inside opened held used (Drawing page Nothing) → Runs (now (job .entry)) (now (list .entry)) (now (list .exit)) st r) ⌝ }
+{
+    let run = run_from(
+        job,
+        list,
+        Run {
+            at: st.at,
+            page,
+            performed: st.performed,
+            records: st.records,
+        },
+    );
+    let page = run.page;
+    State {
+        at: run.at,
+        place: Place::Inside(opened, held, used, Busy::Drawing(page, Picture::Nothing)),
+        performed: run.performed,
+        records: run.records,
+    }
+}
+
+// Past the run of operators that are their tag alone and of lines by their end point, if one stands next.
+pub fn run_on(job: &[u8], list: &mut [u8], st: State) -> State
+    ensures { λ r. ⌜ Runs (now (job .entry)) (now (list .entry)) (now (list .exit)) st r ⌝ }
+{
+    let place = st.place;
+    match place {
+        Place::Outside(_) => st,
+        Place::Inside(opened, held, used, busy) => match busy {
+            Busy::Resting => st,
+            Busy::Reading(_, _, _) => st,
+            Busy::Drawing(page, picture) => match picture {
+                Picture::Being(_) => st,
+                Picture::Nothing => past_run(job, list, st, opened, held, used, page),
+            },
+        },
+    }
+}

@@ -1,4 +1,0 @@
-pub mod Places
-pub mod Earlier
-pub mod Afterwards
-pub mod Kept

@@ -1,0 +1,81 @@
+-- What the code keeps of the definition's state, and one step of both.
+-- Assumes nothing.
+use Prim.Native.Nat.{ℕ, _*_, _≤_, _<_}
+use mathlib.Core.Path.{_≡_}
+use mathlib.Core.List.{List, [], _++_}
+use lib.ListN.{length, drop}
+use Rattle.scope.specs.Iterate.{Next, go, stop}
+use mathlib.Core.Bool.{true, false}
+use Rattle.scope.specs.Choice.{pick}
+use Rattle.scope.specs.Reading.{Operator, Read, operatorAt}
+use Rattle.scope.specs.Session as session
+use Rattle.scope.specs.Judge as scope
+use Rattle.scope.specs.Verdict as verdict
+use Rattle.arm.specs.Holds.{PageHolds}
+use Rattle.arm.specs.declared.page.Page.{Page}
+use Rattle.place.specs.Places.{PlaceHolds}
+use Rattle.early.specs.Earlier.{Earlies, Passes}
+use Rattle.early.specs.declared.early.Early.{Early}
+use Rattle.state.specs.Views.{verdictAs}
+use Rattle.state.specs.declared.verdict.Verdict.{Verdict}
+use Rattle.state.specs.declared.state.State.{State}
+use Rattle.state.specs.declared.state.Step.{Step}
+use Rattle.state.specs.declared.state.Step.the-variants.{Go, Stop}
+
+-- the list, which was list₀ when it was lent, has the records of these operators, and behind them what stood there
+pub record Listed (list₀ : List ℕ) (past : List Operator) (list : List ℕ) : Type 0 where
+  pub is : list ≡ verdict.recordsBefore past [] ++ drop (length (verdict.recordsBefore past [])) list₀
+
+-- the lists that are lent for the length of a job: the rows and summaries of motifs, the work buffer and the list
+pub record Lent : Type 0 where
+  pub rows : List ℕ
+  pub sums : List ℕ
+  pub work : List ℕ
+  pub list : List ℕ
+
+-- the code stands where the definition stands
+pub record Stands (job list₀ : List ℕ) (l : Lent) (st : State) (d : scope.State) : Type 0 where
+  pub at : st .at ≡ d .at
+  pub place : PlaceHolds job (l .rows) (l .sums) (l .work) (st .place) (d .place)
+  pub performed : st .performed ≡ d .performed
+  pub records : st .records ≡ d .records
+  pub counted : length (verdict.recordsBefore (d .past) []) ≡ d .records * 16
+  pub listed : Listed list₀ (d .past) (l .list)
+  pub rows-long : length (l .rows) ≡ 192
+  pub sums-long : length (l .sums) ≡ 64
+
+-- after a step the code stands where the definition goes on, or both have ended with the same verdict and list
+pub data Steps (job list₀ : List ℕ) (l : Lent) : Step → Next scope.State scope.Outcome → Type 0 where
+  steps-go : {t : State} {d : scope.State} → Stands job list₀ l t d → Steps job list₀ l (Go t) (go d)
+  steps-stop : {v : Verdict} {e : scope.Outcome} → verdictAs v ≡ verdict.told e → Listed list₀ (e .state .past) (l .list) → Steps job list₀ l (Stop v) (stop e)
+
+-- the place of the next item lies within the job, and there are at most 17 records for each byte passed
+abbrev pub Ready : (len : ℕ) → State → Type 0
+Ready len st = (st .at ≤ len) × (st .records ≤ st .at * 17)
+
+-- a step goes on further on
+abbrev pub Goes : (len at : ℕ) → Step → Type 0
+Goes len at (Go t) = (at < t .at) × (t .at ≤ len) × (t .records ≤ t .at * 17)
+Goes len at (Stop v) = Unit {0}
+
+-- what a step leaves as it is: the lengths of the two lent buffers, and the work buffer from byte 16,384 on
+pub record Lasts (work list work₁ list₁ : List ℕ) : Type 0 where
+  pub work-long : length work₁ ≡ length work
+  pub list-long : length list₁ ≡ length list
+  pub rest : drop 16384 work₁ ≡ drop 16384 work
+
+-- the code at the end of a job: pass between sessions, after one at least; else 27
+abbrev pub endCode : session.Place → ℕ
+endCode (session.outside true) = 0
+endCode (session.outside false) = 27
+endCode (session.inside x) = 27
+
+-- an operator that was read where the definition stands, breaks no rule but perhaps that of the room, and leaves this page and number performed
+pub record Comes (job list₀ : List ℕ) (set : session.Setting) (d : scope.State) (o : Operator) (early : Early) (page : Page) (performed : ℕ) : Type 0 where
+  pub read : operatorAt (scope.contextOf verdict.every (set .high) (d .place)) job (d .at) ≡ Read.operator o
+  pub passes : Passes early
+  pub earlier : Earlies (scope.caseOf (set .high) job d (session.sessionOf (d .place)) o) early
+  pub drawn : PageHolds page (scope.caseOf (set .high) job d (session.sessionOf (d .place)) o .seen .page)
+  pub counts : performed ≡ scope.caseOf (set .high) job d (session.sessionOf (d .place)) o .seen .count
+  pub rules : scope.firstBroken verdict.every (scope.caseOf (set .high) job d (session.sessionOf (d .place)) o) (scope.rules (length list₀))
+      ≡ pick (scope.roomOver (length list₀) (scope.caseOf (set .high) job d (session.sessionOf (d .place)) o)) (scope.refused 28 scope.outer) scope.Refusal.none

@@ -1,0 +1,272 @@
+// A job, operator by operator.
+ghost use mathlib.Core.Path.{_≡_};
+ghost use mathlib.Core.List.{List};
+ghost use Prim.Native.Nat.{ℕ, _+_, _*_, _≤_, _<_};
+ghost use lib.ListN.{length};
+ghost use Rattle.scope.specs.Choice.{pick};
+ghost use Rattle.items.specs.Rows.{Sized};
+ghost use Rattle.scope.specs.Reading.{operatorAt, operator};
+ghost use Rattle.scope.specs.Session as session;
+ghost use Rattle.scope.specs.Judge as scope;
+ghost use Rattle.scope.specs.Judge.{contextOf, onRead, jobStep, judgedFrom};
+ghost use Rattle.scope.specs.Verdict as verdict;
+ghost use Rattle.scope.specs.Verdict.{every};
+ghost use Rattle.reader.specs.Reads.{operatorAs};
+ghost use Rattle.place.specs.Places.{PlaceHolds};
+ghost use Rattle.state.specs.Views.{verdictAs};
+ghost use Rattle.state.specs.Standing.{Stands, Listed, Comes, Steps, Goes, Lasts, endCode};
+use arm::moved::Moved;
+use arm::page::Page;
+use early::Early;
+use judging::inner_of;
+use judging::judge;
+use names::limits::JOB_MOST;
+use names::limits::WORK_LEAST;
+use place::Place;
+use reader::Context;
+use reader::Operator;
+use reader::Read;
+use running::run_on;
+use state::OUTER;
+use state::State;
+use state::Step;
+use state::Verdict;
+use state::told;
+
+// A refusal, or the pass, where the judging stands.
+fn stop(st: State, code: u32, position: usize, inner: u32) -> Verdict
+    ensures { λ r. ⌜ ((d : scope.State) → position < 4_294_967_296 → st .records < 4_294_967_296 → st .records ≡ d .records → st .performed ≡ d .performed
+        → verdictAs r ≡ verdict.told (scope.refusedAt code position inner d)) ⌝ }
+{
+    told(code, position, inner, st.records, st.performed)
+}
+
+fn pass_after(one: bool) -> u32
+    ensures { λ r. ⌜ r ≡ pick one 0 27 ⌝ }
+{
+    if one { 0 } else { 27 }
+}
+
+// The code at the end of the job: pass between sessions, after one at least; else 27.
+fn end_code(place: Place) -> u32
+    ensures { λ r. ⌜ ((q : session.Place) (job rows sums work : List ℕ) → PlaceHolds job rows sums work place q → r ≡ endCode q) ⌝ }
+{
+    match place {
+        Place::Outside(after_one) => pass_after(after_one),
+        Place::Inside(_, _, _, _) => 27,
+    }
+}
+
+// An operator that breaks no rule but perhaps that of the room: its records, and where the job stands after it.
+fn go_on(
+    job: &[u8],
+    high: bool,
+    gray: bool,
+    work: &mut [u8],
+    list: &mut [u8],
+    rows: &mut [usize; 192],
+    sums: &mut [u64; 64],
+    attrs: &[usize; 80],
+    st: State,
+    o: Operator,
+    early: Early,
+    page: Page,
+    performed: u32,
+) -> Step
+    requires { ⌜ (length (now job) ≤ 61440) × (16384 ≤ length (now work)) × (st .at ≤ o .at) × (o .at < o .next) × (o .next ≤ length (now job)) × (o .count ≤ 16) × (st .records ≤ st .at * 17) ⌝ }
+    ensures { λ _. ⌜ Lasts (now (work .entry)) (now (list .entry)) (now (work .exit)) (now (list .exit)) ⌝ }
+    ensures { λ r. ⌜ Goes (length (now (job .entry))) (st .at) r ⌝ }
+    ensures { λ r. ⌜ ((d : scope.State) (list₀ : List ℕ) → length list₀ ≡ length (now (list .entry)) → Sized (now (attrs .entry)) (o .count) → o .first + o .length ≤ length (now (job .entry))
+        → Stands (now (job .entry)) list₀ (record { rows = now (rows .entry); sums = now (sums .entry); work = now (work .entry); list = now (list .entry) }) st d
+        → Comes (now (job .entry)) list₀ (record { high = high; gray = gray }) d (operatorAs o (now (attrs .entry))) early page performed
+        → Steps (now (job .entry)) list₀ (record { rows = now (rows .exit); sums = now (sums .exit); work = now (work .exit); list = now (list .exit) }) r
+        (onRead every (record { high = high; gray = gray }) (now (job .entry)) (length list₀) d (operator (operatorAs o (now (attrs .entry)))))) ⌝ }
+{
+    let place = st.place;
+    if !buffer::list_operator(
+        list,
+        st.records,
+        attrs,
+        o.count,
+        o.tag,
+        o.at,
+        o.length,
+        o.first,
+    ) {
+        return Step::Stop(stop(st, 28, o.at, OUTER));
+    }
+    let next = after::place_after(
+        job,
+        high,
+        gray,
+        o,
+        attrs,
+        early,
+        page,
+        place,
+        work,
+        rows,
+        sums,
+    );
+    Step::Go(State {
+        at: o.next,
+        place: next,
+        performed,
+        records: st.records + o.count + 1,
+    })
+}
+
+// An operator that was read.
+fn perform(
+    job: &[u8],
+    high: bool,
+    gray: bool,
+    work: &mut [u8],
+    list: &mut [u8],
+    rows: &mut [usize; 192],
+    sums: &mut [u64; 64],
+    attrs: &[usize; 80],
+    st: State,
+    o: Operator,
+) -> Step
+    requires { ⌜ (length (now job) ≤ 61440) × (16384 ≤ length (now work)) × (st .at ≤ o .at) × (o .at < o .next) × (o .next ≤ length (now job)) × (o .count ≤ 16) × (st .records ≤ st .at * 17) ⌝ }
+    ensures { λ _. ⌜ Lasts (now (work .entry)) (now (list .entry)) (now (work .exit)) (now (list .exit)) ⌝ }
+    ensures { λ r. ⌜ Goes (length (now (job .entry))) (st .at) r ⌝ }
+    ensures { λ r. ⌜ ((d : scope.State) (list₀ : List ℕ) → length list₀ ≡ length (now (list .entry)) → Sized (now (attrs .entry)) (o .count)
+        → o .first + o .length ≤ length (now (job .entry))
+        → Stands (now (job .entry)) list₀ (record { rows = now (rows .entry); sums = now (sums .entry); work = now (work .entry); list = now (list .entry) }) st d
+        → operatorAt (contextOf every high (d .place)) (now (job .entry)) (d .at) ≡ operator (operatorAs o (now (attrs .entry)))
+        → Steps (now (job .entry)) list₀ (record { rows = now (rows .exit); sums = now (sums .exit); work = now (work .exit); list = now (list .exit) }) r
+        (onRead every (record { high = high; gray = gray }) (now (job .entry)) (length list₀) d (operator (operatorAs o (now (attrs .entry)))))) ⌝ }
+{
+    let place = st.place;
+    let early = early::early_of(job, work, rows, sums, attrs, place, o);
+    match judge(job, high, attrs, early, place, o, st.performed) {
+        Moved::No(code) => Step::Stop(stop(st, code, o.at, inner_of(early))),
+        Moved::To(page, performed) => go_on(
+            job,
+            high,
+            gray,
+            work,
+            list,
+            rows,
+            sums,
+            attrs,
+            st,
+            o,
+            early,
+            page,
+            performed,
+        ),
+    }
+}
+
+// One operator of the job, or its end.
+fn advance(
+    job: &[u8],
+    high: bool,
+    gray: bool,
+    work: &mut [u8],
+    list: &mut [u8],
+    rows: &mut [usize; 192],
+    sums: &mut [u64; 64],
+    attrs: &mut [usize; 80],
+    st: State,
+) -> Step
+    requires { ⌜ (length (now job) ≤ 61440) × (16384 ≤ length (now work)) × (st .at ≤ length (now job)) × (st .records ≤ st .at * 17) ⌝ }
+    ensures { λ _. ⌜ Lasts (now (work .entry)) (now (list .entry)) (now (work .exit)) (now (list .exit)) ⌝ }
+    ensures { λ _. ⌜ length (now (attrs .exit)) ≡ length (now (attrs .entry)) ⌝ }
+    ensures { λ r. ⌜ Goes (length (now (job .entry))) (st .at) r ⌝ }
+    ensures { λ r. ⌜ ((d : scope.State) (list₀ : List ℕ) → length list₀ ≡ length (now (list .entry)) → length (now (attrs .entry)) ≡ 80
+        → Stands (now (job .entry)) list₀ (record { rows = now (rows .entry); sums = now (sums .entry); work = now (work .entry); list = now (list .entry) }) st d
+        → Steps (now (job .entry)) list₀ (record { rows = now (rows .exit); sums = now (sums .exit); work = now (work .exit); list = now (list .exit) }) r
+        (jobStep every (record { high = high; gray = gray }) (now (job .entry)) (length list₀) d)) ⌝ }
+{
+    let place = st.place;
+    if job.len() <= st.at {
+        return Step::Stop(stop(st, end_code(place), job.len(), OUTER));
+    }
+    let context = Context {
+        high,
+        phase: place::phase_of(place),
+        opened: place::opened_in(place),
+        asked: true,
+    };
+    match reader::operator_at(context, job, st.at, attrs) {
+        Read::No(code, position) => Step::Stop(stop(st, code, position, OUTER)),
+        Read::Ended => Step::Stop(stop(st, end_code(place), job.len(), OUTER)),
+        Read::Operator(o) => perform(job, high, gray, work, list, rows, sums, attrs, st, o),
+    }
+}
+
+// The items of a job that is not too long, with a work buffer that is long enough, from the first one on.
+fn items_from(
+    job: &[u8],
+    high: bool,
+    gray: bool,
+    next: usize,
+    work: &mut [u8],
+    list: &mut [u8],
+) -> Verdict
+    requires { ⌜ (length (now job) ≤ 61440) × (16384 ≤ length (now work)) × (next ≤ length (now job)) ⌝ }
+    ensures { λ _. ⌜ Lasts (now (work .entry)) (now (list .entry)) (now (work .exit)) (now (list .exit)) ⌝ }
+    ensures { λ r. ⌜ (verdictAs r ≡ verdict.told (judgedFrom every (record { high = high; gray = gray }) (now (job .entry)) (length (now (list .entry))) (scope.starting next)))
+        × Listed (now (list .entry)) (judgedFrom every (record { high = high; gray = gray }) (now (job .entry)) (length (now (list .entry))) (scope.starting next) .state .past) (now (list .exit)) ⌝ }
+{
+    let mut rows = [0usize; 192];
+    let mut sums = [0u64; 64];
+    let mut attrs = [0usize; 80];
+    let mut st = State {
+        at: next,
+        place: Place::Outside(false),
+        performed: 0,
+        records: 0,
+    };
+    loop {
+        let from = run_on(job, list, st);
+        match advance(
+            job,
+            high,
+            gray,
+            work,
+            list,
+            &mut rows,
+            &mut sums,
+            &mut attrs,
+            from,
+        ) {
+            Step::Go(on) => {
+                st = on;
+            }
+            Step::Stop(verdict) => {
+                return verdict;
+            }
+        }
+    }
+}
+
+// The whole of a job's items, from the first one on. Where the job is too long, the work buffer too short or `next` outside the job, nothing is read.
+pub fn judge_items(
+    job: &[u8],
+    high: bool,
+    gray: bool,
+    next: usize,
+    work: &mut [u8],
+    list: &mut [u8],
+) -> Verdict
+    ensures { λ _. ⌜ Lasts (now (work .entry)) (now (list .entry)) (now (work .exit)) (now (list .exit)) ⌝ }
+    ensures { λ r. ⌜ (length (now (job .entry)) ≤ 61440 → 16384 ≤ length (now (work .entry)) → next ≤ length (now (job .entry))
+        → (verdictAs r ≡ verdict.told (judgedFrom every (record { high = high; gray = gray }) (now (job .entry)) (length (now (list .entry))) (scope.starting next)))
+        × Listed (now (list .entry)) (judgedFrom every (record { high = high; gray = gray }) (now (job .entry)) (length (now (list .entry))) (scope.starting next) .state .past) (now (list .exit))) ⌝ }
+{
+    if JOB_MOST < job.len() {
+        return told(1, JOB_MOST, OUTER, 0, 0);
+    }
+    if work.len() < WORK_LEAST {
+        return told(29, 0, OUTER, 0, 0);
+    }
+    if job.len() < next {
+        return told(2, job.len(), OUTER, 0, 0);
+    }
+    items_from(job, high, gray, next, work, list)
+}
