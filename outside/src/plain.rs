@@ -155,7 +155,8 @@ struct Reader<'a> {
     high_first: bool,
 }
 
-fn is_space(byte: u8) -> bool {
+/// White space between items.
+pub fn is_space(byte: u8) -> bool {
     matches!(byte, 0x09..=0x0d | 0x20)
 }
 
@@ -479,6 +480,17 @@ impl Image {
     }
 }
 
+/// What an accepted operator does to the image being read.
+#[inline(always)]
+fn image_after(image: &mut Option<Image>, reader: &Reader, op: &Operator) {
+    match (op.tag, image) {
+        (0xb0, image) => *image = Some(Image::begin(reader, op)),
+        (0xb1, Some(image)) => image.rows += reader.scalar(op, 99),
+        (0xb2, image) => *image = None,
+        _ => {}
+    }
+}
+
 /// Length of the embedded data an operator reads, if it reads any.
 #[inline(always)]
 fn data_due(reader: &Reader, op: &Operator, image: Option<&Image>) -> Option<u64> {
@@ -645,14 +657,7 @@ fn judge_motif(name: Vec<u8>, bytes: &[u8], held: &[Motif]) -> Result<Motif, Fau
             }
             0x61 => saved += 1,
             0x60 => saved -= 1,
-            0xb0 => image = Some(Image::begin(&reader, &op)),
-            0xb1 => {
-                if let Some(image) = &mut image {
-                    image.rows += reader.scalar(&op, 99);
-                }
-            }
-            0xb2 => image = None,
-            _ => {}
+            _ => image_after(&mut image, &reader, &op),
         }
         motif.steps.push(now);
     }
@@ -663,34 +668,31 @@ fn judge_motif(name: Vec<u8>, bytes: &[u8], held: &[Motif]) -> Result<Motif, Fau
 }
 
 impl Walk {
-    /// One operator of a motif, without what a call comes to.
-    fn meet(&mut self, step: Step, stack: &mut Vec<Look>) {
-        self.cursor_broken |= step.breaks_cursor(self.look);
-        self.gray_broken |= step.breaks_gray(self.look);
-        match step {
-            Step::Save => {
-                stack.push(self.look);
-                self.saved = self.saved.max(stack.len());
-            }
-            Step::Restore => {
-                if let Some(look) = stack.pop() {
-                    self.look = look;
+    fn from(look: Look) -> Walk {
+        Walk { look, saved: 0, cursor_broken: false, gray_broken: false }
+    }
+
+    /// Performs operators one after the other; what a call comes to is left to `call`.
+    fn pass(&mut self, steps: &[Step], stack: &mut Vec<Look>, mut call: impl FnMut(&mut Walk, &mut Vec<Look>, usize)) {
+        for &step in steps {
+            self.cursor_broken |= step.breaks_cursor(self.look);
+            self.gray_broken |= step.breaks_gray(self.look);
+            match step {
+                Step::Save => {
+                    stack.push(self.look);
+                    self.saved = self.saved.max(stack.len());
                 }
+                Step::Restore => self.look = stack.pop().unwrap_or(self.look),
+                Step::Call(called) => call(self, stack, called),
+                _ => step.change(&mut self.look),
             }
-            Step::Call(_) => {}
-            _ => step.change(&mut self.look),
         }
     }
 }
 
-/// Performs a motif and the calls in it, one operator after the other, on an unlimited stack of saved states.
+/// Performs a motif and the calls in it, on an unlimited stack of saved states.
 fn walk(held: &[Motif], index: usize, stack: &mut Vec<Look>, found: &mut Walk) {
-    for &step in &held[index].steps {
-        found.meet(step, stack);
-        if let Step::Call(called) = step {
-            walk(held, called, stack, found);
-        }
-    }
+    found.pass(&held[index].steps, stack, |found, stack, called| walk(held, called, stack, found));
 }
 
 /// What a walk of each motif finds from each of the four looks, each made once; saved is counted from 0.
@@ -710,18 +712,14 @@ impl<'a> Facts<'a> {
             return walk;
         }
         let held = self.held;
-        let mut stack = Vec::new();
-        let mut found = Walk { look, saved: 0, cursor_broken: false, gray_broken: false };
-        for &step in &held[index].steps {
-            found.meet(step, &mut stack);
-            if let Step::Call(called) = step {
-                let inside = self.of(called, found.look);
-                found.look = inside.look;
-                found.saved = found.saved.max(stack.len() + inside.saved);
-                found.cursor_broken |= inside.cursor_broken;
-                found.gray_broken |= inside.gray_broken;
-            }
-        }
+        let mut found = Walk::from(look);
+        found.pass(&held[index].steps, &mut Vec::new(), |found, stack, called| {
+            let inside = self.of(called, found.look);
+            found.look = inside.look;
+            found.saved = found.saved.max(stack.len() + inside.saved);
+            found.cursor_broken |= inside.cursor_broken;
+            found.gray_broken |= inside.gray_broken;
+        });
         self.known[index][slot] = Some(found);
         found
     }
@@ -899,7 +897,7 @@ impl<'b> Arm<'b> {
 
     /// Walks a call from the state of the page; a motif never pops below its start, so its own stack starts empty.
     fn call(&self, index: usize) -> Walk {
-        let mut found = Walk { look: self.look, saved: 0, cursor_broken: false, gray_broken: false };
+        let mut found = Walk::from(self.look);
         if self.held[index].count <= WALK_MAX {
             walk(&self.held, index, &mut Vec::new(), &mut found);
         } else {
@@ -968,21 +966,11 @@ impl<'b> Arm<'b> {
                 }
             }
             0x61 => self.saved.push(self.look),
-            0xb0 => {
-                self.place = Place::Image;
-                self.image = Some(Image::begin(reader, op));
-            }
-            0xb1 => {
-                if let Some(image) = &mut self.image {
-                    image.rows += reader.scalar(op, 99);
-                }
-            }
-            0xb2 => {
-                self.place = Place::Page;
-                self.image = None;
-            }
+            0xb0 => self.place = Place::Image,
+            0xb2 => self.place = Place::Page,
             _ => {}
         }
+        image_after(&mut self.image, reader, op);
     }
 }
 
@@ -1058,7 +1046,7 @@ mod tests {
             }
             for (index, n) in (0..held.len()).flat_map(|i| (0..4).map(move |n| (i, n))) {
                 let look = Look { cursor: n & 1 == 1, gray: n & 2 == 2 };
-                let mut found = Walk { look, saved: 0, cursor_broken: false, gray_broken: false };
+                let mut found = Walk::from(look);
                 walk(&held, index, &mut Vec::new(), &mut found);
                 let known = Facts::new(&held).of(index, look);
                 assert_eq!(

@@ -13,6 +13,7 @@
 //! - `repeat 10 { .. }`, and `NAME arg ..` for a text given to the assembler, with `$1`, `$2` replaced.
 //! - `^` in front of anything marks its first byte (of an operator its tag, of a motif its EndStream).
 
+use crate::plain::is_space;
 use std::collections::BTreeMap;
 
 pub const OPERATORS: [(u8, &str); 28] = [
@@ -712,10 +713,6 @@ fn number_at(bytes: &[u8], at: usize, size: usize, high_first: bool) -> Option<u
         part[..size].reverse();
     }
     Some(u32::from_le_bytes(part))
-}
-
-fn is_space(byte: u8) -> bool {
-    byte == 0x20 || (0x09..=0x0d).contains(&byte)
 }
 
 /// A header as a statement line, its byte order and length; none if it is not well formed.

@@ -1,0 +1,131 @@
+//! Jobs made from a seed: valid ones, edges of every limit, broken rules, mutants, rich states, tags, truncations.
+//!
+//! `case(seed, index)` is the same for the same numbers, so a difference can be made again.
+
+mod bricks;
+mod broken;
+mod job;
+mod limits;
+mod maker;
+mod mutant;
+mod rng;
+mod runs;
+mod shapes;
+mod tags;
+
+pub use broken::{all_rules, broken, Broken};
+pub use job::write;
+pub use limits::limit;
+pub use maker::{rich, valid};
+pub use mutant::mutant;
+pub use rng::Rng;
+pub use runs::runs;
+pub use shapes::{shapes_of, Need, TAGS};
+pub use tags::tags;
+
+use crate::plain;
+
+/// All jobs that a job cut off anywhere is.
+pub fn truncations(job: &[u8]) -> impl Iterator<Item = &[u8]> {
+    (0..=job.len()).map(|n| &job[..n])
+}
+/// One job with both buffers as lent.
+#[derive(Debug, Clone, PartialEq)]
+pub struct Case {
+    pub kind: &'static str,
+    pub job: Vec<u8>,
+    pub work: Vec<u8>,
+    pub list: Vec<u8>,
+}
+
+/// Bytes of the jobs whose truncations are taken one after the other.
+const CUT: u64 = 512;
+
+/// Case `index` of a seed.
+pub fn case(seed: u64, index: u64) -> Case {
+    let mut rng = Rng::new(seed, index);
+    let turn = index / 8;
+    let (kind, job) = match index % 8 {
+        0 => ("valid", write(&valid(&mut rng))),
+        1 => {
+            let rules = all_rules();
+            let rule = rules[(turn / 2) as usize % rules.len()];
+            ("broken rule", write(&broken(&mut rng, rule, turn % 2 == 1)))
+        }
+        2 | 3 => ("mutant", mutant(&mut rng)),
+        4 | 5 => ("rich", write(&rich(&mut rng))),
+        // The longer limit jobs come less often.
+        6 if turn.is_multiple_of(4) => ("limit", limit(&mut rng, (turn / 4) as usize)),
+        6 if turn % 4 == 1 => ("runs", runs(&mut rng)),
+        6 => ("tags", tags(&mut rng)),
+        _ => {
+            let mut base = Rng::new(seed, turn / CUT);
+            let mut job = write(&valid(&mut base));
+            while !(60..CUT as usize).contains(&job.len()) {
+                job = write(&valid(&mut base));
+            }
+            job.truncate((turn % CUT) as usize);
+            ("truncation", job)
+        }
+    };
+    let (work, list) = buffers(&mut rng, &job);
+    Case { kind, job, work, list }
+}
+
+/// Buffers of varying length and content for a job.
+fn buffers(rng: &mut Rng, job: &[u8]) -> (Vec<u8>, Vec<u8>) {
+    let work = match rng.below(100) {
+        0 => rng.pick(&[0, 1, 16_382, 16_383]),
+        1..=49 => 16_384,
+        _ => 16_384 + rng.below(70),
+    };
+    let list = match rng.below(20) {
+        0 => rng.pick(&[0, 1, 15, 16, 17, 47, 48]),
+        1 => rng.below(600),
+        2 => 65_536,
+        // Exactly as long as the records, or a little shorter.
+        3..=5 => {
+            let mut room = vec![0; 16 * (job.len() + 1)];
+            let records = plain::check(job, &mut vec![0; 16_384], &mut room).records as usize;
+            (records * 16).saturating_sub(rng.pick(&[0, 0, 1, 16, 17]))
+        }
+        _ => (16 * (job.len() + 1)).min(100_000),
+    };
+    (rng.bytes(work), rng.bytes(list))
+}
+
+/// The plain checker's answer with room for the whole list.
+#[cfg(test)]
+fn judged(job: &[u8]) -> plain::Verdict {
+    plain::check(job, &mut vec![1; plain::STORE], &mut vec![1; 16 * (job.len() + 1)])
+}
+
+#[cfg(test)]
+mod tests {
+    use super::*;
+    use crate::text;
+
+    #[test]
+    fn same_numbers_same_case() {
+        for index in 0..600 {
+            assert_eq!(case(5, index), case(5, index));
+        }
+        assert!((0..50).any(|i| case(5, i) != case(6, i)));
+    }
+
+    #[test]
+    fn jobs_read_back_as_text() {
+        for index in 0..800 {
+            let job = case(3, index).job;
+            assert_eq!(text::assemble(&text::list(&job)).unwrap(), job);
+        }
+    }
+
+    #[test]
+    fn every_truncation_is_there() {
+        let job = write(&valid(&mut Rng::new(1, 1)));
+        assert_eq!(truncations(&job).count(), job.len() + 1);
+        let cuts: std::collections::BTreeSet<usize> = (0..40).map(|t| case(9, t * 8 + 7).job.len()).collect();
+        assert_eq!(cuts, (0..40).collect());
+    }
+}

@@ -1,0 +1,204 @@
+//! What each attribute of each operator takes: values of a right shape, of a wrong type, out of range.
+
+use super::rng::Rng;
+use crate::text::Value;
+
+/// What an attribute takes.
+#[derive(Debug, Clone, Copy, PartialEq, Eq)]
+pub enum Shape {
+    /// ubyte in one of two ranges.
+    E(u8, u8, u8, u8),
+    /// ubyte or uint16, at least.
+    N(u32),
+    /// uint16 pair, both at least 1.
+    Sizes,
+    /// Two or four ubyte, uint16 or sint16.
+    Several(u8),
+    /// ubyte array of from..=to.
+    A(usize, usize),
+}
+
+/// Whether an attribute may be missing.
+#[derive(Debug, Clone, Copy, PartialEq, Eq)]
+pub enum Need {
+    Must,
+    May,
+    Choice,
+}
+
+use Need::{Choice, May, Must};
+use Shape::{Several, Sizes, A, E, N};
+
+/// Every attribute of every operator that has any.
+pub const SHAPES: [(u8, u16, Shape, Need); 38] = [
+    (0x41, 134, E(0, 2, 0, 2), Must),
+    (0x41, 137, Sizes, Must),
+    (0x41, 143, E(0, 3, 0, 3), May),
+    (0x43, 40, E(0, 3, 0, 3), Must),
+    (0x43, 37, E(0, 12, 14, 16), Must),
+    (0x43, 38, E(0, 6, 0, 6), May),
+    (0x44, 49, N(1), May),
+    (0x47, 129, A(0, 1024), May),
+    (0x48, 136, E(0, 0, 0, 0), Must),
+    (0x48, 130, E(0, 1, 0, 1), Must),
+    (0x5b, 139, A(1, 16), Must),
+    (0x5c, 140, N(1), Must),
+    (0x5e, 139, A(1, 16), Must),
+    (0x63, 11, A(3, 3), Choice),
+    (0x63, 9, E(0, 255, 0, 255), Choice),
+    (0x63, 4, E(0, 0, 0, 0), Choice),
+    (0x6a, 3, E(1, 2, 1, 2), Must),
+    (0x6b, 76, Several(0xd0), Must),
+    (0x6c, 76, Several(0xd0), Must),
+    (0x79, 11, A(3, 3), Choice),
+    (0x79, 9, E(0, 255, 0, 255), Choice),
+    (0x79, 5, E(0, 0, 0, 0), Choice),
+    (0x7a, 75, N(0), Must),
+    (0x9b, 69, Several(0xd0), Choice),
+    (0x9b, 77, N(1), Choice),
+    (0x9b, 80, E(0, 3, 0, 3), Choice),
+    (0x9d, 69, Several(0xd0), Choice),
+    (0x9d, 77, N(1), Choice),
+    (0x9d, 80, E(0, 3, 0, 3), Choice),
+    (0xa0, 66, Several(0xe0), Must),
+    (0xb0, 100, E(0, 0, 0, 0), Must),
+    (0xb0, 98, E(0, 2, 0, 2), Must),
+    (0xb0, 108, N(1), Must),
+    (0xb0, 107, N(1), Must),
+    (0xb0, 103, Sizes, Must),
+    (0xb1, 109, N(0), Must),
+    (0xb1, 99, N(1), Must),
+    (0xb1, 101, E(0, 0, 0, 0), Must),
+];
+
+/// Tags of the operator table.
+pub const TAGS: [u8; 28] = [
+    0x41, 0x42, 0x43, 0x44, 0x47, 0x48, 0x49, 0x5b, 0x5c, 0x5d, 0x5e, 0x60, 0x61, 0x63, 0x6a, 0x6b, 0x6c, 0x79, 0x7a,
+    0x84, 0x85, 0x86, 0x9b, 0x9d, 0xa0, 0xb0, 0xb1, 0xb2,
+];
+
+/// The attributes of one operator.
+pub fn shapes_of(tag: u8) -> impl Iterator<Item = (u16, Shape, Need)> {
+    SHAPES.iter().filter(move |s| s.0 == tag).map(|s| (s.1, s.2, s.3))
+}
+
+pub(super) fn number(kind: u8, n: u32) -> Value {
+    Value { kind, numbers: vec![n], wide: false }
+}
+
+pub(super) fn array(bytes: &[u8], wide: bool) -> Value {
+    let numbers = bytes.iter().map(|&b| b.into()).collect();
+    Value { kind: 0xc8, numbers, wide: wide || bytes.len() > 255 }
+}
+
+/// A value that the shape takes, edges often.
+pub(super) fn good_value(rng: &mut Rng, shape: Shape) -> Value {
+    match shape {
+        E(a, b, c, d) => {
+            let (from, to) = if rng.one_in(2) { (a, b) } else { (c, d) };
+            let n = match rng.below(3) {
+                0 => from,
+                1 => to,
+                _ => from + rng.below(usize::from(to - from) + 1) as u8,
+            };
+            number(0xc0, n.into())
+        }
+        N(least) => {
+            if rng.one_in(2) {
+                let n = rng.pick(&[least, 1, 2, 5, 255]).max(least);
+                number(0xc0, n)
+            } else {
+                let n = rng.pick(&[least, 1, 256, 300, 65535]).max(least);
+                number(0xc1, n)
+            }
+        }
+        Sizes => {
+            let numbers = vec![rng.pick(&[1, 256, 600, 65535]), rng.pick(&[1, 256, 600, 65535])];
+            Value { kind: 0xd1, numbers, wide: false }
+        }
+        Several(family) => {
+            let kind = family + rng.pick(&[0u8, 1, 3]);
+            let count = if family == 0xd0 { 2 } else { 4 };
+            let numbers = (0..count).map(|_| rng.draw() as u32).collect();
+            Value { kind, numbers, wide: false }
+        }
+        A(from, to) => {
+            let length = match rng.below(4) {
+                0 => from,
+                1 if to <= 16 || rng.one_in(20) => to,
+                _ => from + rng.below((to - from).min(9) + 1),
+            };
+            let wide = rng.one_in(4);
+            array(&rng.bytes(length), wide)
+        }
+    }
+}
+
+pub(super) fn takes_type(shape: Shape, kind: u8) -> bool {
+    match shape {
+        E(..) => kind == 0xc0,
+        N(_) => kind == 0xc0 || kind == 0xc1,
+        Sizes => kind == 0xd1,
+        Several(family) => [family, family + 1, family + 3].contains(&kind),
+        A(..) => kind == 0xc8,
+    }
+}
+
+/// Any value of one type.
+pub(super) fn any_value(rng: &mut Rng, kind: u8) -> Value {
+    let count = match kind {
+        0xc0..=0xc5 => 1,
+        0xd0..=0xd5 => 2,
+        0xe0..=0xe5 => 4,
+        _ => rng.pick(&[0, 1, 3, 4]),
+    };
+    let numbers = (0..count).map(|_| if rng.one_in(2) { rng.below(4) as u32 } else { rng.draw() as u32 }).collect();
+    Value { kind, numbers, wide: rng.one_in(3) }
+}
+
+pub(super) fn any_type(rng: &mut Rng) -> u8 {
+    rng.pick(&[0xc0u8, 0xc8, 0xd0, 0xe0]) + rng.below(6) as u8
+}
+
+/// A value of a type the shape does not take.
+pub(super) fn bad_type(rng: &mut Rng, shape: Shape) -> Value {
+    // Half of them of the right family, where a mistake is easiest.
+    let family = match shape {
+        E(..) | N(_) => 0xc0,
+        Sizes => 0xd0,
+        Several(family) => family,
+        A(..) => 0xc8,
+    };
+    loop {
+        let kind = if rng.one_in(2) { family + rng.below(6) as u8 } else { any_type(rng) };
+        if !takes_type(shape, kind) {
+            return any_value(rng, kind);
+        }
+    }
+}
+
+/// A value of a right type but out of range, if there is any.
+pub(super) fn bad_range(rng: &mut Rng, shape: Shape) -> Option<Value> {
+    Some(match shape {
+        E(0, 255, ..) | N(0) | Several(_) | A(0, _) => return None,
+        E(a, b, c, d) => loop {
+            let n = if rng.one_in(2) {
+                rng.pick(&[b.wrapping_add(1), b.wrapping_add(1), d.wrapping_add(1), a.wrapping_sub(1)])
+            } else {
+                rng.draw() as u8
+            };
+            if !(a..=b).contains(&n) && !(c..=d).contains(&n) {
+                break number(0xc0, n.into());
+            }
+        },
+        N(_) => number(rng.pick(&[0xc0, 0xc1]), 0),
+        Sizes => {
+            let numbers = rng.pick(&[[0, 1], [1, 0], [0, 0], [0, 600]]).to_vec();
+            Value { kind: 0xd1, numbers, wide: false }
+        }
+        A(from, to) => {
+            let length = if rng.one_in(2) { from - 1 } else { to + 1 };
+            array(&rng.bytes(length), false)
+        }
+    })
+}
