@@ -1,22 +1,22 @@
 -- Every refusal has a code, a motif's too; and what the rules of 17, 23 to 26 and 28 add to the others.
 -- Assumes nothing.
-use Prim.Native.Nat.{ℕ, zero, suc, _+_, _-_, _*_, _≤_}
-use mathlib.Core.Path.{_≡_, refl, sym, ap, _∙_, subst⁻¹}
-use mathlib.Core.Bool.{Bool, true, false, not, _&&_}
-use mathlib.Core.List.{List, [], _∷_, _++_}
+use Prim.Native.Nat.{ℕ, _-_, _*_, _≤_}
+use mathlib.Core.Path.{_≡_, refl, sym, _∙_, subst, subst⁻¹}
+use mathlib.Core.Bool.{Bool, true, false, _&&_}
+use mathlib.Core.List.{List, []}
 use native.Mathlib.Omega.{arith}
 use borrow.Author.Tests.{ltb-false, le-ltb}
 use lib.ListN.{length, getD}
-use lib.Dec.{leb, ltb, eqb}
+use lib.Dec.{leb, eqb}
 use Rattle.scope.specs.Choice.{pick, among}
-use Rattle.scope.specs.Iterate.{Next, go, stop, iterate}
 use Rattle.scope.specs.Header.{Header, Form, ends, breaks, headerOf, classed, formFrom}
-use Rattle.scope.specs.Attributes.{bytesIn}
-use Rattle.scope.specs.Reading.{Operator, Read, operatorAt}
-use Rattle.scope.specs.Motif.{Own, Motif, Held, heldAs, Inside, Picture, Judged, valid, faulty, contextIn, onCall, onDeed, onEnd, onRead, motifStep, judgedInside, motifFrom, motifOf}
-use Rattle.scope.specs.Judge.{Case, Refusal, Rule, rule, motifs-own, rules, firstBroken, ownOr, outer, judgedAt, sourceClosed, savedOver, cursorUnset, spaceWrong, countOver, roomOver, tooMuch, nameHeld, nameMissing}
+use Rattle.scope.specs.Reading.{Operator, Read}
+use Rattle.scope.specs.Motif.{Own, Motif, Held, Inside, Picture, Judged, valid, faulty, contextIn, onCall, onDeed, onEnd, onRead, motifStep, judgedInside, motifFrom, motifOf}
+use Rattle.scope.specs.Session.{Place, outside, inside}
+use Rattle.scope.specs.Judge.{State, endAt, Case, Refusal, rules, firstBroken, ownOr, outer, judgedAt, sourceClosed, savedOver, cursorUnset, spaceWrong, countOver, roomOver, tooMuch, nameHeld, nameMissing}
 use Rattle.scope.specs.Verdict.{every, layout}
 use Rattle.scope.proofs.Ends.{pick-all, Kept, kept-go, kept-stop, iterate-holds, Coded, GoodRead, read-good}
+use Rattle.scope.proofs.Apart.{is-none}
 use Rattle.scope.proofs.Rows.{Clean}
 
 pub data GoodJudged : Judged → Type 0 where
@@ -97,6 +97,17 @@ broken-coded given room c g =
     (λ _. pick-all Refuses (given 26 && countOver c) (λ _. so tt)
     (λ _. pick-all Refuses (given 28 && roomOver room c) (λ _. so tt) (λ _. not-so))))))))))
 
+-- a code that is given here is no pass
+pub not-coded : {A : Type 0} (k : ℕ) → Coded k → k ≡ 0 → A
+not-coded k c e = absurd (subst Coded e c)
+
+-- the end of a job leaves the state as it is
+pub end-state : (s : List ℕ) (st : State) (p : Place) → endAt s st p .state ≡ st
+unfolding endAt
+end-state s st (outside true) = refl
+end-state s st (outside false) = refl
+end-state s st (inside x) = refl
+
 -- the rules of the state and of the room
 unfoldable pub stateCode : ℕ → Case → Refusal
 stateCode room c =
@@ -106,21 +117,14 @@ stateCode room c =
     (pick (spaceWrong c) (Refusal.refused 25 outer)
     (pick (countOver c) (Refusal.refused 26 outer) (pick (roomOver room c) (Refusal.refused 28 outer) Refusal.none)))))
 
-abbrev Isnt : Refusal → Type 0
-Isnt Refusal.none = Unit {0}
-Isnt (Refusal.refused code inner) = ⊥
-
-isnt : {r : Refusal} → r ≡ Refusal.none → Isnt r
-isnt e = subst⁻¹ Isnt e tt
-
 rest-of : (a b d : Bool) (m : Judged) (x y : Refusal)
     → pick a (Refusal.refused 19 outer) (pick b (Refusal.refused 20 outer) (pick d (Refusal.refused 21 outer) (ownOr m x))) ≡ Refusal.none
     → pick a (Refusal.refused 19 outer) (pick b (Refusal.refused 20 outer) (pick d (Refusal.refused 21 outer) (ownOr m y))) ≡ y
-rest-of true b d m x y e = absurd (isnt e)
-rest-of false true d m x y e = absurd (isnt e)
-rest-of false false true m x y e = absurd (isnt e)
+rest-of true b d m x y e = absurd (is-none e)
+rest-of false true d m x y e = absurd (is-none e)
+rest-of false false true m x y e = absurd (is-none e)
 rest-of false false false (valid ops k) x y e = refl
-rest-of false false false (faulty code inner) x y e = absurd (isnt e)
+rest-of false false false (faulty code inner) x y e = absurd (is-none e)
 
 -- where no layout rule is broken, the rules of the state and of the room decide
 pub layout-none : (room : ℕ) (c : Case) → firstBroken layout c (rules 0) ≡ Refusal.none → firstBroken every c (rules room) ≡ stateCode room c
@@ -132,15 +136,36 @@ pub none-layout : (room : ℕ) (c : Case) → firstBroken every c (rules room) �
 unfolding firstBroken rules layout among stateCode
 none-layout room c e = rest-of (tooMuch c) (nameHeld c) (nameMissing c) (c .made) (stateCode room c) Refusal.none e
 
+-- what an operator keeps to that breaks no layout rule: no held name is begun again, no name is missing, no motif is faulty
+pub data Valid : Judged → Type 0 where
+  fine : {ops : List Own} {d : ℕ} → Valid (valid ops d)
+
+pub record Laid (c : Case) : Type 0 where
+  pub fresh : nameHeld c ≡ false
+  pub found : nameMissing c ≡ false
+  pub made : Valid (c .made)
+
+laid-of : (c : Case) (a b d : Bool) (m : Judged) → nameHeld c ≡ b → nameMissing c ≡ d → c .made ≡ m
+    → pick a (Refusal.refused 19 outer) (pick b (Refusal.refused 20 outer) (pick d (Refusal.refused 21 outer) (ownOr m Refusal.none))) ≡ Refusal.none → Laid c
+laid-of c true b d m p q r e = absurd (is-none e)
+laid-of c false true d m p q r e = absurd (is-none e)
+laid-of c false false true m p q r e = absurd (is-none e)
+laid-of c false false false (valid ops k) p q r e = record { fresh = p; found = q; made = subst⁻¹ Valid r fine }
+laid-of c false false false (faulty code inner) p q r e = absurd (is-none e)
+
+pub laid : (c : Case) → firstBroken layout c (rules 0) ≡ Refusal.none → Laid c
+unfolding firstBroken rules layout among
+laid c e = laid-of c (tooMuch c) (nameHeld c) (nameMissing c) (c .made) refl refl refl e
+
 room-of : (p q r s t u : Bool)
     → pick p (Refusal.refused 17 outer) (pick q (Refusal.refused 23 outer) (pick r (Refusal.refused 24 outer) (pick s (Refusal.refused 25 outer)
     (pick t (Refusal.refused 26 outer) (pick u (Refusal.refused 28 outer) Refusal.none))))) ≡ Refusal.none → u ≡ false
-room-of true q r s t u e = absurd (isnt e)
-room-of false true r s t u e = absurd (isnt e)
-room-of false false true s t u e = absurd (isnt e)
-room-of false false false true t u e = absurd (isnt e)
-room-of false false false false true u e = absurd (isnt e)
-room-of false false false false false true e = absurd (isnt e)
+room-of true q r s t u e = absurd (is-none e)
+room-of false true r s t u e = absurd (is-none e)
+room-of false false true s t u e = absurd (is-none e)
+room-of false false false true t u e = absurd (is-none e)
+room-of false false false false true u e = absurd (is-none e)
+room-of false false false false false true e = absurd (is-none e)
 room-of false false false false false false e = refl
 
 pub none-fits : (room : ℕ) (c : Case) → firstBroken every c (rules room) ≡ Refusal.none → c .records * 16 ≤ room
@@ -159,11 +184,11 @@ clean-of : (room : ℕ) (c : Case) (p q r s t : Bool) (x : Refusal)
     → pick p (Refusal.refused 17 outer) (pick q (Refusal.refused 23 outer) (pick r (Refusal.refused 24 outer) (pick s (Refusal.refused 25 outer) (pick t (Refusal.refused 26 outer) x)))) ≡ Refusal.none
     → Clean (c .session .opened) (c .seen)
 unfolding sourceClosed savedOver cursorUnset spaceWrong countOver
-clean-of room c true q r s t x a b d f g e = absurd (isnt e)
-clean-of room c false true r s t x a b d f g e = absurd (isnt e)
-clean-of room c false false true s t x a b d f g e = absurd (isnt e)
-clean-of room c false false false true t x a b d f g e = absurd (isnt e)
-clean-of room c false false false false true x a b d f g e = absurd (isnt e)
+clean-of room c true q r s t x a b d f g e = absurd (is-none e)
+clean-of room c false true r s t x a b d f g e = absurd (is-none e)
+clean-of room c false false true s t x a b d f g e = absurd (is-none e)
+clean-of room c false false false true t x a b d f g e = absurd (is-none e)
+clean-of room c false false false false true x a b d f g e = absurd (is-none e)
 clean-of room c false false false false false x a b d f g e =
     record { source = a; most = ltb-false 24 (c .seen .most) b; lost = d; wrong = f; count = ltb-false 1_000_000 (c .seen .count) g }
 

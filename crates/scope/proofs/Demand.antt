@@ -4,54 +4,40 @@
 -- Assumes nothing.
 use Prim.Native.Nat.{ℕ, zero, suc, _+_, _-_, _*_, _≤_, _<_}
 use mathlib.Core.Path.{_≡_, refl, sym, ap, _∙_, subst, subst⁻¹}
-use mathlib.Core.Bool.{Bool, true, false, not, _&&_, _||_}
-use mathlib.Core.List.{List, [], _∷_, _++_, append-nil, append-assoc}
+use mathlib.Core.Bool.{Bool, true, false, not, _&&_}
+use mathlib.Core.List.{List, [], _++_}
 use native.Mathlib.Omega.{arith}
 use lib.ListN.{length, length-append}
 use lib.Dec.{eqb, ltb}
 use borrow.Author.Tests.{le-ltb}
 use Rattle.scope.specs.Choice.{pick, among}
-use Rattle.scope.specs.Iterate.{Next, go, stop, onward, iterate, unroll}
-use Rattle.scope.specs.Header.{Header, headerOf}
+use Rattle.scope.specs.Iterate.{onward}
+use Rattle.scope.specs.Header.{Header}
 use Rattle.scope.specs.Order.{mayCome}
 use Rattle.scope.specs.Reading.{Operator, Read, operatorAt}
 use Rattle.scope.specs.Arm.{Page, Seen, actOf, step, walk, from, Stroke}
 use Rattle.scope.specs.Motif.{Motif}
-use Rattle.scope.specs.Session.{Setting, Place, outside, inside, sessionOf, phaseOf, pageOf, rowFor, placeAfter}
+use Rattle.scope.specs.Session.{Setting, sessionOf, phaseOf, pageOf, rowFor}
 use Rattle.scope.specs.Judge.{State, Outcome, refusedAt, outer, Case, Refusal, starting, caseOf, after, endAt, rules, firstBroken, onRefusal, onCase, onRead, contextOf, jobStep, judgedFrom}
 use Rattle.scope.specs.Verdict.{startsGray, every, layout, judgedAfter, Entry, entryOf, outcomeAt, outcomeOf, verdictOf}
-use Rattle.scope.specs.Plain.{Turn, Deed, PlainArm, breaks, comes, deeds, turnOf, Unrolled, pageThrough, contextAt, onOperator, onNext, unrollStep, unfoldedAfter, unfoldingOf, atStart}
-use Rattle.scope.specs.Claims.{Keeps, HasRoom, Demand3}
+use Rattle.scope.specs.Plain.{Turn, Deed, comes, deeds, turnOf, performed, contextAt, onOperator, onNext, unrollStep, unfoldedAfter, unfoldingOf, atStart}
+use Rattle.scope.specs.Claims.{Demand3}
 use Rattle.scope.proofs.Ends.{pick-all, Coded, GoodRead, read-good}
+use Rattle.scope.proofs.Apart.{is-none}
 use native.Mathlib.Nat.{zero-add}
 use mathlib.Core.Logic.{_↔_}
-use Rattle.scope.proofs.Falls.{judged-step, unroll-falls}
+use Rattle.scope.proofs.Falls.{judged-step}
 use Rattle.scope.proofs.Asks.{Asks, alike, failed, closed, read-asks}
-use Rattle.scope.proofs.Rows.{Clean, armOf, row-clean, clean-row, performed, comes-append, deeds-length, walk-count, walk-page}
-use Rattle.scope.proofs.Codes.{GoodJudged, judged-good, Refuses, not-so, so, broken-coded, stateCode, layout-none, clean-none, none-clean, GoodHeader, header-good}
+use Rattle.scope.proofs.Rows.{Clean, armOf, row-clean, clean-row, comes-append, deeds-length, walk-count}
+use Rattle.scope.proofs.Codes.{end-state, not-coded, GoodJudged, judged-good, Refuses, not-so, so, broken-coded, stateCode, Laid, laid, layout-none, clean-none, none-clean, GoodHeader, header-good}
 use Rattle.scope.proofs.Stands.{Shaped, shaped, row-shaped, standing, stands}
-
-pub not-coded : {A : Type 0} (k : ℕ) → Coded k → k ≡ 0 → A
-not-coded k c e = absurd (subst Coded e c)
-
-pub end-state : (s : List ℕ) (st : State) (p : Place) → endAt s st p .state ≡ st
-unfolding endAt
-end-state s st (outside true) = refl
-end-state s st (outside false) = refl
-end-state s st (inside x) = refl
+use Rattle.scope.proofs.Sound.{knownOf}
+use Rattle.scope.proofs.Gathered.{unrolled, unrolled-step, gathered}
+use Rattle.scope.proofs.Follows.{Steady, steady-start, steady-after, at-state, phase-same, operator-on}
 
 module _ (set : Setting) (s : List ℕ) where
   abbrev lay : State → Outcome
   lay = judgedFrom layout set s 0
-
-  abbrev unrolled : Unrolled → List Deed
-  unrolled = iterate (unrollStep set s) [] (λ u. length s - u .at)
-
-  abbrev at-state : State → List Deed → Unrolled
-  at-state st row = record { at = st .at; place = st .place; row = row }
-
-  unrolled-step : (u : Unrolled) → unrolled u ≡ onward unrolled (unrollStep set s u)
-  unrolled-step u = unroll (unrollStep set s) [] (λ u. length s - u .at) (unroll-falls set s) u
 
   -- the state after an operator
   abbrev next : State → Operator → State
@@ -60,34 +46,6 @@ module _ (set : Setting) (s : List ℕ) where
   -- the row of an operator
   abbrev rowOf : State → Operator → List Stroke
   rowOf st o = rowFor (set .high) s (sessionOf (st .place) .held) o
-
-  -- the plain arm's place after an operator is the judge's
-  pub operator-on : (st : State) (row : List Deed) (o : Operator)
-      → onOperator set s (at-state st row) (sessionOf (st .place)) o ≡ go (at-state (next st o) (row ++ deeds (turnOf (set .gray) (o .tag)) (rowOf st o)))
-  unfolding onOperator after caseOf from
-  operator-on st row o =
-      ap
-      (λ p. go (record { at = o .next; place = placeAfter set s o p (st .place); row = row ++ deeds (turnOf (set .gray) (o .tag)) (rowOf st o) }))
-      (sym (walk-page (rowOf st o) (from (pageOf (sessionOf (st .place) .busy)) (st .performed))))
-
-  module _ (n : ℕ) (ih : (st : State) (row : List Deed) → length s - st .at < n → unrolled (at-state st row) ≡ row ++ unrolled (at-state st [])) where
-    gather-on : (st : State) (row : List Deed) → length s - st .at < suc n → {may : ℕ → Bool} {r : Read} → GoodRead (length s) (st .at) may r
-        → onward unrolled (onNext set s (at-state st row) r) ≡ row ++ onward unrolled (onNext set s (at-state st []) r)
-    unfolding onNext after caseOf
-    gather-on st row h (GoodRead.operator {o = o} p q m) =
-        let d = deeds (turnOf (set .gray) (o .tag)) (rowOf st o) in
-        let k : length s - o .next < n = omega arith in
-        ap (onward unrolled) (operator-on st row o) ∙ ih (next st o) (row ++ d) k ∙ append-assoc row d (unrolled (at-state (next st o) []))
-        ∙ ap (λ t. row ++ t) (sym (ih (next st o) d k) ∙ sym (ap (onward unrolled) (operator-on st [] o)))
-    gather-on st row h GoodRead.ended = sym (append-nil row)
-    gather-on st row h (GoodRead.no k) = sym (append-nil row)
-
-  gathered : (n : ℕ) (st : State) (row : List Deed) → length s - st .at < n → unrolled (at-state st row) ≡ row ++ unrolled (at-state st [])
-  unfolding unrollStep
-  gathered zero st row h = absurd (omega arith)
-  gathered (suc n) st row h =
-      unrolled-step (at-state st row) ∙ gather-on n (gathered n) st row h (read-good (contextAt (set .high) (st .place)) s (st .at))
-      ∙ ap (λ t. row ++ t) (sym (unrolled-step (at-state st [])))
 
   -- records only grow
   module _ (n : ℕ) (ih : (st : State) → length s - st .at < n → st .records ≤ lay st .state .records) where
@@ -144,8 +102,8 @@ module _ (set : Setting) (s : List ℕ) (room : ℕ) where
 
   abbrev Shown : ℕ → Type 0
   Shown n =
-      (st : State) → length s - st .at < n → st .performed ≤ 1_000_000 → lay set s st .code ≡ 0 → lay set s st .state .records * 16 ≤ room
-      → Result (full st) (unrolled set s (at-state set s st [])) st
+      (st : State) → Steady (sessionOf (st .place)) → length s - st .at < n → st .performed ≤ 1_000_000 → lay set s st .code ≡ 0 → lay set s st .state .records * 16 ≤ room
+      → Result (full st) (unrolled set s (at-state st [])) st
 
   module _ (st : State) (o : Operator) (may : mayCome (phaseOf (st .place)) (sessionOf (st .place) .opened) (o .tag) ≡ true) where
     abbrev case-of : Case
@@ -158,13 +116,13 @@ module _ (set : Setting) (s : List ℕ) (room : ℕ) where
     own = deeds (turnOf (set .gray) (o .tag)) (rowOf set s st o)
 
     abbrev later : List Deed
-    later = unrolled set s (at-state set s st′ [])
+    later = unrolled set s (at-state st′ [])
 
     abbrev all : List Deed
-    all = unrolled set s (at-state set s st′ own)
+    all = unrolled set s (at-state st′ own)
 
     all-is : all ≡ own ++ later
-    all-is = gathered set s (suc (length s - st′ .at)) st′ own (omega arith)
+    all-is = gathered set s (suc (length s - st′ .at)) (at-state st′ []) own (omega arith)
 
     comes-all : comes all (standing st) ≡ pick (comes own (standing st)) (comes later (standing st′)) false
     comes-all =
@@ -207,10 +165,7 @@ module _ (set : Setting) (s : List ℕ) (room : ℕ) where
           count = λ k. let a = r .count k in let b = counted in let c = all-length in omega arith;
         }
 
-  isnt-both : {A : Type 0} {r : Refusal} {code inner : ℕ} → r ≡ Refusal.none → r ≡ Refusal.refused code inner → A
-  isnt-both e f = absurd (let z : _≡_ {A = ℕ} 0 1 = cc in omega arith)
-
-  module _ (n : ℕ) (ih : Shown n) (st : State) (h : length s - st .at < suc n) (few : st .performed ≤ 1_000_000) where
+  module _ (n : ℕ) (ih : Shown n) (st : State) (steady : Steady (sessionOf (st .place))) (h : length s - st .at < suc n) (few : st .performed ≤ 1_000_000) where
     module _ (o : Operator) (less : length s - o .next < n) (may : mayCome (phaseOf (st .place)) (sessionOf (st .place) .opened) (o .tag) ≡ true) where
       abbrev c : Case
       c = caseOf (set .high) s st (sessionOf (st .place)) o
@@ -221,50 +176,62 @@ module _ (set : Setting) (s : List ℕ) (room : ℕ) where
           let g = grows set s (suc (length s - o .next)) (next set s st o) (omega arith) in
           omega arith
 
-      by-state : (f : Refusal) → stateCode room c ≡ f → Refuses f → lay set s (next set s st o) .code ≡ 0
+      by-state : Laid c → (f : Refusal) → stateCode room c ≡ f → Refuses f → lay set s (next set s st o) .code ≡ 0
           → lay set s (next set s st o) .state .records * 16 ≤ room
           → Result (onward full (onRefusal set s st c f)) (all st o may) st
       unfolding onRefusal after caseOf
-      by-state Refusal.none e not-so l r =
+      by-state d Refusal.none e not-so l r =
           let k = none-clean room c e in
-          performed-on st o may k (ih (next set s st o) less (k .count) l r)
-      by-state (Refusal.refused code inner) e (so k) l r =
-          stopped st o may code (o .at) inner k (λ q. isnt-both (clean-none room c q (fits-here r)) e) few
+          performed-on st o may k (ih (next set s st o) (steady-after set s st o steady may d) less (k .count) l r)
+      by-state d (Refusal.refused code inner) e (so k) l r =
+          stopped st o may code (o .at) inner k (λ q. absurd (is-none (sym e ∙ clean-none room c q (fits-here r)))) few
 
       made-good : GoodJudged (c .made)
       unfolding caseOf
       made-good = judged-good _ _ (o .tag)
 
+      -- the row that the plain arm performs from here on, where no layout rule is broken
+      all-here : Laid c → unrolled set s (onOperator set s (at-state st []) o) ≡ all st o may
+      all-here d = ap (unrolled set s) (operator-on set s st o steady may d [])
+
       by-layout : (f : Refusal) → firstBroken layout c (rules 0) ≡ f → Refuses f → onward (lay set s) (onRefusal set s st c f) .code ≡ 0
           → onward (lay set s) (onRefusal set s st c f) .state .records * 16 ≤ room
-          → Result (onward full (onRefusal set s st c (firstBroken every c (rules room)))) (all st o may) st
+          → Result (onward full (onRefusal set s st c (firstBroken every c (rules room)))) (unrolled set s (onOperator set s (at-state st []) o)) st
       unfolding onRefusal
       by-layout Refusal.none e not-so l r =
           let j = layout-none room c e in
+          let d = laid c e in
           let g = subst Refuses j (broken-coded every room c made-good) in
-          subst⁻¹ (λ f. Result (onward full (onRefusal set s st c f)) (all st o may) st) j (by-state (stateCode room c) refl g l r)
+          subst⁻¹ (λ z. Result (onward full (onRefusal set s st c (firstBroken every c (rules room)))) z st) (all-here d)
+          (subst⁻¹ (λ f. Result (onward full (onRefusal set s st c f)) (all st o may) st) j (by-state d (stateCode room c) refl g l r))
       by-layout (Refusal.refused code inner) e (so k) l r = not-coded code k l
 
       -- an operator that both readings give
       on-operator : onward (lay set s) (onRead layout set s 0 st (Read.operator o)) .code ≡ 0
           → onward (lay set s) (onRead layout set s 0 st (Read.operator o)) .state .records * 16 ≤ room
           → Result (onward full (onRead every set s room st (Read.operator o)))
-          (onward (unrolled set s) (onNext set s (at-state set s st []) (Read.operator o))) st
+          (onward (unrolled set s) (onNext set s (at-state st []) (Read.operator o))) st
       unfolding onRead onCase onNext
-      on-operator l r =
-          subst⁻¹ (λ z. Result (onward full (onRead every set s room st (Read.operator o))) (onward (unrolled set s) z) st) (operator-on set s st [] o)
-          (by-layout (firstBroken layout c (rules 0)) refl (broken-coded layout 0 c made-good) l r)
+      on-operator l r = by-layout (firstBroken layout c (rules 0)) refl (broken-coded layout 0 c made-good) l r
 
       -- one that only the reading that asks for no open source gives
-      on-closed : (place : ℕ) → o .reads ≡ true → sessionOf (st .place) .opened ≡ false → eqb (o .tag) 0x5e ≡ false
-          → Result (onward full (onRead every set s room st (Read.no 17 place)))
-          (onward (unrolled set s) (onNext set s (at-state set s st []) (Read.operator o))) st
-      unfolding onRead onNext caseOf
-      on-closed place a b d =
-          subst⁻¹ (λ z. Result (onward full (onRead every set s room st (Read.no 17 place))) (onward (unrolled set s) z) st) (operator-on set s st [] o)
+      closed-by : (place : ℕ) → o .reads ≡ true → sessionOf (st .place) .opened ≡ false → eqb (o .tag) 0x5e ≡ false
+          → (f : Refusal) → firstBroken layout c (rules 0) ≡ f → Refuses f → onward (lay set s) (onRefusal set s st c f) .code ≡ 0
+          → Result (refusedAt 17 place outer st) (unrolled set s (onOperator set s (at-state st []) o)) st
+      unfolding onRefusal caseOf
+      closed-by place a b d Refusal.none e not-so l =
+          subst⁻¹ (λ z. Result (refusedAt 17 place outer st) z st) (all-here (laid c e))
           (stopped st o may 17 place outer tt
           (λ q. let z = no-source (c .seen .source) (sessionOf (st .place) .opened) (q .source) b
           (read-source (set .high) s (sessionOf (st .place) .held) o (pageOf (sessionOf (st .place) .busy)) (st .performed) d a) in omega arith) few)
+      closed-by place a b d (Refusal.refused code inner) e (so k) l = not-coded code k l
+
+      on-closed : (place : ℕ) → o .reads ≡ true → sessionOf (st .place) .opened ≡ false → eqb (o .tag) 0x5e ≡ false
+          → onward (lay set s) (onRead layout set s 0 st (Read.operator o)) .code ≡ 0
+          → Result (onward full (onRead every set s room st (Read.no 17 place)))
+          (onward (unrolled set s) (onNext set s (at-state st []) (Read.operator o))) st
+      unfolding onRead onCase onNext
+      on-closed place a b d l = closed-by place a b d (firstBroken layout c (rules 0)) refl (broken-coded layout 0 c made-good) l
 
     on-end : endAt s st (st .place) .code ≡ 0 → Result (endAt s st (st .place)) [] st
     unfolding comes
@@ -274,25 +241,27 @@ module _ (set : Setting) (s : List ℕ) (room : ℕ) where
         → GoodRead (length s) (st .at) (mayCome (phaseOf (st .place)) (sessionOf (st .place) .opened)) r
         → onward (lay set s) (onRead layout set s 0 st r) .code ≡ 0
         → onward (lay set s) (onRead layout set s 0 st r) .state .records * 16 ≤ room
-        → Result (onward full (onRead every set s room st q)) (onward (unrolled set s) (onNext set s (at-state set s st []) r)) st
+        → Result (onward full (onRead every set s room st q)) (onward (unrolled set s) (onNext set s (at-state st []) r)) st
     unfolding onRead onNext
     on-both alike (GoodRead.operator {o = o} a b m) l r = let k : length s - o .next < n = omega arith in on-operator o k m l r
     on-both alike GoodRead.ended l r = on-end l
     on-both alike (GoodRead.no {code = code} k) l r = not-coded code k l
     on-both failed (GoodRead.no {code = code} k) l r = not-coded code k l
     on-both (closed {o = o} {place = p} x y z) (GoodRead.operator a b m) l r =
-        let k : length s - o .next < n = omega arith in on-closed o k m p x y z
+        let k : length s - o .next < n = omega arith in on-closed o k m p x y z l
 
   shown : (n : ℕ) → Shown n
   unfolding jobStep unrollStep contextOf contextAt layout among
-  shown zero st h few l r = absurd (omega arith)
-  shown (suc n) st h few l r =
+  shown zero st steady h few l r = absurd (omega arith)
+  shown (suc n) st steady h few l r =
       let a = judged-step layout set s 0 st in
       let x = sessionOf (st .place) in
-      let g = on-both n (shown n) st h few (read-asks (set .high) (phaseOf (st .place)) s (x .opened) (st .at))
+      let g = on-both n (shown n) st steady h few (read-asks (set .high) (phaseOf (st .place)) s (x .opened) (st .at))
       (read-good (contextOf layout (set .high) (st .place)) s (st .at)) (ap (λ z. z .code) (sym a) ∙ l) (subst (λ z. z .state .records * 16 ≤ room) a r) in
-      subst⁻¹ (λ z. Result z (unrolled set s (at-state set s st [])) st) (judged-step every set s room st)
-      (subst⁻¹ (λ z. Result (onward full (jobStep every set s room st)) z st) (unrolled-step set s (at-state set s st [])) g)
+      let p : unrollStep set s (at-state st []) ≡ onNext set s (at-state st []) (operatorAt (contextOf layout (set .high) (st .place)) s (st .at)) =
+      ap (λ f. onNext set s (at-state st []) (operatorAt (record { high = set .high; phase = f; opened = x .opened; asked = false }) s (st .at))) (phase-same (st .place)) in
+      subst⁻¹ (λ z. Result z (unrolled set s (at-state st [])) st) (judged-step every set s room st)
+      (subst⁻¹ (λ z. Result (onward full (jobStep every set s room st)) z st) (unrolled-step set s (at-state st []) ∙ ap (onward (unrolled set s)) p) g)
 
 -- what is to be shown of an outcome and of the row that the plain arm performs
 abbrev Meets : Outcome → List Deed → Type 0
@@ -300,9 +269,9 @@ Meets e row = ((e .code ≡ 0) ↔ (comes row atStart ≡ true)) × (e .code ≡
 
 at-header : (job : List ℕ) (room : ℕ) {r : Header} → GoodHeader r → judgedAfter layout job 0 r .code ≡ 0
     → judgedAfter layout job 0 r .state .records * 16 ≤ room → Meets (judgedAfter every job room r) (unfoldedAfter startsGray job r)
-unfolding judgedAfter unfoldedAfter
+unfolding judgedAfter unfoldedAfter knownOf
 at-header job room (GoodHeader.good {high = high} {next = next}) l r =
-    let k = shown (record { high = high; gray = startsGray }) job room (suc (length job - next)) (starting next) (omega arith) (omega arith) l r in
+    let k = shown (record { high = high; gray = startsGray }) job room (suc (length job - next)) (starting next) (steady-start false) (omega arith) (omega arith) l r in
     ((k .passes, k .back), λ e. k .count e ∙ zero-add _)
 at-header job room (GoodHeader.ill {code = code} k) l r = not-coded code k l
 

@@ -1,21 +1,21 @@
 -- Every walk of the definitions falls: it is one step, and the walk from there. The numbers that `iterate` is given are never used up.
 -- Assumes nothing.
-use Prim.Native.Nat.{ℕ, suc, _+_, _-_, _≤_, _<_}
-use mathlib.Core.Path.{_≡_, refl}
+use Prim.Native.Nat.{ℕ, _-_, _≤_, _<_}
+use mathlib.Core.Path.{_≡_}
 use mathlib.Core.Bool.{Bool, true, false}
-use mathlib.Core.List.{List, [], _∷_, _++_}
+use mathlib.Core.List.{List}
 use native.Mathlib.Omega.{arith}
 use lib.ListN.{length, getD}
 use lib.Dec.{leb, eqb}
-use Rattle.scope.specs.Choice.{pick, between}
-use Rattle.scope.specs.Iterate.{Next, go, stop, onward, iterate, unroll}
-use Rattle.scope.specs.Item.{Attribute, Pair, Scan, Walk, onPair, scanItem, scanStep, scanFrom, after as blackAfter}
-use Rattle.scope.specs.Attributes.{bytesIn}
-use Rattle.scope.specs.Reading.{Operator, Read, operatorAt}
-use Rattle.scope.specs.Motif.{Motif, Held, heldAs, Inside, Judged, contextIn, onCall, onDeed, onEnd, onRead as motifRead, motifStep, judgedInside}
+use Rattle.scope.specs.Choice.{between}
+use Rattle.scope.specs.Iterate.{Next, go, stop, onward, unroll}
+use Rattle.scope.specs.Item.{Attribute, Pair, Walk, onPair, scanItem, scanStep, scanFrom, after as blackAfter}
+use Rattle.scope.specs.Reading.{Operator, Read}
+use Rattle.scope.specs.Arm.{Stroke}
+use Rattle.scope.specs.Motif.{Motif, Held, Inside, phaseIn, contextIn, onCall, onDeed, onRead as motifRead, motifStep, judgedInside}
 use Rattle.scope.specs.Session.{Setting}
-use Rattle.scope.specs.Judge.{State, Outcome, Case, Refusal, caseOf, after, onRefusal, onCase, onRead, contextOf, jobStep, judgedFrom, firstBroken, rules, refusedAt, outer, starting}
-use Rattle.scope.specs.Plain.{Deed, Unrolled, contextAt, onOperator, onNext, unrollStep}
+use Rattle.scope.specs.Judge.{State, Case, Refusal, caseOf, after, onRefusal, onCase, onRead, contextOf, jobStep, judgedFrom}
+use Rattle.scope.specs.Plain.{Going, onOwn, ownStep, ownFrom, Unrolled, contextAt, onOperator, onNext, unrollStep}
 use Rattle.scope.proofs.Ends.{pick-all, GoodPair, pair-good, after-le, GoodRead, read-good}
 
 -- a step that goes on takes a number below n
@@ -106,6 +106,27 @@ module _ (given : ℕ → Bool) (set : Setting) (s : List ℕ) (room : ℕ) wher
   unfolding judgedFrom
   judged-step st = unroll (jobStep given set s room) _ _ job-falls st
 
+module _ (call : List ℕ → List Stroke) (k : ℕ) (high : Bool) (s : List ℕ) where
+  leftFor : Going → ℕ
+  leftFor g = length s - g .at
+
+  own-below : (g : Going) {r : Read} {may : ℕ → Bool} → GoodRead (length s) (g .at) may r → Below leftFor (length s - g .at) (onOwn call k high s g r)
+  unfolding onOwn leftFor
+  own-below g (GoodRead.operator {o = o} h l m) =
+      let z : length s - o .next < length s - g .at = omega arith in
+      below-go z
+  own-below g GoodRead.ended = below-stop
+  own-below g (GoodRead.no c) = below-stop
+
+  own-falls : (g t : Going) → ownStep call k high s g ≡ go t → length s - t .at < length s - g .at
+  unfolding ownStep leftFor
+  own-falls g t e = below-falls (rw e at (own-below g (read-good (record { high = high; phase = phaseIn (g .saved) (g .picture); opened = true; asked = false }) s (g .at))))
+
+  -- the plain arm's way through a motif is one operator, and the way from there
+  pub own-step : (g : Going) → ownFrom call k high s g ≡ onward (ownFrom call k high s) (ownStep call k high s g)
+  unfolding ownFrom
+  own-step g = unroll (ownStep call k high s) _ _ own-falls g
+
 module _ (set : Setting) (s : List ℕ) where
   leftTo : Unrolled → ℕ
   leftTo u = length s - u .at
@@ -120,4 +141,4 @@ module _ (set : Setting) (s : List ℕ) where
 
   pub unroll-falls : (u t : Unrolled) → unrollStep set s u ≡ go t → length s - t .at < length s - u .at
   unfolding unrollStep leftTo
-  unroll-falls u t e = below-falls (rw e at (next-below u (read-good (contextAt (set .high) (u .place)) s (u .at))))
+  unroll-falls u t e = below-falls (rw e at (next-below u (read-good (contextAt (set .high) u) s (u .at))))

@@ -22,6 +22,7 @@ use Rattle.scope.specs.Session
 use Rattle.scope.specs.Judge
 use Rattle.scope.specs.Verdict.{Verdict, verdictOf, listOf}
 use Rattle.scope.specs.Verdict as Verd
+use Rattle.scope.specs.Plain
 
 -- joined parts
 all : List (List ℕ) → List ℕ
@@ -263,6 +264,16 @@ expecteds : List Tried → List Verdict
 expecteds [] = []
 expecteds (x ∷ l) = x .expected ∷ expecteds l
 
+-- each operator that the plain arm performs, by its motif and the place of its tag there
+traceOf : List Plain.Deed → List ℕ
+traceOf [] = []
+traceOf (d ∷ ds) = d .stroke .motif ∷ d .stroke .at ∷ traceOf ds
+
+-- motif 2 has a Comment, a call of motif 1 and NewPath; the job calls it, and then has NewPath of its own
+abbrev nested : List ℕ
+nested =
+    all (H ∷ S ∷ O ∷ (M 0x61 (0x61 ∷ 0x60 ∷ [])) ∷ (M 0x62 ((0x47 ∷ []) ++ (X 0x61 ++ (0x85 ∷ [])))) ∷ P ∷ (X 0x62) ∷ (0x85 ∷ 0x44 ∷ 0x49 ∷ 0x42 ∷ []) ∷ [])
+
 proved-jobs : (answers jobs ≡ expecteds jobs)
     × (listOf (all (H ∷ S ∷ (0x42 ∷ []) ∷ [])) 16384 65536
     ≡ 0x01 ∷ 0x86 ∷ 0xc0 ∷ 0x00 ∷ 0x10 ∷ 0x00 ∷ 0x00 ∷ 0x00 ∷ 0x01 ∷ 0x00 ∷ 0x00 ∷ 0x00 ∷ 0x11 ∷ 0x00 ∷ 0x00 ∷ 0x00
@@ -271,5 +282,8 @@ proved-jobs : (answers jobs ≡ expecteds jobs)
     ∷ 0x02 ∷ 0x42 ∷ 0x00 ∷ 0x00 ∷ 0x1c ∷ 0x00 ∷ 0x00 ∷ 0x00 ∷ 0x00 ∷ 0x00 ∷ 0x00 ∷ 0x00 ∷ 0x00 ∷ 0x00 ∷ 0x00 ∷ 0x00 ∷ [])
     × (Data.rowOf 32 0 ∷ Data.rowOf 33 0 ∷ Data.rowOf 33 1 ∷ Data.rowOf 33 2 ∷ [] ≡ 4 ∷ 8 ∷ 20 ∷ 36 ∷ [])
     × (Verd.told nearTheLimit ≡ record { code = 26; position = 28; inner = 4294967295; records = 3; performed = 1_000_000 })
-unfolding Choice.among Choice.same Iterate.run Iterate.iterate Number.digits Number.number Header.mayStand Header.formFrom Header.classed Header.headerOf Item.white Item.spaces Item.after Item.widthOf Item.kindOf Item.numbersAt Item.elementsAt Item.countedAt Item.arrayAt Item.valueOf Item.numbered Item.numberAt Item.pairOf Item.pairAt Item.endedWith Item.onPair Item.scanItem Item.scanStep Item.scanFrom Item.scanAt Table.table Table.lineIn Table.ruleIn Attributes.has Attributes.firstOf Attributes.secondOf Attributes.typeTaken Attributes.inRange Attributes.attributeCode Attributes.oneByOne Attributes.allThere Attributes.howMany Attributes.choiceCode Attributes.formCode Attributes.valueIn Attributes.bytesIn Data.bitsOf Data.rowOf Data.pointBytes Data.dueOf Data.blockOf Data.blockAt Order.drawn Order.mayCome Order.rowsFit Reading.withBlock Reading.withData Reading.asWhole Reading.withAttributes Reading.withLine Reading.scanned Reading.operatorAt Arm.needsCursor Arm.needsSpace Arm.effectOf Arm.actOf Arm.done Arm.risen Arm.step Arm.walk Arm.from Motif.heldAs Motif.isHeld Motif.flat Motif.unfolded Motif.bytesHeld Motif.begun Motif.readOn Motif.pictureAfter Motif.savedAfter Motif.phaseIn Motif.contextIn Motif.onCall Motif.onDeed Motif.onEnd Motif.onRead Motif.motifStep Motif.judgedInside Motif.motifFrom Motif.motifOf Session.phaseDrawing Session.phaseBusy Session.phaseOf Session.rowFor Session.keptAs Session.sessionAfter Session.placeAfter Judge.judgedAt Judge.caseOf Judge.tooMuch Judge.nameHeld Judge.nameMissing Judge.sourceClosed Judge.savedOver Judge.cursorUnset Judge.spaceWrong Judge.countOver Judge.roomOver Judge.rules Judge.firstBroken Judge.after Judge.endAt Judge.onRefusal Judge.onCase Judge.onRead Judge.contextOf Judge.jobStep Judge.judgedFrom Verd.layout Verd.judgedAfter Verd.entryOf Verd.outcomeAt Verd.outcomeOf Verd.verdictOf Verd.four Verd.attributeRecord Verd.operatorRecord Verd.attributeRecords Verd.recordsBefore Verd.listOf Verd.listAfter Verd.zeros Verd.clearedBy Verd.workAfter all times jobs answers expecteds
-proved-jobs = (refl, refl, refl, refl)
+    × (traceOf (Plain.unfoldingOf Verd.startsGray nested)
+    ≡ 0 ∷ 27 ∷ 0 ∷ 36 ∷ 0 ∷ 43 ∷ 0 ∷ 49 ∷ 0 ∷ 70 ∷ 0 ∷ 77 ∷ 0 ∷ 83 ∷ 0 ∷ 111 ∷ 0 ∷ 120
+    ∷ 0 ∷ 127 ∷ 2 ∷ 16 ∷ 2 ∷ 23 ∷ 1 ∷ 16 ∷ 1 ∷ 17 ∷ 2 ∷ 24 ∷ 0 ∷ 128 ∷ 0 ∷ 129 ∷ 0 ∷ 130 ∷ 0 ∷ 131 ∷ [])
+unfolding Choice.among Choice.same Iterate.run Iterate.iterate Number.digits Number.number Header.mayStand Header.formFrom Header.classed Header.headerOf Item.white Item.spaces Item.after Item.widthOf Item.kindOf Item.numbersAt Item.elementsAt Item.countedAt Item.arrayAt Item.valueOf Item.numbered Item.numberAt Item.pairOf Item.pairAt Item.endedWith Item.onPair Item.scanItem Item.scanStep Item.scanFrom Item.scanAt Table.table Table.lineIn Table.ruleIn Attributes.has Attributes.firstOf Attributes.secondOf Attributes.typeTaken Attributes.inRange Attributes.attributeCode Attributes.oneByOne Attributes.allThere Attributes.howMany Attributes.choiceCode Attributes.formCode Attributes.valueIn Attributes.bytesIn Data.bitsOf Data.rowOf Data.pointBytes Data.dueOf Data.blockOf Data.blockAt Order.drawn Order.mayCome Order.rowsFit Reading.withBlock Reading.withData Reading.asWhole Reading.withAttributes Reading.withLine Reading.scanned Reading.operatorAt Arm.needsCursor Arm.needsSpace Arm.effectOf Arm.actOf Arm.done Arm.risen Arm.step Arm.walk Arm.from Motif.heldAs Motif.isHeld Motif.flat Motif.unfolded Motif.bytesHeld Motif.begun Motif.readOn Motif.pictureAfter Motif.savedAfter Motif.phaseIn Motif.contextIn Motif.onCall Motif.onDeed Motif.onEnd Motif.onRead Motif.motifStep Motif.judgedInside Motif.motifFrom Motif.motifOf Session.phaseDrawing Session.phaseBusy Session.phaseOf Session.rowFor Session.keptAs Session.sessionAfter Session.placeAfter Judge.judgedAt Judge.caseOf Judge.tooMuch Judge.nameHeld Judge.nameMissing Judge.sourceClosed Judge.savedOver Judge.cursorUnset Judge.spaceWrong Judge.countOver Judge.roomOver Judge.rules Judge.firstBroken Judge.after Judge.endAt Judge.onRefusal Judge.onCase Judge.onRead Judge.contextOf Judge.jobStep Judge.judgedFrom Verd.layout Verd.judgedAfter Verd.entryOf Verd.outcomeAt Verd.outcomeOf Verd.verdictOf Verd.four Verd.attributeRecord Verd.operatorRecord Verd.attributeRecords Verd.recordsBefore Verd.listOf Verd.listAfter Verd.zeros Verd.clearedBy Verd.workAfter Plain.turnOf Plain.performs Plain.performed Plain.deeds Plain.knownAs Plain.strokesOf Plain.onOwn Plain.ownStep Plain.ownFrom Plain.ownAfter Plain.ownOf Plain.called Plain.doingAfter Plain.knownAfter Plain.deedsFor Plain.onOperator Plain.onNext Plain.phaseAt Plain.contextAt Plain.unrollStep Plain.unfoldedAfter Plain.unfoldingOf traceOf all times jobs answers expecteds
+proved-jobs = (refl, refl, refl, refl, refl)

@@ -1,5 +1,8 @@
 pub mod Ends
 pub mod Falls
+pub mod Apart
+pub mod Again
+pub mod Sound
 pub mod Taken
 pub mod Placed
 pub mod Asks
@@ -7,6 +10,8 @@ pub mod Rows
 pub mod Codes
 pub mod Buffers
 pub mod Stands
+pub mod Follows
+pub mod Gathered
 pub mod Demand
 pub mod Whole
 pub mod Like

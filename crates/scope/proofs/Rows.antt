@@ -1,16 +1,15 @@
 -- One operator of the job: what the judge reads off the arm's notes at the end of the row is that no operator of the row breaks a rule where the plain arm performs it.
 -- Assumes nothing.
-use Prim.Native.Nat.{ℕ, zero, suc, _+_, _≤_, _<_, max}
+use Prim.Native.Nat.{ℕ, suc, _+_, _≤_, _<_}
 use mathlib.Core.Path.{_≡_, refl, sym, ap, _∙_}
 use mathlib.Core.Bool.{Bool, true, false, not, _&&_, _||_}
 use mathlib.Core.List.{List, [], _∷_, _++_}
 use native.Mathlib.Omega.{arith}
-use borrow.Author.Tests.{leb-true, leb-false, le-leb, lt-leb}
+use borrow.Author.Tests.{leb-false, lt-leb}
 use lib.ListN.{length}
-use lib.Dec.{leb}
 use Rattle.scope.specs.Choice.{pick}
-use Rattle.scope.specs.Arm.{Effect, push, pop, put, Page, Seen, done, clash, risen, step, walk, Stroke}
-use Rattle.scope.specs.Plain.{Turn, stays, Deed, PlainArm, overSaved, openedBy, pageBy, breaks, performs, comes, deeds, pageThrough}
+use Rattle.scope.specs.Arm.{Effect, push, pop, put, Page, Seen, clash, risen, step, walk, Stroke}
+use Rattle.scope.specs.Plain.{Turn, stays, Deed, PlainArm, overSaved, openedBy, pageBy, breaks, performs, comes, performed, deeds}
 
 -- no rule broken so far, where the source is open or not
 pub record Clean (opened : Bool) (w : Seen) : Type 0 where
@@ -98,11 +97,6 @@ module _ (o : Bool) (x : Stroke) (w : Seen) where
             (or-both _ _ (or-right (w .wrong) (clash (x .act .space) (w .page .gray)) (h .wrong)) (lt-leb 1_000_000 (w .count) n)))),
       )
 
--- where the plain arm stands after a row
-unfoldable pub performed : List Deed → PlainArm → PlainArm
-performed [] w = w
-performed (d ∷ ds) w = performed ds (performs d w)
-
 comes-both : (b x y z : Bool) → x ≡ pick y z false → pick b false x ≡ pick (pick b false y) z false
 comes-both true x y z e = refl
 comes-both false x y z e = e
@@ -178,9 +172,3 @@ pub walk-count : (l : List Stroke) (w : Seen) → walk l w .count ≡ w .count +
 unfolding walk step
 walk-count [] w = omega arith
 walk-count (a ∷ l) w = let p = walk-count l (step (a .act) w) in omega arith
-
--- the page after a row is the one that the walk leaves
-pub walk-page : (l : List Stroke) (w : Seen) → walk l w .page ≡ pageThrough l (w .page)
-unfolding walk step pageThrough
-walk-page [] w = refl
-walk-page (a ∷ l) w = walk-page l (step (a .act) w)

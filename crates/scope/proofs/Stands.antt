@@ -1,35 +1,24 @@
 -- The plain arm and the judge's state go together: after an operator's row the arm stands where the state after that operator says.
 -- Assumes nothing.
-use Prim.Native.Nat.{ℕ, zero, suc, _+_}
+use Prim.Native.Nat.{ℕ}
 use mathlib.Core.Path.{_≡_, refl, sym, ap, _∙_, subst, subst⁻¹}
-use mathlib.Core.Bool.{Bool, true, false, not, _&&_, _||_}
-use mathlib.Core.List.{List, [], _∷_, _++_}
+use mathlib.Core.Bool.{Bool, true, false, _||_}
+use mathlib.Core.List.{List, [], _∷_}
 use native.Mathlib.Omega.{arith}
 use borrow.Author.Tests.{eqb-true}
-use lib.ListN.{length}
-use lib.Dec.{eqb, leb}
+use lib.Dec.{eqb}
 use Rattle.scope.specs.Choice.{pick, among}
 use Rattle.scope.specs.Attributes.{bytesIn}
 use Rattle.scope.specs.Order.{mayCome, drawn, between-sessions, in-session, in-stream}
 use Rattle.scope.specs.Reading.{Operator}
-use Rattle.scope.specs.Arm.{Page, Seen, blank, idle, actOf, effectOf, done, walk, step, from, Stroke}
+use Rattle.scope.specs.Arm.{Page, Seen, blank, actOf, effectOf, done, walk, step, from, Stroke}
 use Rattle.scope.specs.Motif.{Motif, Picture, unfolded}
 use Rattle.scope.specs.Session.{Setting, Busy, resting, reading, drawing, Session, Place, outside, inside, sessionOf, phaseOf, phaseBusy, phaseDrawing, pageOf, rowFor, sessionAfter, placeAfter}
 use Rattle.scope.specs.Judge.{State, Case, caseOf, after}
-use Rattle.scope.specs.Plain.{Turn, stays, opens, closes, begins, ends, turnOf, openedBy, pageBy, PlainArm, deeds}
+use Rattle.scope.specs.Plain.{Turn, stays, opens, closes, begins, ends, turnOf, openedBy, pageBy, PlainArm, performed, deeds}
 use Rattle.scope.proofs.Ends.{pick-all}
-use Rattle.scope.proofs.Rows.{Fits, alone, staying, armOf, performed, turned, row-performed}
-
-clash-of : {A : Type 0} → true ≡ false → A
-clash-of e = absurd (let z : _≡_ {A = ℕ} 0 1 = cc in omega arith)
-
--- a tag that may come is another than one that may not
-differs : (f : ℕ → Bool) (tag k : ℕ) → f tag ≡ true → f k ≡ false → eqb tag k ≡ false
-differs f tag k h n = go (eqb tag k) refl
-  where
-    go : (b : Bool) → eqb tag k ≡ b → b ≡ false
-    go true e = clash-of (sym h ∙ ap f (eqb-true tag k e) ∙ n)
-    go false e = refl
+use Rattle.scope.proofs.Apart.{clash-of, differs}
+use Rattle.scope.proofs.Rows.{Fits, alone, staying, armOf, turned, row-performed}
 
 -- the row of an operator has a first, and no other or no turn
 pub data Shaped (t : Turn) : List Stroke → Type 0 where

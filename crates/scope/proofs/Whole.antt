@@ -22,8 +22,8 @@ use Rattle.scope.proofs.Ends.{pick-all, Kept, kept-go, kept-stop, itera
 use Rattle.scope.proofs.Falls.{judged-step}
 use Rattle.scope.proofs.Placed.{ReadIn, read-in, HeaderIn, header-in}
 use Rattle.scope.proofs.Asks.{Asks, alike, failed, closed, read-asks}
-use Rattle.scope.proofs.Codes.{GoodHeader, header-good, judged-good, Refuses, not-so, so, broken-coded, none-layout, none-fits}
-use Rattle.scope.proofs.Demand.{demand-3, end-state, not-coded}
+use Rattle.scope.proofs.Codes.{end-state, not-coded, GoodHeader, header-good, judged-good, Refuses, not-so, so, broken-coded, none-layout, none-fits}
+use Rattle.scope.proofs.Demand.{demand-3}
 
 -- the position of an outcome
 abbrev AtMost : List ℕ → Outcome → Type 0

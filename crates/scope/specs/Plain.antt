@@ -1,17 +1,22 @@
--- Demand 3: the plain arm over a whole job. It performs each call and then the motif's own operators, and the calls in those likewise. No verdict is mentioned.
+-- Demand 3: the plain arm over a whole job. It performs each call and then the motif's own operators, and the calls in those likewise. It shares with the judge
+-- how operators are read and what an operator needs and does, and nothing else: it knows motifs by name and bytes, and reads the bytes of a motif, operator by
+-- operator, whenever that motif is called. Which motif a name means is said in `knownAs` and `knownAfter` alone.
 -- Assumes nothing.
 use Prim.Native.Nat.{ℕ, zero, suc, _+_, _-_}
 use mathlib.Core.Bool.{Bool, true, false, not, _&&_, _||_}
 use mathlib.Core.List.{List, [], _∷_, _++_}
-use lib.ListN.{length}
+use lib.ListN.{length, take, drop}
 use lib.Dec.{leb, eqb}
-use Rattle.scope.specs.Choice.{pick}
+use Rattle.scope.specs.Choice.{pick, same}
 use Rattle.scope.specs.Iterate.{Next, go, stop, iterate}
 use Rattle.scope.specs.Header.{Header, headerOf}
+use Rattle.scope.specs.Attributes.{bytesIn}
+use Rattle.scope.specs.Order.{Phase, between-sessions, in-session, in-stream, in-page, in-image}
 use Rattle.scope.specs.Reading.{Context, Operator, Read, operatorAt}
-use Rattle.scope.specs.Arm.{Effect, push, pop, put, Page, blank, done, clash, Stroke}
-use Rattle.scope.specs.Session.{Setting, Session, Place, outside, sessionOf, phaseOf, pageOf, rowFor, placeAfter}
-use Rattle.scope.specs.Names.{OpenDataSource, CloseDataSource, BeginPage, EndPage}
+use Rattle.scope.specs.Arm.{Effect, push, pop, put, Page, blank, done, clash, idle, actOf, Stroke}
+use Rattle.scope.specs.Motif.{Picture, pictureAfter, savedAfter, phaseIn}
+use Rattle.scope.specs.Session.{Setting}
+use Rattle.scope.specs.Names.{OpenDataSource, CloseDataSource, BeginPage, EndPage, EndSession, BeginStream, ReadStream, ExecStream, StreamName}
 
 -- what an operator performed does besides: it opens or closes the source, begins or ends a page
 pub data Turn : Type 0 where
@@ -21,6 +26,7 @@ pub data Turn : Type 0 where
   begins : (gray : Bool) → Turn
   ends : Turn
 
+-- which operator turns what
 unfoldable pub turnOf : (gray : Bool) → ℕ → Turn
 turnOf gray tag =
     pick (eqb tag OpenDataSource) opens (pick (eqb tag CloseDataSource) closes (pick (eqb tag BeginPage) (begins gray) (pick (eqb tag EndPage) ends stays)))
@@ -36,6 +42,7 @@ pub record PlainArm : Type 0 where
   pub page : Page
   pub count : ℕ
 
+-- before the job: the source is closed, and there is no page
 abbrev pub atStart : PlainArm
 atStart = record { opened = false; page = blank false; count = 0 }
 
@@ -52,6 +59,7 @@ breaks d w =
     || (overSaved (d .stroke .act .effect) (w .page)
     || ((d .stroke .act .cursor && not (w .page .cursor)) || (clash (d .stroke .act .space) (w .page .gray) || leb 1_000_000 (w .count))))
 
+-- the source after a turn
 abbrev pub openedBy : Turn → Bool → Bool
 openedBy stays b = b
 openedBy opens b = true
@@ -59,6 +67,7 @@ openedBy closes b = false
 openedBy (begins gray) b = b
 openedBy ends b = b
 
+-- the page after a turn: BeginPage begins a blank one
 abbrev pub pageBy : Turn → Page → Page
 pageBy stays p = p
 pageBy opens p = p
@@ -66,6 +75,7 @@ pageBy closes p = p
 pageBy (begins gray) p = blank gray
 pageBy ends p = blank false
 
+-- the arm after one operator
 unfoldable pub performs : Deed → PlainArm → PlainArm
 performs d w =
     record { opened = openedBy (d .turn) (w .opened); page = pageBy (d .turn) (done (d .stroke .act .effect) (w .page)); count = suc (w .count) }
@@ -75,48 +85,153 @@ unfoldable pub comes : List Deed → PlainArm → Bool
 comes [] w = true
 comes (d ∷ ds) w = pick (breaks d w) false (comes ds (performs d w))
 
+-- where it stands after a row
+unfoldable pub performed : List Deed → PlainArm → PlainArm
+performed [] w = w
+performed (d ∷ ds) w = performed ds (performs d w)
+
 -- the operators of a row, the first of which turns something
 unfoldable pub deeds : Turn → List Stroke → List Deed
 deeds t [] = []
 deeds t (x ∷ l) = record { turn = t; stroke = x } ∷ deeds stays l
 
--- the page after a row of operators
-unfoldable pub pageThrough : List Stroke → Page → Page
-pageThrough [] p = p
-pageThrough (x ∷ l) p = pageThrough l (done (x .act .effect) p)
+-- a motif that the arm knows: its name and its bytes
+pub record Known : Type 0 where
+  pub name : List ℕ
+  pub bytes : List ℕ
 
--- where the unfolding of a job stands: the place of the next item, the session with what it holds, and the operators so far
+-- the motif of a name: its number (1 for the first of the session) and its bytes; or none
+pub data Found : Type 0 where
+  is : (number : ℕ) → (bytes : List ℕ) → Found
+  none : Found
+
+-- known motifs stand last one first
+unfoldable pub knownAs : List ℕ → List Known → Found
+knownAs n [] = none
+knownAs n (m ∷ ms) = elim (same (m .name) n) [ true ↦ is (suc (length ms)) (m .bytes) | false ↦ knownAs n ms ]
+
+-- what is performed for one operator of motif k (0 is the job): a call and then what its name has performed, or the operator alone
+unfoldable pub strokesOf : (List ℕ → List Stroke) → (k : ℕ) → Bool → List ℕ → Operator → List Stroke
+strokesOf call k high s o =
+    pick (eqb (o .tag) ExecStream)
+    (record { motif = k; at = o .at; act = idle } ∷ call (bytesIn s (o .attrs) StreamName))
+    (record { motif = k; at = o .at; act = actOf high s o } ∷ [])
+
+-- where the arm stands in a motif: the place of the next item, the states that the motif has saved, its open image, the operators so far
+pub record Going : Type 0 where
+  pub at : ℕ
+  pub saved : ℕ
+  pub picture : Picture
+  pub row : List Stroke
+
+-- an operator of a motif that was read is performed; where reading ends, the motif's operators end
+unfoldable pub onOwn : (List ℕ → List Stroke) → ℕ → Bool → List ℕ → Going → Read → Next Going (List Stroke)
+onOwn call k high s g (Read.operator o) =
+    go
+    (record { at = o .next; saved = savedAfter (o .tag) (g .saved); picture = pictureAfter high s o (g .picture); row = g .row ++ strokesOf call k high s o })
+onOwn call k high s g Read.ended = stop (g .row)
+onOwn call k high s g (Read.no code place) = stop (g .row)
+
+-- the next operator of a motif is read as inside a motif: no operator asks for an open source
+unfoldable pub ownStep : (List ℕ → List Stroke) → ℕ → Bool → List ℕ → Going → Next Going (List Stroke)
+ownStep call k high s g =
+    onOwn call k high s g
+    (operatorAt (record { high = high; phase = phaseIn (g .saved) (g .picture); opened = true; asked = false }) s (g .at))
+
+-- from where the arm stands in a motif to the motif's end
+unfoldable pub ownFrom : (List ℕ → List Stroke) → ℕ → Bool → List ℕ → Going → List Stroke
+ownFrom call k high s = iterate (ownStep call k high s) [] (λ g. length s - g .at)
+
+-- from behind the motif's header
+unfoldable pub ownAfter : (List ℕ → List Stroke) → ℕ → List ℕ → Header → List Stroke
+ownAfter call k s (Header.no code place) = []
+ownAfter call k s (Header.is high next) = ownFrom call k high s (record { at = next; saved = 0; picture = Picture.none; row = [] })
+
+-- the operators of a motif, read from its bytes by its own header, where a call of a name performs `call` of it besides
+unfoldable pub ownOf : (List ℕ → List Stroke) → Found → List Stroke
+ownOf call (is k s) = ownAfter call k s (headerOf s)
+ownOf call none = []
+
+-- what a call of a name performs behind itself, where these motifs are known and calls may nest so much deeper (32 at a call of the job)
+unfoldable pub called : List Known → (nesting : ℕ) → List ℕ → List Stroke
+called known zero n = []
+called known (suc d) n = ownOf (called known d) (knownAs n known)
+
+-- what the arm is at: between sessions; in a session at rest, reading a motif of a name (the bytes joined so far), or in a page, perhaps with an image open
+pub data Doing : Type 0 where
+  outside : Doing
+  resting : Doing
+  reading : (name joined : List ℕ) → Doing
+  drawing : Picture → Doing
+
+-- what the arm is at after an operator of the job
+unfoldable pub doingAfter : Bool → List ℕ → Operator → Doing → Doing
+doingAfter high s o outside = resting
+doingAfter high s o resting =
+    pick (eqb (o .tag) EndSession) outside
+    (pick (eqb (o .tag) BeginPage) (drawing Picture.none)
+    (pick (eqb (o .tag) BeginStream) (reading (bytesIn s (o .attrs) StreamName) []) resting))
+doingAfter high s o (reading n j) = pick (eqb (o .tag) ReadStream) (reading n (j ++ take (o .length) (drop (o .first) s))) resting
+doingAfter high s o (drawing i) = pick (eqb (o .tag) EndPage) resting (drawing (pictureAfter high s o i))
+
+-- BeginSession begins with none and EndSession drops all; EndStream adds the motif that was read
+unfoldable pub knownAfter : Operator → Doing → List Known → List Known
+knownAfter o outside l = []
+knownAfter o resting l = pick (eqb (o .tag) EndSession) [] l
+knownAfter o (reading n j) l = pick (eqb (o .tag) ReadStream) l (record { name = n; bytes = j } ∷ l)
+knownAfter o (drawing i) l = l
+
+-- where the unfolding of a job stands: the place of the next item, what the arm is at, the motifs that it knows, the arm, and the operators so far
 pub record Unrolled : Type 0 where
   pub at : ℕ
-  pub place : Place
+  pub doing : Doing
+  pub known : List Known
+  pub arm : PlainArm
   pub row : List Deed
 
-unfoldable pub onOperator : Setting → List ℕ → Unrolled → Session → Operator → Next Unrolled (List Deed)
-onOperator set s u x o =
-    go
-    (record {
-      at = o .next;
-      place = placeAfter set s o (pageThrough (rowFor (set .high) s (x .held) o) (pageOf (x .busy))) (u .place);
-      row = u .row ++ deeds (turnOf (set .gray) (o .tag)) (rowFor (set .high) s (x .held) o);
-    })
+-- what is performed for an operator of the job
+unfoldable pub deedsFor : Setting → List ℕ → List Known → Operator → List Deed
+deedsFor set s known o = deeds (turnOf (set .gray) (o .tag)) (strokesOf (called known 32) 0 (set .high) s o)
 
+-- an operator of the job, performed
+unfoldable pub onOperator : Setting → List ℕ → Unrolled → Operator → Unrolled
+onOperator set s u o =
+    record {
+      at = o .next;
+      doing = doingAfter (set .high) s o (u .doing);
+      known = knownAfter o (u .doing) (u .known);
+      arm = performed (deedsFor set s (u .known) o) (u .arm);
+      row = u .row ++ deedsFor set s (u .known) o;
+    }
+
+-- what was read is performed; where reading ends, the row ends
 unfoldable pub onNext : Setting → List ℕ → Unrolled → Read → Next Unrolled (List Deed)
-onNext set s u (Read.operator o) = onOperator set s u (sessionOf (u .place)) o
+onNext set s u (Read.operator o) = go (onOperator set s u o)
 onNext set s u Read.ended = stop (u .row)
 onNext set s u (Read.no code place) = stop (u .row)
 
+-- what reading has to know of where the arm stands
+unfoldable pub phaseAt : Doing → Page → Phase
+phaseAt outside p = between-sessions
+phaseAt resting p = in-session
+phaseAt (reading n j) p = in-stream
+phaseAt (drawing Picture.none) p = in-page (length (p .saved))
+phaseAt (drawing (Picture.being i)) p = in-image i
+
 -- reading as it is, but that no operator asks for an open source
-unfoldable pub contextAt : Bool → Place → Context
-contextAt high p = record { high = high; phase = phaseOf p; opened = sessionOf p .opened; asked = false }
+unfoldable pub contextAt : Bool → Unrolled → Context
+contextAt high u = record { high = high; phase = phaseAt (u .doing) (u .arm .page); opened = u .arm .opened; asked = false }
 
+-- the next operator of the job
 unfoldable pub unrollStep : Setting → List ℕ → Unrolled → Next Unrolled (List Deed)
-unrollStep set s u = onNext set s u (operatorAt (contextAt (set .high) (u .place)) s (u .at))
+unrollStep set s u = onNext set s u (operatorAt (contextAt (set .high) u) s (u .at))
 
+-- from behind the job's header, where the arm is outside a session and knows no motif
 unfoldable pub unfoldedAfter : (gray : Bool) → List ℕ → Header → List Deed
 unfoldedAfter gray s (Header.no code place) = []
 unfoldedAfter gray s (Header.is high next) =
     iterate (unrollStep (record { high = high; gray = gray }) s) [] (λ u. length s - u .at)
-    (record { at = next; place = outside false; row = [] })
+    (record { at = next; doing = outside; known = []; arm = atStart; row = [] })
 
 -- the row of operators that the plain arm performs for a job whose pages start gray or not, up to its end or to the first item that reading refuses
 unfoldable pub unfoldingOf : (gray : Bool) → List ℕ → List Deed

@@ -1,4 +1,5 @@
--- 01, "Order of operators" and "Motifs": a job's sessions, what each holds, and where the job stands after an operator. Nothing is judged here.
+-- 01, "Order of operators" and "Motifs": a job's sessions, what each holds, and where the job stands after an operator. No rule of a job stands
+-- here; a motif that ends is kept if `motifOf` finds it valid.
 -- Motifs, source and page stand inside a session: between sessions there is no place for one.
 -- Assumes nothing.
 use Prim.Native.Nat.{ℕ, suc, _+_}

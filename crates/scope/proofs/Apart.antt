@@ -1,0 +1,46 @@
+-- Things that are not equal, of which a proof by cases lets go.
+-- Assumes nothing.
+use Prim.Native.Nat.{ℕ}
+use mathlib.Core.Path.{_≡_, refl, sym, ap, _∙_, subst, subst⁻¹}
+use mathlib.Core.Bool.{Bool, true, false}
+use mathlib.Core.List.{List}
+use native.Mathlib.Omega.{arith}
+use borrow.Author.Tests.{eqb-true}
+use lib.Dec.{eqb}
+use Rattle.scope.specs.Motif.{Own, Motif, Held, Judged, valid, faulty}
+use Rattle.scope.specs.Judge.{Refusal}
+
+pub clash-of : {A : Type 0} → _≡_ {A = Bool} true false → A
+clash-of e = absurd (let z : _≡_ {A = ℕ} 0 1 = cc in omega arith)
+
+-- a tag that may come is another than one that may not
+pub differs : (f : ℕ → Bool) (tag k : ℕ) → f tag ≡ true → f k ≡ false → eqb tag k ≡ false
+differs f tag k h n = go (eqb tag k) refl
+  where
+    go : (b : Bool) → eqb tag k ≡ b → b ≡ false
+    go true e = clash-of (sym h ∙ ap f (eqb-true tag k e) ∙ n)
+    go false e = refl
+
+-- a refusal is not none
+abbrev pub IsNone : Refusal → Type 0
+IsNone Refusal.none = Unit {0}
+IsNone (Refusal.refused code inner) = ⊥
+
+pub is-none : {r : Refusal} → r ≡ Refusal.none → IsNone r
+is-none e = subst⁻¹ IsNone e tt
+
+-- a motif that is faulty is not valid
+abbrev IsFaulty : Judged → Type 0
+IsFaulty (valid ops d) = ⊥
+IsFaulty (faulty code inner) = Unit {0}
+
+pub not-valid : {A : Type 0} {code inner d : ℕ} {ops : List Own} → faulty code inner ≡ valid ops d → A
+not-valid e = absurd (subst IsFaulty e tt)
+
+-- no motif is not one
+abbrev NoMotif : Held → Type 0
+NoMotif (Held.is m) = ⊥
+NoMotif Held.none = Unit {0}
+
+pub not-held-as : {A : Type 0} {m : Motif} → Held.none ≡ Held.is m → A
+not-held-as e = absurd (subst NoMotif e tt)
