@@ -16,4 +16,7 @@ pub mod Demand
 pub mod Whole
 pub mod Like
 pub mod Sessions
+pub mod Parts
+pub mod JobsRead
+pub mod JobsJudged
 pub mod Jobs
