@@ -6,7 +6,7 @@
 enum { NONE, SPACE, VALUE, ATTRIBUTE, OPERATOR, DATA };
 
 static const uint8_t class_of[256] = {
-    [0x09 ... 0x0d] = SPACE, [0x20] = SPACE,
+    [0x00] = SPACE, [0x09 ... 0x0d] = SPACE, [0x20] = SPACE,
     [0x41 ... 0xbf] = OPERATOR,
     [0xc0 ... 0xc5] = VALUE, [0xc8 ... 0xcd] = VALUE, [0xd0 ... 0xd5] = VALUE, [0xe0 ... 0xe5] = VALUE,
     [0xf8 ... 0xf9] = ATTRIBUTE,

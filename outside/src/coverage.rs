@@ -17,7 +17,12 @@ pub struct Coverage {
     pub inside: [u64; 30],
     pub kinds: BTreeMap<&'static str, u64>,
     pub rules: BTreeMap<Broken, [u64; 2]>,
+    /// What passed jobs have, outside and in motifs.
+    pub shown: BTreeMap<&'static str, [u64; 2]>,
 }
+
+/// What some passed job must have, and some motif of one.
+pub const SHOWN: [&str; 1] = ["zero bytes between items"];
 
 /// The operators of a string of items, as far as they can be told.
 fn statements(bytes: &[u8]) -> Vec<Statement> {
@@ -40,6 +45,29 @@ fn motif_at(job: &[u8], position: usize) -> Vec<u8> {
     };
     let from = all[..end].iter().rposition(|s| s.tag == 0x5b).map_or(0, |i| i + 1);
     all[from..end].iter().filter_map(|s| s.data.as_ref()).flat_map(|d| d.2.clone()).collect()
+}
+
+/// The motifs that a job defines, as bytes.
+fn motifs(all: &[Statement]) -> Vec<Vec<u8>> {
+    let mut found: Vec<Vec<u8>> = Vec::new();
+    for s in all {
+        match (s.tag, &s.data, found.last_mut()) {
+            (0x5b, ..) => found.push(Vec::new()),
+            (0x5c, Some(data), Some(motif)) => motif.extend(&data.2),
+            _ => {}
+        }
+    }
+    found
+}
+
+/// Which of SHOWN some operators have.
+fn shown_by(all: &[Statement]) -> Vec<&'static str> {
+    let mut shown = Vec::new();
+    let pieces = || all.iter().flat_map(|s| s.pieces.iter().map(|(_, p)| p));
+    if pieces().any(|p| matches!(p, Piece::Space(bytes) if bytes.contains(&0))) {
+        shown.push(SHOWN[0]);
+    }
+    shown
 }
 
 /// The rules a refusal of 11 to 16 shows broken.
@@ -97,6 +125,9 @@ impl Coverage {
                 self.outside[code] += 1;
             }
         }
+        if v.code == 0 {
+            self.show(job);
+        }
         if (11..=16).contains(&v.code) {
             let broken = if inside {
                 rules_of(&motif_at(job, v.position as usize), v.code, v.inner as usize)
@@ -105,6 +136,17 @@ impl Coverage {
             };
             for rule in broken {
                 self.rules.entry(rule).or_default()[usize::from(inside)] += 1;
+            }
+        }
+    }
+
+    /// Takes down what a passed job has.
+    fn show(&mut self, job: &[u8]) {
+        let all = statements(job);
+        let inside = motifs(&all).into_iter().flat_map(|m| statements(&m)).collect();
+        for (place, all) in [all, inside].iter().enumerate() {
+            for what in shown_by(all) {
+                self.shown.entry(what).or_default()[place] += 1;
             }
         }
     }
@@ -124,6 +166,12 @@ impl Coverage {
             let counts = self.rules.get(&rule).copied().unwrap_or_default();
             if counts[0] + counts[1] == 0 {
                 gaps.push(rule_name(&rule));
+            }
+        }
+        for what in SHOWN {
+            let [o, i] = self.shown.get(what).copied().unwrap_or_default();
+            if o == 0 || i == 0 {
+                gaps.push(what.to_string());
             }
         }
         gaps
@@ -147,6 +195,10 @@ impl Coverage {
         for rule in all_rules() {
             let [o, i] = self.rules.get(&rule).copied().unwrap_or_default();
             let _ = writeln!(out, "{:<36} {o:>8} {i:>8}", rule_name(&rule));
+        }
+        out.push_str("passed jobs with\n");
+        for (what, [o, i]) in &self.shown {
+            let _ = writeln!(out, "{what:<36} {o:>8} {i:>8}");
         }
         out
     }

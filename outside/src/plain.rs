@@ -157,7 +157,7 @@ struct Reader<'a> {
 
 /// White space between items.
 pub fn is_space(byte: u8) -> bool {
-    matches!(byte, 0x09..=0x0d | 0x20)
+    matches!(byte, 0x00 | 0x09..=0x0d | 0x20)
 }
 
 /// Bytes of one number of a value type.

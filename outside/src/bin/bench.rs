@@ -31,6 +31,8 @@ fn kinds(length: usize) -> Vec<(&'static str, Vec<Vec<u8>>)> {
         ("lines apart", vec![filled(length, &cursor, "LinePath EndPoint=(-1,300); hex 20", ended)]),
         ("lines with point data", vec![filled(length, &cursor, points, ended)]),
         ("white space", vec![filled(length, &page, "hex 20", ended)]),
+        ("zero bytes", vec![filled(length, &page, "hex 00", ended)]),
+        ("lines padded with zeros", vec![filled(length, &cursor, "LinePath EndPoint=(-1,300); hex 00", ended)]),
         ("attributes", vec![filled(length, &page, attributes, ended)]),
         ("saves", vec![filled(length, &page, saves, ended)]),
         ("motif calls", vec![filled(length, &called, "ExecStream StreamName=\"a\"", ended)]),
@@ -114,7 +116,7 @@ fn main() {
     let mut work = vec![0u8; plain::STORE];
     let mut list = vec![0u8; 16 * (LONG + 1)];
     println!(
-        "{:<22} {:>10} {:>10} {:>10} {:>9} {:>9} {:>9}",
+        "{:<24} {:>10} {:>10} {:>10} {:>9} {:>9} {:>9}",
         "kind (61,440 bytes)", "linked us", "plain us", "bare us", "/ plain", "/ bare", "growth"
     );
     let mut faulty = false;
@@ -141,7 +143,7 @@ fn main() {
         let small = judged(&short, &mut work, &mut list, ffi::check);
         let ratio = |a: Duration, b: Duration| micros(a) / micros(b).max(1e-3);
         println!(
-            "{name:<22} {:>10.1} {:>10.1} {:>10.1} {:>9.2} {:>9.2} {:>9.2}",
+            "{name:<24} {:>10.1} {:>10.1} {:>10.1} {:>9.2} {:>9.2} {:>9.2}",
             micros(linked),
             micros(own),
             micros(bare),

@@ -45,6 +45,14 @@ pub struct Job {
     /// White space between items once in so many times; 0 never.
     pub(super) space: usize,
     pub(super) space_seed: u64,
+    pub(super) pad: Option<Pad>,
+}
+
+/// So many zero bytes in one of the places where white space may stand, counted from 0 through job and motifs.
+#[derive(Debug, Clone, Copy, PartialEq)]
+pub(super) struct Pad {
+    pub(super) place: usize,
+    pub(super) length: usize,
 }
 
 pub(super) fn op(tag: u8) -> Op {
@@ -72,6 +80,9 @@ pub(super) struct Writer {
     pub(super) high_first: bool,
     pub(super) space: usize,
     pub(super) rng: Rng,
+    pub(super) pad: Option<Pad>,
+    /// Places for white space so far.
+    pub(super) places: usize,
 }
 
 pub(super) fn header_bytes(high_first: bool, text: &Option<Vec<u8>>) -> Vec<u8> {
@@ -88,9 +99,13 @@ pub(super) fn header_bytes(high_first: bool, text: &Option<Vec<u8>>) -> Vec<u8> 
 impl Writer {
     pub(super) fn gap(&mut self) {
         while self.space > 0 && self.rng.one_in(self.space) {
-            let byte = self.rng.pick(&[0x09, 0x0a, 0x0b, 0x0c, 0x0d, 0x20]);
+            let byte = self.rng.pick(&[0x00, 0x09, 0x0a, 0x0b, 0x0c, 0x0d, 0x20]);
             self.out.push(byte);
         }
+        if let Some(pad) = self.pad.filter(|pad| pad.place == self.places) {
+            self.out.extend(std::iter::repeat_n(0, pad.length));
+        }
+        self.places += 1;
     }
 
     pub(super) fn op(&mut self, op: &Op) {
@@ -125,9 +140,12 @@ impl Writer {
             high_first: motif.high_first,
             space: self.space,
             rng: Rng::new(self.rng.draw(), 1),
+            pad: self.pad,
+            places: self.places,
         };
         inside.nodes(&motif.body);
         inside.gap();
+        self.places = inside.places;
         let mut body = inside.out;
         if let Some(seed) = motif.spoil {
             spoil(&mut Rng::new(seed, 2), &mut body);
@@ -148,23 +166,41 @@ impl Writer {
 
 /// The bytes of a job.
 pub fn write(job: &Job) -> Vec<u8> {
+    write_counting(job).0
+}
+
+/// The bytes of a job, and how many places it has for white space.
+pub(super) fn write_counting(job: &Job) -> (Vec<u8>, usize) {
     let mut w = Writer {
         out: header_bytes(job.high_first, &job.header),
         high_first: job.high_first,
         space: job.space,
         rng: Rng::new(job.space_seed, 3),
+        pad: job.pad,
+        places: 0,
     };
     w.nodes(&job.nodes);
     w.gap();
-    w.out
+    (w.out, w.places)
 }
 
 /// One fault in a string of bytes.
 pub(super) fn spoil(rng: &mut Rng, bytes: &mut Vec<u8>) {
     if bytes.len() > 15 && rng.one_in(12) {
         // A fault of the header, often one that leaves it well formed.
-        let (at, byte) =
-            rng.pick(&[(0, 0x27), (0, 0x28), (0, 0x29), (12, b'2'), (14, b'0'), (14, b'2'), (15, b';'), (15, b'\r')]);
+        let (at, byte) = rng.pick(&[
+            (0, 0x27),
+            (0, 0x28),
+            (0, 0x29),
+            (12, b'2'),
+            (14, b'0'),
+            (14, b'2'),
+            (15, b';'),
+            (15, b'\r'),
+            (1, 0),
+            (11, 0),
+            (15, 0),
+        ]);
         bytes[at] = byte;
         return;
     }

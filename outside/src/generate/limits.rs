@@ -51,7 +51,8 @@ pub fn limit(rng: &mut Rng, which: usize) -> Vec<u8> {
     let more = rng.below(2);
     LIMITS[which % LIMITS.len()](rng, more, &mut edge);
     let Edge { nodes, header, fill } = edge;
-    let mut bytes = write(&Job { high_first: rng.one_in(2), header, nodes, space: 0, space_seed: rng.draw() });
+    let mut bytes =
+        write(&Job { high_first: rng.one_in(2), header, nodes, space: 0, space_seed: rng.draw(), pad: None });
     if let Some((length, byte)) = fill {
         // Before the last three operators, so that the job may still end well.
         let at = if byte == 0x42 { 0 } else { bytes.len() - 3 };
@@ -258,7 +259,7 @@ fn header_bytes(rng: &mut Rng, more: usize, edge: &mut Edge) {
 fn job_bytes(rng: &mut Rng, more: usize, edge: &mut Edge) {
     edge.nodes.push(begin_page());
     edge.nodes.extend(ends());
-    edge.fill = Some((61_440 + more, rng.pick(&[0x20, 0x86, 0x61, 0x42])));
+    edge.fill = Some((61_440 + more, rng.pick(&[0x00, 0x20, 0x86, 0x61, 0x42])));
 }
 
 /// A tower that unfolds to far more than can be walked.

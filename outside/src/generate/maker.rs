@@ -334,7 +334,7 @@ impl Maker {
             self.rng.bytes(n).into_iter().filter(|&b| b != b'\n').collect()
         });
         let high_first = self.rng.one_in(2);
-        Job { high_first, header, nodes: self.nodes, space, space_seed: self.rng.draw() }
+        Job { high_first, header, nodes: self.nodes, space, space_seed: self.rng.draw(), pad: None }
     }
 }
 

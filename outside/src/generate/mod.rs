@@ -1,4 +1,4 @@
-//! Jobs made from a seed: valid ones, edges of every limit, broken rules, mutants, rich states, tags, truncations.
+//! Jobs made from a seed: valid ones, edges of every limit, broken rules, mutants, rich states, padded ones, tags, truncations.
 //!
 //! `case(seed, index)` is the same for the same numbers, so a difference can be made again.
 
@@ -8,6 +8,7 @@ mod job;
 mod limits;
 mod maker;
 mod mutant;
+mod padding;
 mod rng;
 mod runs;
 mod shapes;
@@ -18,6 +19,7 @@ pub use job::write;
 pub use limits::limit;
 pub use maker::{rich, valid};
 pub use mutant::mutant;
+pub use padding::padded;
 pub use rng::Rng;
 pub use runs::runs;
 pub use shapes::{shapes_of, Need, TAGS};
@@ -57,6 +59,7 @@ pub fn case(seed: u64, index: u64) -> Case {
         // The longer limit jobs come less often.
         6 if turn.is_multiple_of(4) => ("limit", limit(&mut rng, (turn / 4) as usize)),
         6 if turn % 4 == 1 => ("runs", runs(&mut rng)),
+        6 if turn % 4 == 2 => ("padded", padded(&mut rng)),
         6 => ("tags", tags(&mut rng)),
         _ => {
             let mut base = Rng::new(seed, turn / CUT);

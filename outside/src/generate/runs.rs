@@ -34,7 +34,7 @@ pub fn runs(rng: &mut Rng) -> Vec<u8> {
             0..=7 => Node::Raw(line(rng)),
             8..=11 => op(rng.pick(&[0x84, 0x85, 0x86, 0x61, 0x60])).node(),
             12 | 13 => point(0x6b, 76),
-            14 => Node::Raw(vec![rng.pick(&[0x09, 0x0d, 0x20])]),
+            14 => Node::Raw(vec![rng.pick(&[0x00, 0x09, 0x0d, 0x20])]),
             _ => {
                 let mut near = line(rng);
                 spoil(rng, &mut near);
@@ -43,7 +43,7 @@ pub fn runs(rng: &mut Rng) -> Vec<u8> {
         });
     }
     nodes.extend(ends());
-    write(&Job { high_first: rng.one_in(2), header: None, nodes, space: 0, space_seed: 0 })
+    write(&Job { high_first: rng.one_in(2), header: None, nodes, space: 0, space_seed: 0, pad: None })
 }
 
 #[cfg(test)]

@@ -15,7 +15,7 @@ pub fn tags(rng: &mut Rng) -> Vec<u8> {
     let mut out = if rng.one_in(6) { rng.bytes(17) } else { header_bytes(rng.one_in(2), &None) };
     if rng.one_in(2) {
         let high = out[0] == 0x28;
-        let mut w = Writer { out, high_first: high, space: 0, rng: rng.clone() };
+        let mut w = Writer { out, high_first: high, space: 0, rng: rng.clone(), pad: None, places: 0 };
         w.nodes(&[begin_session(), open_source(), begin_page()][..1 + rng.below(3)]);
         out = w.out;
     }
