@@ -16,10 +16,13 @@ pub fn between(low: u8, high: u8, x: u8) -> bool
     x <= high
 }
 
-// White space is 0x09 to 0x0d, and 0x20.
+// White space is 0x00, 0x09 to 0x0d, and 0x20.
 pub fn is_white(b: u8) -> bool
     ensures { λ r. ⌜ r ≡ white b ⌝ }
 {
+    if b == 0x00 {
+        return true;
+    }
     if between(0x09, 0x0d, b) {
         return true;
     }

@@ -26,6 +26,7 @@ use Rattle.scope.specs.Plain
 use Rattle.scope.proofs.Parts.{all, times, op, H, S, E, J, P, O, Z, CUR, LN, LD, D, GL, N, M, X, Tried}
 use Rattle.scope.proofs.JobsRead.{given, read}
 use Rattle.scope.proofs.JobsJudged.{judged}
+use Rattle.scope.proofs.Padded.{padded}
 
 -- the table
 abbrev tables : List (List Tried)
@@ -33,6 +34,7 @@ tables =
     given
     ∷ read
     ∷ judged
+    ∷ padded
     ∷ []
 
 joined : List (List Tried) → List Tried

@@ -19,4 +19,5 @@ pub mod Sessions
 pub mod Parts
 pub mod JobsRead
 pub mod JobsJudged
+pub mod Padded
 pub mod Jobs

@@ -10,9 +10,9 @@ use Rattle.scope.specs.Choice.{pick, between}
 use Rattle.scope.specs.Number.{number}
 use Rattle.scope.specs.Iterate.{Next, go, stop, iterate}
 
--- white space: 0x09 to 0x0d, and 0x20
+-- white space: 0x00, 0x09 to 0x0d, and 0x20
 unfoldable pub white : ℕ → Bool
-white b = between 0x09 0x0d b || eqb b 0x20
+white b = eqb b 0x00 || (between 0x09 0x0d b || eqb b 0x20)
 
 -- how many white bytes a list starts with
 unfoldable pub spaces : List ℕ → ℕ
