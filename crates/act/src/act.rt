@@ -8,20 +8,31 @@ use arm::page::Act;
 use arm::page::Effect;
 use arm::page::Mark;
 use arm::page::Space;
+use names::operators::BEGIN_IMAGE;
+use names::operators::LINE_PATH;
+use names::operators::LINE_REL_PATH;
+use names::operators::NEW_PATH;
+use names::operators::POP_GS;
+use names::operators::PUSH_GS;
+use names::operators::SET_BRUSH_SOURCE;
+use names::operators::SET_COLOR_SPACE;
+use names::operators::SET_CURSOR;
+use names::operators::SET_CURSOR_REL;
+use names::operators::SET_PEN_SOURCE;
 
 // The operator needs no colour space and does nothing to the page, as most.
 pub fn is_plain(tag: u8) -> bool
     ensures { λ r. ⌜ r ≡ plain tag ⌝ }
 {
     match tag {
-        0x60 => false,
-        0x61 => false,
-        0x63 => false,
-        0x6a => false,
-        0x6b => false,
-        0x79 => false,
-        0x85 => false,
-        0xb0 => false,
+        POP_GS => false,
+        PUSH_GS => false,
+        SET_BRUSH_SOURCE => false,
+        SET_COLOR_SPACE => false,
+        SET_CURSOR => false,
+        SET_PEN_SOURCE => false,
+        NEW_PATH => false,
+        BEGIN_IMAGE => false,
         _ => true,
     }
 }
@@ -30,16 +41,16 @@ pub fn is_plain(tag: u8) -> bool
 pub fn needs_cursor(tag: u8) -> bool
     ensures { λ r. ⌜ r ≡ needsCursor tag ⌝ }
 {
-    if tag == 0x6c {
+    if tag == SET_CURSOR_REL {
         return true;
     }
-    if tag == 0x9b {
+    if tag == LINE_PATH {
         return true;
     }
-    if tag == 0x9d {
+    if tag == LINE_REL_PATH {
         return true;
     }
-    tag == 0xb0
+    tag == BEGIN_IMAGE
 }
 
 // Of a brush or a pen: RGBColor needs RGB, GrayLevel gray.
@@ -58,13 +69,13 @@ fn brush_space(attrs: &[usize; 80], n: usize) -> Space
 fn needs_space(tag: u8, attrs: &[usize; 80], n: usize) -> Space
     ensures { λ r. ⌜ (Sized (now (attrs .entry)) n → spaceAs r ≡ needsSpace tag (rowsOf (now (attrs .entry)) n)) ⌝ }
 {
-    if tag == 0xb0 {
+    if tag == BEGIN_IMAGE {
         return Space::Gray;
     }
-    if tag == 0x63 {
+    if tag == SET_BRUSH_SOURCE {
         return brush_space(attrs, n);
     }
-    if tag == 0x79 {
+    if tag == SET_PEN_SOURCE {
         return brush_space(attrs, n);
     }
     Space::Any
@@ -81,19 +92,19 @@ fn space_effect(s: &[u8], high: bool, attrs: &[usize; 80], n: usize) -> Effect
 fn effect_of(s: &[u8], high: bool, tag: u8, attrs: &[usize; 80], n: usize) -> Effect
     ensures { λ r. ⌜ (Sized (now (attrs .entry)) n → effectAs r ≡ effectOf high (now (s .entry)) tag (rowsOf (now (attrs .entry)) n)) ⌝ }
 {
-    if tag == 0x61 {
+    if tag == PUSH_GS {
         return Effect::Push;
     }
-    if tag == 0x60 {
+    if tag == POP_GS {
         return Effect::Pop;
     }
-    if tag == 0x6b {
+    if tag == SET_CURSOR {
         return Effect::Put(Mark::To(true), Mark::Keep);
     }
-    if tag == 0x85 {
+    if tag == NEW_PATH {
         return Effect::Put(Mark::To(false), Mark::Keep);
     }
-    if tag == 0x6a {
+    if tag == SET_COLOR_SPACE {
         return space_effect(s, high, attrs, n);
     }
     Effect::Put(Mark::Keep, Mark::Keep)

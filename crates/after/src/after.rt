@@ -11,6 +11,16 @@ ghost use Rattle.place.specs.declared.place.Busy.the-variants as busy-is;
 ghost use Rattle.place.specs.declared.place.Place.the-variants as place-is;
 use arm::page::Page;
 use early::Early;
+use names::limits::MOTIFS_MOST;
+use names::limits::STORE_MOST;
+use names::operators::BEGIN_IMAGE;
+use names::operators::BEGIN_PAGE;
+use names::operators::BEGIN_STREAM;
+use names::operators::CLOSE_DATA_SOURCE;
+use names::operators::END_PAGE;
+use names::operators::END_SESSION;
+use names::operators::OPEN_DATA_SOURCE;
+use names::operators::READ_STREAM;
 use order::Picture;
 use place::Busy;
 use place::Place;
@@ -20,10 +30,10 @@ use reader::Operator;
 fn opened_after(tag: u8, opened: bool) -> bool
     ensures { λ r. ⌜ r ≡ openedAfter tag opened ⌝ }
 {
-    if tag == 0x48 {
+    if tag == OPEN_DATA_SOURCE {
         return true;
     }
-    if tag == 0x49 {
+    if tag == CLOSE_DATA_SOURCE {
         return false;
     }
     opened
@@ -34,10 +44,10 @@ fn begun(job: &[u8], gray: bool, o: Operator, attrs: &[usize; 80]) -> Busy
     ensures { λ r. ⌜ Begins (now (job .entry)) (now (attrs .entry)) gray o r ⌝ }
 {
     let tag = o.tag;
-    if tag == 0x43 {
+    if tag == BEGIN_PAGE {
         return Busy::Drawing(arm::page::blank(gray), Picture::Nothing);
     }
-    if tag == 0x5b {
+    if tag == BEGIN_STREAM {
         let name = motif::name_in(job, attrs, o.count);
         return Busy::Reading(name.first, name.count, 0);
     }
@@ -58,7 +68,7 @@ fn resting_after(
         → After (now (job .entry)) (now (attrs .entry)) high gray o early page rows sums work (place-is.Inside opened held used busy-is.Resting) rows sums work r) ⌝ }
 {
     let tag = o.tag;
-    if tag == 0x42 {
+    if tag == END_SESSION {
         return Place::Outside(true);
     }
     Place::Inside(
@@ -81,10 +91,10 @@ fn drawn_on(
     ensures { λ r. ⌜ Draws (now (job .entry)) (now (attrs .entry)) high o page picture r ⌝ }
 {
     let tag = o.tag;
-    if tag == 0x44 {
+    if tag == END_PAGE {
         return Busy::Resting;
     }
-    if tag < 0xb0 {
+    if tag < BEGIN_IMAGE {
         return Busy::Drawing(page, picture);
     }
     Busy::Drawing(
@@ -104,13 +114,13 @@ fn fits(len: usize, first: usize, count: usize, used: usize, joined: usize) -> b
     if len - first < count {
         return false;
     }
-    if 16384 < used {
+    if STORE_MOST < used {
         return false;
     }
-    if 16384 - used < joined {
+    if STORE_MOST - used < joined {
         return false;
     }
-    count <= 16384 - used - joined
+    count <= STORE_MOST - used - joined
 }
 
 // ReadStream joins its data to what was read of the motif; the answer is how many bytes that makes.
@@ -146,14 +156,14 @@ fn hold(
         → After job attrs high gray o (early-is.Held depth sum) page (now (rows .entry)) (now (sums .entry)) work (place-is.Inside opened held used (busy-is.Reading first count joined))
         (now (rows .exit)) (now (sums .exit)) work r) ⌝ }
 {
-    if 64 <= held {
-        return Place::Outside(true);
+    if MOTIFS_MOST <= held {
+        return Place::Outside(false);
     }
-    if 16384 < used {
-        return Place::Outside(true);
+    if STORE_MOST < used {
+        return Place::Outside(false);
     }
-    if 16384 < joined {
-        return Place::Outside(true);
+    if STORE_MOST < joined {
+        return Place::Outside(false);
     }
     rows[held * 3] = first;
     rows[held * 3 + 1] = count;
@@ -181,8 +191,8 @@ fn ended(
         (now (rows .exit)) (now (sums .exit)) work r) ⌝ }
 {
     match early {
-        Early::Fine => Place::Outside(true),
-        Early::Call(_) => Place::Outside(true),
+        Early::Fine => Place::Outside(false),
+        Early::Call(_) => Place::Outside(false),
         Early::Held(depth, sum) => hold(
             opened,
             held,
@@ -195,7 +205,7 @@ fn ended(
             rows,
             sums,
         ),
-        Early::No(_, _) => Place::Outside(true),
+        Early::No(_, _) => Place::Outside(false),
     }
 }
 
@@ -221,7 +231,7 @@ fn reading_after(
         → After (now (job .entry)) attrs high gray o early page (now (rows .entry)) (now (sums .entry)) (now (work .entry))
         (place-is.Inside opened held used (busy-is.Reading first count joined)) (now (rows .exit)) (now (sums .exit)) (now (work .exit)) r) ⌝ }
 {
-    if o.tag == 0x5c {
+    if o.tag == READ_STREAM {
         let more = join_block(job, o, work, used, joined);
         return Place::Inside(opened, held, used, Busy::Reading(first, count, more));
     }

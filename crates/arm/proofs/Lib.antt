@@ -5,5 +5,6 @@ pub mod Levels
 pub mod Obeyed
 pub mod Rows
 pub mod Rules
+pub mod Saves
 pub mod Stacks
 pub mod Ways

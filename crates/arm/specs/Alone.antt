@@ -1,14 +1,31 @@
 -- Operators that are their tag alone: CloseSubPath, NewPath, PaintPath, PushGS and PopGS have neither attributes nor data.
 -- Assumes nothing.
-use Prim.Native.Nat.{ℕ, _<_}
+use Prim.Native.Nat.{ℕ, _<_, _≤_}
+use mathlib.Core.Path.{_≡_}
 use mathlib.Core.Bool.{false}
 use lib.ListN.{length}
 use Rattle.scope.specs.Names.{PopGS, PushGS, CloseSubPath, NewPath, PaintPath}
 use Rattle.scope.specs.Arm.{Page, done, push, pop, put, kept, to}
+use Rattle.arm.specs.Views.{pageAs}
 use Rattle.arm.specs.Holds.{PageHolds}
 use Rattle.arm.specs.declared.page.Page as Code
 use Rattle.arm.specs.declared.page.Passed.{Passed}
 use Rattle.arm.specs.declared.page.Passed.the-variants as passed-is
+
+-- PushGS hands back the page with one state more, or refuses with 24 saved
+abbrev pub Pushed : Code.Page → Passed → Type 0
+Pushed p (passed-is.To r) = (p .depth < 24) × (pageAs r ≡ done push (pageAs p))
+Pushed p passed-is.No = 24 ≤ p .depth
+
+-- PopGS hands back the page with the last state saved, or refuses with nothing saved
+abbrev pub Popped : Code.Page → Passed → Type 0
+Popped p (passed-is.To r) = (0 < p .depth) × (pageAs r ≡ done pop (pageAs p))
+Popped p passed-is.No = p .depth ≡ 0
+
+-- the page after an operator, or as it was where that is refused
+abbrev pub pageOr : Code.Page → Passed → Code.Page
+pageOr p (passed-is.To r) = r
+pageOr p passed-is.No = p
 
 -- one of them, by its tag, may come in a page, breaks no rule of the page there, and leaves the page so
 pub data Alone : (tag : ℕ) → (before after : Page) → Type 0 where

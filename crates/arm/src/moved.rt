@@ -12,6 +12,7 @@ use crate::page::Act;
 use crate::page::Page;
 use crate::seen::Seen;
 use crate::seen::lacks;
+use names::limits::PERFORMED_MOST;
 use summary::Summary;
 
 // The page after it and the number performed, or the code of the refusal.
@@ -51,7 +52,7 @@ impl Page {
         if lacks(cursor, self.cursor) {
             return Moved::No(24);
         }
-        if 1_000_000 <= performed {
+        if PERFORMED_MOST <= performed {
             return Moved::No(26);
         }
         Moved::To(self, performed + 1)

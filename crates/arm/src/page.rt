@@ -3,10 +3,16 @@ ghost use mathlib.Core.Path.{_≡_};
 ghost use Prim.Native.Nat.{ℕ, _≤_, _<_, min};
 ghost use Rattle.scope.specs.Arm.{done, risen, marked, push, pop, put};
 ghost use Rattle.scope.specs.Arm.{blank as Arm·blank, Page as Arm·Page};
-ghost use Rattle.arm.specs.Alone.{Leaves};
+ghost use Rattle.arm.specs.Alone.{Pushed, Popped, pageOr, Leaves};
 ghost use Rattle.arm.specs.Holds.{PageHolds};
 ghost use Rattle.arm.specs.Views.{bitsOf, pageAs, markAs, effectAs};
 use crate::limits::higher;
+use names::limits::SAVED_MOST;
+use names::operators::CLOSE_SUB_PATH;
+use names::operators::NEW_PATH;
+use names::operators::PAINT_PATH;
+use names::operators::POP_GS;
+use names::operators::PUSH_GS;
 
 // What becomes of the cursor, or of the colour space.
 pub enum Mark {
@@ -82,39 +88,49 @@ fn marks(mark: Mark, before: bool) -> bool
 }
 
 impl Page {
-    // PushGS saves cursor state and colour space, where less than 24 are saved.
-    fn push(self) -> Page
-        ensures { λ r. ⌜ (self .depth < 24 → pageAs r ≡ done push (pageAs self)) ⌝ }
+    // PushGS saves cursor state and colour space; with 24 saved it is refused.
+    fn push(self) -> Passed
+        ensures { λ r. ⌜ Pushed self r ⌝ }
     {
         let depth = self.depth;
         let saved = self.saved;
-        if 24 <= depth {
-            return self;
+        if SAVED_MOST <= depth {
+            return Passed::No;
         }
-        Page {
+        Passed::To(Page {
             cursor: self.cursor,
             gray: self.gray,
             depth: depth + 1,
             saved: saved % 70_368_744_177_664 * 4 + bits(self.cursor, self.gray),
-        }
+        })
     }
 
-    // PopGS brings both back; with nothing saved the page stays.
-    fn pop(self) -> Page
-        ensures { λ r. ⌜ pageAs r ≡ done pop (pageAs self) ⌝ }
+    // PopGS brings both back; with nothing saved it is refused.
+    fn pop(self) -> Passed
+        ensures { λ r. ⌜ Popped self r ⌝ }
     {
         let depth = self.depth;
         let saved = self.saved;
         if depth == 0 {
-            return self;
+            return Passed::No;
         }
         let cursor = saved % 2 == 1;
         let gray = saved / 2 % 2 == 1;
-        Page {
+        Passed::To(Page {
             cursor,
             gray,
             depth: depth - 1,
             saved: saved / 4,
+        })
+    }
+
+    // The page after an operator, or as it was where that is refused.
+    fn or_else(self, after: Passed) -> Page
+        ensures { λ r. ⌜ r ≡ pageOr self after ⌝ }
+    {
+        match after {
+            Passed::To(page) => page,
+            Passed::No => self,
         }
     }
 
@@ -136,8 +152,8 @@ impl Page {
         ensures { λ r. ⌜ (risen (effectAs effect) (pageAs self) 0 ≤ 24 → pageAs r ≡ done (effectAs effect) (pageAs self)) ⌝ }
     {
         match effect {
-            Effect::Push => self.push(),
-            Effect::Pop => self.pop(),
+            Effect::Push => self.or_else(self.push()),
+            Effect::Pop => self.or_else(self.pop()),
             Effect::Put(c, g) => self.put(c, g),
         }
     }
@@ -157,27 +173,20 @@ impl Page {
     pub fn past(self, tag: u8) -> Passed
         ensures { λ r. ⌜ ((q : Arm·Page) → PageHolds self q → Leaves tag q r) ⌝ }
     {
-        let depth = self.depth;
-        if tag == 0x84 {
+        if tag == CLOSE_SUB_PATH {
             return Passed::To(self);
         }
-        if tag == 0x85 {
+        if tag == NEW_PATH {
             return Passed::To(self.put(Mark::To(false), Mark::Keep));
         }
-        if tag == 0x86 {
+        if tag == PAINT_PATH {
             return Passed::To(self);
         }
-        if tag == 0x60 {
-            if depth == 0 {
-                return Passed::No;
-            }
-            return Passed::To(self.pop());
+        if tag == POP_GS {
+            return self.pop();
         }
-        if tag == 0x61 {
-            if 24 <= depth {
-                return Passed::No;
-            }
-            return Passed::To(self.push());
+        if tag == PUSH_GS {
+            return self.push();
         }
         Passed::No
     }

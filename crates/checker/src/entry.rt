@@ -8,6 +8,8 @@ ghost use Rattle.scope.specs.Header.{headerOf};
 ghost use Rattle.state.specs.Views.{verdictAs};
 ghost use Rattle.state.specs.Standing.{Lasts, Listed};
 use header::Header;
+use names::limits::JOB_MOST;
+use names::limits::WORK_LEAST;
 use state::OUTER;
 use state::Verdict;
 use state::told;
@@ -32,11 +34,11 @@ pub fn check(job: &[u8], work: &mut [u8], list: &mut [u8]) -> Verdict
     ensures { λ _. ⌜ now (list .exit) ≡ listAfter (now (job .entry)) (length (now (work .entry))) (now (list .entry)) ⌝ }
     ensures { λ _. ⌜ now (work .exit) ≡ workAfter (now (job .entry)) (now (work .entry)) ⌝ }
 {
-    if work.len() < 16384 {
+    if work.len() < WORK_LEAST {
         return told(29, 0, OUTER, 0, 0);
     }
-    if 61440 < job.len() {
-        return told(1, 61440, OUTER, 0, 0);
+    if JOB_MOST < job.len() {
+        return told(1, JOB_MOST, OUTER, 0, 0);
     }
     let verdict = judge_job(job, work, list);
     buffer::zero(work);

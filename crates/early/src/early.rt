@@ -16,6 +16,11 @@ ghost use Rattle.place.specs.Places.{BusyHolds, PlaceHolds, Drawn};
 ghost use Rattle.early.specs.Earlier.{Earlies, EarliesIn};
 ghost use Rattle.place.specs.declared.place.Busy.the-variants as busy-is;
 use motif::Where;
+use names::limits::MOTIFS_MOST;
+use names::limits::STORE_MOST;
+use names::operators::BEGIN_STREAM;
+use names::operators::EXEC_STREAM;
+use names::operators::READ_STREAM;
 use place::Busy;
 use place::Place;
 use reader::Operator;
@@ -43,7 +48,7 @@ fn begin_stream(
     ensures { λ r. ⌜ ((sums : List ℕ) (x : Session) → held ≤ 64 → Keeps (now (job .entry)) (now (rows .entry)) sums held (x .held) → Sized (now (attrs .entry)) (o .count)
         → o .tag ≡ 0x5b → EarliesIn (now (job .entry)) (now (attrs .entry)) x o r) ⌝ }
 {
-    if 64 <= held {
+    if MOTIFS_MOST <= held {
         return Early::No(19, OUTER);
     }
     let name = motif::name_in(job, attrs, o.count);
@@ -64,7 +69,7 @@ fn resting_early(
     ensures { λ r. ⌜ ((sums : List ℕ) (x : Session) → held ≤ 64 → Keeps (now (job .entry)) (now (rows .entry)) sums held (x .held) → Sized (now (attrs .entry)) (o .count)
         → mayCome in-session (x .opened) (o .tag) ≡ true → EarliesIn (now (job .entry)) (now (attrs .entry)) x o r) ⌝ }
 {
-    if o.tag == 0x5b {
+    if o.tag == BEGIN_STREAM {
         return begin_stream(job, rows, attrs, held, o);
     }
     Early::Fine
@@ -76,13 +81,13 @@ fn read_stream(used: usize, joined: usize, o: Operator) -> Early
         → o .tag ≡ 0x5c → EarliesIn job attrs x o r) ⌝ }
 {
     let length = o.length;
-    if 16384 < used {
+    if STORE_MOST < used {
         return Early::No(19, OUTER);
     }
-    if 16384 - used < joined {
+    if STORE_MOST - used < joined {
         return Early::No(19, OUTER);
     }
-    if 16384 - used - joined < length {
+    if STORE_MOST - used - joined < length {
         return Early::No(19, OUTER);
     }
     Early::Fine
@@ -103,10 +108,10 @@ fn end_stream(
         → take joined (drop used (now (work .entry))) ≡ joinedOf (x .busy) → o .tag ≡ 0x5d → EarliesIn (now (job .entry)) attrs x o r) ⌝ }
 {
     if work.len() < used {
-        return Early::Fine;
+        return Early::No(19, OUTER);
     }
     if work.len() - used < joined {
-        return Early::Fine;
+        return Early::No(19, OUTER);
     }
     match stream::judge_motif(&work[used..used + joined], job, rows, sums, held) {
         Judged::Valid(depth, sum) => Early::Held(depth, sum),
@@ -131,7 +136,7 @@ fn reading_early(
         → 16384 ≤ length (now (work .entry)) → mayCome (phaseBusy (x .busy)) (x .opened) (o .tag) ≡ true
         → EarliesIn (now (job .entry)) attrs x o r) ⌝ }
 {
-    if o.tag == 0x5c {
+    if o.tag == READ_STREAM {
         return read_stream(used, joined, o);
     }
     end_stream(job, work, rows, sums, held, used, joined)
@@ -168,7 +173,7 @@ fn drawing_early(
     ensures { λ r. ⌜ ((x : Session) → held ≤ 64 → Keeps (now (job .entry)) (now (rows .entry)) (now (sums .entry)) held (x .held) → Sized (now (attrs .entry)) (o .count)
         → Drawn (x .busy) → mayCome (phaseBusy (x .busy)) (x .opened) (o .tag) ≡ true → EarliesIn (now (job .entry)) (now (attrs .entry)) x o r) ⌝ }
 {
-    if o.tag == 0x5e {
+    if o.tag == EXEC_STREAM {
         return exec_stream(job, rows, sums, attrs, held, o);
     }
     Early::Fine

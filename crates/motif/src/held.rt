@@ -8,6 +8,7 @@ ghost use Rattle.scope.specs.Choice.{same, pick};
 ghost use Rattle.scope.specs.Motif.{Motif};
 ghost use Rattle.motif.specs.Held.{Keeps, Finds};
 ghost use Rattle.motif.specs.Search.{Row, isName, findIn, foundIn};
+use names::limits::MOTIFS_MOST;
 
 // The row of a held motif, or none.
 pub enum Where {
@@ -77,7 +78,11 @@ fn in_use(held: usize) -> usize
     ensures { λ r. ⌜ (held ≤ 64 → r ≡ held) ⌝ }
     ensures { λ r. ⌜ r ≡ pick (ltb held 64) held 64 ⌝ }
 {
-    if held < 64 { held } else { 64 }
+    if held < MOTIFS_MOST {
+        held
+    } else {
+        MOTIFS_MOST
+    }
 }
 
 // The row of the last motif held under a name, which is count bytes of s from first on.

@@ -7,6 +7,10 @@ ghost use Rattle.scope.specs.Data.{bitsOf, rowOf, pointBytes, dueOf};
 ghost use Rattle.scope.specs.Order.{rowsFit};
 ghost use Rattle.order.specs.Views.{dueAs, imageAs, pointsDue};
 use crate::order::Image;
+use names::operators::LINE_PATH;
+use names::operators::LINE_REL_PATH;
+use names::operators::READ_IMAGE;
+use names::operators::READ_STREAM;
 
 // So many bytes, or none if the operator reads none.
 pub enum Due {
@@ -59,15 +63,15 @@ fn points_due(s: &[u8], high: bool, attrs: &[usize; 80], n: usize) -> Due
 pub fn due_of(s: &[u8], high: bool, image: Image, tag: u8, attrs: &[usize; 80], n: usize) -> Due
     ensures { λ r. ⌜ (Sized (now (attrs .entry)) n → dueAs r ≡ dueOf high (now (s .entry)) (imageAs image) tag (rowsOf (now (attrs .entry)) n)) ⌝ }
 {
-    if tag == 0x5c {
+    if tag == READ_STREAM {
         return Due::Reads(rules::value_in(s, high, attrs, n, 140) as usize);
     }
-    if tag == 0xb1 {
+    if tag == READ_IMAGE {
         let rows = rules::value_in(s, high, attrs, n, 99) as usize;
         return Due::Reads(rows * row_of(image.width, image.depth));
     }
-    if tag != 0x9b {
-        if tag != 0x9d {
+    if tag != LINE_PATH {
+        if tag != LINE_REL_PATH {
             return Due::Nothing;
         }
     }
@@ -78,7 +82,7 @@ pub fn due_of(s: &[u8], high: bool, image: Image, tag: u8, attrs: &[usize; 80], 
 pub fn rows_fit(s: &[u8], high: bool, image: Image, tag: u8, attrs: &[usize; 80], n: usize) -> bool
     ensures { λ r. ⌜ (Sized (now (attrs .entry)) n → r ≡ rowsFit high (now (s .entry)) (imageAs image) tag (rowsOf (now (attrs .entry)) n)) ⌝ }
 {
-    if tag != 0xb1 {
+    if tag != READ_IMAGE {
         return true;
     }
     let start = rules::value_in(s, high, attrs, n, 109);

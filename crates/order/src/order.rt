@@ -2,6 +2,23 @@
 ghost use mathlib.Core.Path.{_≡_};
 ghost use Rattle.scope.specs.Order.{mayCome, drawn, in-session, in-stream, in-page, in-image};
 ghost use Rattle.order.specs.Views.{phaseAs, imageAs};
+use names::operators::BEGIN_IMAGE;
+use names::operators::BEGIN_PAGE;
+use names::operators::BEGIN_SESSION;
+use names::operators::BEGIN_STREAM;
+use names::operators::CLOSE_DATA_SOURCE;
+use names::operators::COMMENT;
+use names::operators::END_IMAGE;
+use names::operators::END_PAGE;
+use names::operators::END_SESSION;
+use names::operators::END_STREAM;
+use names::operators::EXEC_STREAM;
+use names::operators::OPEN_DATA_SOURCE;
+use names::operators::POP_GS;
+use names::operators::PUSH_GS;
+use names::operators::READ_IMAGE;
+use names::operators::READ_STREAM;
+use names::operators::SET_BRUSH_SOURCE;
 
 // An image that is being read.
 pub struct Image {
@@ -25,58 +42,58 @@ pub enum Phase {
 fn is_drawn(saved: usize, tag: u8) -> bool
     ensures { λ r. ⌜ r ≡ drawn saved tag ⌝ }
 {
-    if tag == 0x60 {
+    if tag == POP_GS {
         return 1 <= saved;
     }
-    if tag == 0x47 {
+    if tag == COMMENT {
         return true;
     }
-    if tag == 0x5e {
+    if tag == EXEC_STREAM {
         return true;
     }
-    if tag == 0x61 {
+    if tag == PUSH_GS {
         return true;
     }
-    if tag < 0x63 {
+    if tag < SET_BRUSH_SOURCE {
         return false;
     }
-    tag <= 0xb0
+    tag <= BEGIN_IMAGE
 }
 
 fn in_session(opened: bool, tag: u8) -> bool
     ensures { λ r. ⌜ r ≡ mayCome in-session opened tag ⌝ }
 {
-    if tag == 0x47 {
+    if tag == COMMENT {
         return true;
     }
-    if tag == 0x5b {
+    if tag == BEGIN_STREAM {
         return true;
     }
-    if tag == 0x43 {
+    if tag == BEGIN_PAGE {
         return true;
     }
     if opened {
-        return tag == 0x49;
+        return tag == CLOSE_DATA_SOURCE;
     }
-    if tag == 0x48 {
+    if tag == OPEN_DATA_SOURCE {
         return true;
     }
-    tag == 0x42
+    tag == END_SESSION
 }
 
 fn in_stream(opened: bool, tag: u8) -> bool
     ensures { λ r. ⌜ r ≡ mayCome in-stream opened tag ⌝ }
 {
-    if tag == 0x5c {
+    if tag == READ_STREAM {
         return true;
     }
-    tag == 0x5d
+    tag == END_STREAM
 }
 
 fn in_page(saved: usize, opened: bool, tag: u8) -> bool
     ensures { λ r. ⌜ r ≡ mayCome (in-page saved) opened tag ⌝ }
 {
-    if tag == 0x44 {
+    if tag == END_PAGE {
         return saved == 0;
     }
     is_drawn(saved, tag)
@@ -87,10 +104,10 @@ fn in_image(image: Image, opened: bool, tag: u8) -> bool
 {
     let rows = image.rows;
     let height = image.height as u32;
-    if tag == 0xb2 {
+    if tag == END_IMAGE {
         return rows == height;
     }
-    tag == 0xb1
+    tag == READ_IMAGE
 }
 
 // Whether an operator of the table may come, where the source is open or not.
@@ -98,7 +115,7 @@ pub fn may_come(phase: Phase, opened: bool, tag: u8) -> bool
     ensures { λ r. ⌜ r ≡ mayCome (phaseAs phase) opened tag ⌝ }
 {
     match phase {
-        Phase::BetweenSessions => tag == 0x41,
+        Phase::BetweenSessions => tag == BEGIN_SESSION,
         Phase::InSession => in_session(opened, tag),
         Phase::InStream => in_stream(opened, tag),
         Phase::InPage(saved) => in_page(saved, opened, tag),

@@ -7,6 +7,9 @@ ghost use Rattle.scope.specs.Motif.{begun, readOn};
 ghost use Rattle.scope.specs.Order.{rowsFit};
 ghost use Rattle.order.specs.Pictures.{pictureAs, pictureFor, imageIn};
 use crate::order::Image;
+use names::operators::BEGIN_IMAGE;
+use names::operators::END_IMAGE;
+use names::operators::READ_IMAGE;
 
 // An image that is open, or none.
 pub enum Picture {
@@ -69,14 +72,14 @@ pub fn picture_after(
 ) -> Picture
     ensures { λ r. ⌜ (Sized (now (attrs .entry)) n → rowsFit high (now (s .entry)) (imageIn (pictureAs picture)) tag (rowsOf (now (attrs .entry)) n) ≡ true → pictureAs r ≡ pictureFor high (now (s .entry)) tag (rowsOf (now (attrs .entry)) n) (pictureAs picture)) ⌝ }
 {
-    if tag == 0xb0 {
+    if tag == BEGIN_IMAGE {
         return begin(s, high, attrs, n);
     }
-    if tag == 0xb1 {
+    if tag == READ_IMAGE {
         let more = rules::value_in(s, high, attrs, n, 99);
         return read_on(more, picture);
     }
-    if tag == 0xb2 {
+    if tag == END_IMAGE {
         return Picture::Nothing;
     }
     picture

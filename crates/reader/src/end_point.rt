@@ -6,6 +6,8 @@ ghost use lib.Dec.{eqb};
 ghost use lib.ListN.{length};
 ghost use Rattle.scope.specs.Names.{LinePath, LineRelPath};
 ghost use Rattle.reader.specs.EndPoint.{pointLength, endsAt, lineTo, Point, Drawn, Ends, Line};
+use names::operators::LINE_PATH;
+use names::operators::LINE_REL_PATH;
 
 // The bytes of a point's numbers by its tag; 0 if it is no point's.
 fn point_length(tag: u8) -> usize
@@ -26,10 +28,10 @@ fn is_drawn_line(tag: u8) -> bool
     ensures { λ r. ⌜ r ≡ (eqb tag LinePath || eqb tag LineRelPath) ⌝ }
     ensures { λ r. ⌜ (r ≡ true → Drawn tag) ⌝ }
 {
-    if tag == 0x9b {
+    if tag == LINE_PATH {
         return true;
     }
-    tag == 0x9d
+    tag == LINE_REL_PATH
 }
 
 // At p stand 0xf8, EndPoint's number, and LinePath or LineRelPath.

@@ -10,6 +10,7 @@ ghost use Rattle.place.specs.declared.place.Place.the-variants.{Inside};
 ghost use Rattle.running.specs.Running.{inSession, standing, Further, Runs};
 use arm::page::Page;
 use arm::page::Passed;
+use names::limits::PERFORMED_MOST;
 use order::Picture;
 use place::Busy;
 use place::Place;
@@ -96,7 +97,7 @@ fn pass_one(job: &[u8], list: &mut [u8], from: Run) -> Pass
     if job.len() <= at {
         return Pass::No;
     }
-    if 1_000_000 <= from.performed {
+    if PERFORMED_MOST <= from.performed {
         return Pass::No;
     }
     if job[at] < 0xc0 {

@@ -24,6 +24,10 @@ use header::Header;
 use motif::Where;
 use motif::find;
 use motif::name_in;
+use names::limits::NESTING_MOST;
+use names::operators::EXEC_STREAM;
+use names::operators::POP_GS;
+use names::operators::PUSH_GS;
 use order::Phase;
 use order::Picture;
 use order::picture_after;
@@ -65,10 +69,10 @@ fn saved_after(tag: u8, saved: usize) -> usize
     requires { ⌜ saved < 2 ^ 63 ⌝ }
     ensures { λ r. ⌜ r ≡ savedAfter tag saved ⌝ }
 {
-    if tag == 0x61 {
+    if tag == PUSH_GS {
         return saved + 1;
     }
-    if tag != 0x60 {
+    if tag != POP_GS {
         return saved;
     }
     if saved == 0 {
@@ -90,7 +94,7 @@ fn enter(o: Operator, inside: Inside, depth: usize, sum: u64) -> Turn
     ensures { λ r. ⌜ ((ms : List Motif) (w : scope.Inside) (m : Motif) (name attrs : List ℕ) → Follows ms inside w → depth ≡ m .depth → SumsAs sum (unfolded ms name)
         → Turns ms r (onCall (operatorAs o attrs) name w (scope.Held.is m))) ⌝ }
 {
-    if 32 <= depth {
+    if NESTING_MOST <= depth {
         return Turn::Stop(Judged::Faulty(22, o.at));
     }
     let picture = inside.picture;
@@ -204,7 +208,7 @@ fn advance(
         Read::No(code, place) => Turn::Stop(Judged::Faulty(code, place)),
         Read::Ended => Turn::Stop(ended(s.len(), inside)),
         Read::Operator(o) => {
-            if o.tag == 0x5e {
+            if o.tag == EXEC_STREAM {
                 return call(s, o, attrs, inside, job, rows, sums, held);
             }
             deed(s, high, o, attrs, inside)

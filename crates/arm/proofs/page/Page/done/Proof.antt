@@ -1,6 +1,7 @@
--- `Page::done` meets its contract.
+-- `done`: PushGS and PopGS by their own answers, which are not refused where no more than 24 are saved then.
 -- Assumes nothing.
 use Rattle.arm.proofs.Stacks.{stack-length}
+use Rattle.arm.proofs.Saves.{pushed-done, popped-done}
 use Rattle.scope.specs.Arm.{risen}
 use native.Mathlib.Omega.{arith}
 use borrow.Author.Needs.{needs}
@@ -13,11 +14,17 @@ enum-told c = search needs
 push-requires : tie.Need-push-requires
 push-requires c κs = search needs
 
+or-else-requires : tie.Need-or-else-requires
+or-else-requires c κs = search needs
+
 enum-told-2 : tie.Need-enum-told-2
 enum-told-2 c = search needs
 
 pop-requires : tie.Need-pop-requires
 pop-requires c κs = search needs
+
+or-else-requires-2 : tie.Need-or-else-requires-2
+or-else-requires-2 c κs = search needs
 
 enum-known-effect : tie.Need-enum-known-effect
 enum-known-effect c = search needs
@@ -27,11 +34,12 @@ put-requires c κs = search needs
 
 returns : tie.Need-returns
 returns c =
-    let p = c .before .before .before .args .self in
-    rw (c .before .enum-told .given .1) (λ h. c .push .ensures (unfold risen in let l = stack-length (p .depth) (p .saved) in omega arith))
+    let p = c .before .before .before .before .args .self in
+    rw (c .before .before .enum-told .given .1, c .or-else .ensures)
+    (λ h. pushed-done p (c .before .push .result) (c .before .push .ensures) (unfold risen in let l = stack-length (p .depth) (p .saved) in omega arith))
 
 returns-2 : tie.Need-returns-2
-returns-2 c = rw (c .before .enum-told2 .given .1) (λ h. c .pop .ensures)
+returns-2 c = rw (c .before .before .enum-told2 .given .1, c .or-else2 .ensures) (λ h. popped-done (c .before .before .before .before .args .self) (c .before .pop .result) (c .before .pop .ensures))
 
 returns-3 : tie.Need-returns-3
 returns-3 c = rw (c .before .before .effect .given .1) (λ h. c .put .ensures)
@@ -42,8 +50,10 @@ done-spec =
     (tie.spec
     enum-told
     push-requires
+    or-else-requires
     enum-told-2
     pop-requires
+    or-else-requires-2
     enum-known-effect
     put-requires
     returns

@@ -12,24 +12,10 @@ use Rattle.arm.specs.Holds.{PageHolds}
 use Rattle.arm.specs.Views.{pageAs}
 use Rattle.arm.specs.declared.page.Page.{Page}
 use Rattle.arm.specs.declared.page.Passed.the-variants.{To}
-use Rattle.arm.proofs.Stacks.{depth-saved}
-use Rattle.arm.proofs.Ways.{within-done}
+use Rattle.arm.proofs.Saves.{leaves, alone-out, pushed-leaves, popped-leaves}
 use borrow.Author.Needs.{needs}
 use Rattle.arm.proofs.page.Page.past.Statement.{statement}
 use Rattle.arm.proofs.page.Page.past.Tie as tie
-
--- the page after an effect by which no more than 24 are saved
-leaves : {tag : ℕ} {p r : Page} {q : scope.Page} (e : Effect) → PageHolds p q → Alone tag q (done e q) → risen e q 0 ≤ 24 → pageAs r ≡ done e (pageAs p) → Leaves tag q (To r)
-leaves {q = q} e h a k f = leaves-to a (record { same = f ∙ ap (done e) (h .same); few = let w = within-done e q 24 0 (let f = h .few in omega arith) in omega arith })
-
--- what is known of one of them, by its tag
-alone-out : {tag : ℕ} {q q₁ : scope.Page} → Alone tag q q₁ → (tag ≡ 0x84 → ⊥) → (tag ≡ 0x85 → ⊥) → (tag ≡ 0x86 → ⊥)
-    → (tag ≡ 0x60 → 0 < length (q .saved) → ⊥) → (tag ≡ 0x61 → length (q .saved) < 24 → ⊥) → ⊥
-alone-out alone-close a b c d e = a refl
-alone-out alone-new a b c d e = b refl
-alone-out alone-paint a b c d e = c refl
-alone-out (alone-push k) a b c d e = e refl k
-alone-out (alone-pop k) a b c d e = d refl k
 
 returns : tie.Need-returns
 unfolding done risen
@@ -46,45 +32,22 @@ returns-3 : tie.Need-returns-3
 unfolding done risen
 returns-3 c q h = rw (c .if3 .taken) (leaves (put kept kept) h (alone-paint) (omega arith) (refl))
 
-returns-4 : tie.Need-returns-4
-returns-4 c q h =
-    let t = c .before .if4 .taken in
-    let d = depth-saved (c .before .before .before .before .before .args .self) q (h .same) in
-    leaves-no
-    (λ q₁ x. alone-out x (λ e. omega (arith, e, t)) (λ e. omega (arith, e, t)) (λ e. omega (arith, e, t)) (λ e k. omega (arith, k, d, c .if5 .taken)) (λ e k. omega (arith, e, t)))
-
 pop-requires : tie.Need-pop-requires
 pop-requires c κs = search needs
 
-returns-5 : tie.Need-returns-5
-unfolding risen
-returns-5 c q h =
-    let a = c .before .before .before .before .before .before .args in
-    let d = depth-saved (a .self) q (h .same) in
-    rw (c .before .before .if4 .taken) (leaves pop h (alone-pop (omega (arith, c .before .if5 .left))) (omega arith) (c .pop .ensures))
-
-returns-6 : tie.Need-returns-6
-returns-6 c q h =
-    let t = c .before .if6 .taken in
-    let d = depth-saved (c .before .before .before .before .before .before .args .self) q (h .same) in
-    leaves-no
-    (λ q₁ x. alone-out x (λ e. omega (arith, e, t)) (λ e. omega (arith, e, t)) (λ e. omega (arith, e, t)) (λ e k. omega (arith, e, t)) (λ e k. omega (arith, k, d, c .if7 .taken)))
+returns-4 : tie.Need-returns-4
+returns-4 c q h = rw (c .before .if4 .taken) (popped-leaves (c .pop .result) h (c .pop .ensures))
 
 push-requires : tie.Need-push-requires
 push-requires c κs = search needs
 
-returns-7 : tie.Need-returns-7
-unfolding risen
-returns-7 c q h =
-    let a = c .before .before .before .before .before .before .before .args in
-    let d = depth-saved (a .self) q (h .same) in
-    let k : a .self .depth < 24 = omega (arith, c .before .if7 .left) in
-    rw (c .before .before .if6 .taken) (leaves push h (alone-push (omega arith)) (omega arith) (c .push .ensures k))
+returns-5 : tie.Need-returns-5
+returns-5 c q h = rw (c .before .if5 .taken) (pushed-leaves (c .push .result) h (c .push .ensures))
 
-returns-8 : tie.Need-returns-8
-returns-8 c q h =
+returns-6 : tie.Need-returns-6
+returns-6 c q h =
     leaves-no
-    (λ q₁ x. alone-out x (c .before .before .before .before .if1 .left) (c .before .before .before .if2 .left) (c .before .before .if3 .left) (λ e k. c .before .if4 .left e) (λ e k. c .if6 .left e))
+    (λ q₁ x. alone-out x (c .before .before .before .before .if1 .left) (c .before .before .before .if2 .left) (c .before .before .if3 .left) (λ e k. c .before .if4 .left e) (λ e k. c .if5 .left e))
 
 pub past-spec : {M : Type 1} → statement M
 past-spec =
@@ -94,10 +57,8 @@ past-spec =
     put-requires
     returns-2
     returns-3
-    returns-4
     pop-requires
-    returns-5
-    returns-6
+    returns-4
     push-requires
-    returns-7
-    returns-8)
+    returns-5
+    returns-6)

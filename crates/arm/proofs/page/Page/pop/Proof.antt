@@ -1,4 +1,4 @@
--- `Page::pop` meets its contract.
+-- `pop`: the lowest two bits are the last state saved; with none it is refused.
 -- Assumes nothing.
 use Prim.Native.Nat.{suc, _-_}
 use Rattle.arm.specs.Views.{stack}
@@ -10,8 +10,7 @@ use Rattle.arm.proofs.page.Page.pop.Statement.{statement}
 use Rattle.arm.proofs.page.Page.pop.Tie as tie
 
 returns : tie.Need-returns
-unfolding done stack
-returns c = rw (c .if1 .taken) refl
+returns c = c .if1 .taken
 
 sub-t9 : tie.Need-sub-t9
 sub-t9 c = search needs
@@ -22,7 +21,7 @@ returns-2 c =
     let p = c .before .args .self in
     let e : p .depth ≡ suc (p .depth - 1) = omega (arith, c .if1 .left) in
     let f : suc (p .depth - 1) - 1 ≡ p .depth - 1 = omega arith in
-    rw (e, f) refl
+    (omega (arith, c .if1 .left), rw (e, f) refl)
 
 pub pop-spec : {M : Type 1} → statement M
 pop-spec = tie.close (tie.spec returns sub-t9 returns-2)

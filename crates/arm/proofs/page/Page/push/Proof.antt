@@ -1,5 +1,6 @@
--- `Page::push` meets its contract.
+-- `push`: below 24 the new state is the lowest two bits of the number; with 24 there is no room for them.
 -- Assumes nothing.
+use Prim.Native.Nat.{_<_}
 use Rattle.arm.proofs.Ways.{page-eq}
 use Rattle.arm.proofs.Stacks.{stack-push, bits-small}
 use Rattle.scope.specs.Arm.{done}
@@ -10,7 +11,7 @@ use Rattle.arm.proofs.page.Page.push.Statement.{statement}
 use Rattle.arm.proofs.page.Page.push.Tie as tie
 
 returns : tie.Need-returns
-returns c h = absurd (let t = c .if1 .taken in omega arith)
+returns c = c .if1 .taken
 
 add-t5 : tie.Need-add-t5
 add-t5 c = search needs
@@ -26,9 +27,10 @@ add-t9 c = omega (arith, c .bits .ensures, bits-small (c .before .before .args .
 
 returns-2 : tie.Need-returns-2
 unfolding done
-returns-2 c h =
+returns-2 c =
     let p = c .before .before .args .self in
-    page-eq refl refl (rw (c .bits .ensures) (stack-push (p .depth) (p .saved) (p .cursor) (p .gray) h))
+    let h : p .depth < 24 = omega (arith, c .before .if1 .left) in
+    (h, page-eq refl refl (rw (c .bits .ensures) (stack-push (p .depth) (p .saved) (p .cursor) (p .gray) h)))
 
 pub push-spec : {M : Type 1} → statement M
 push-spec = tie.close (tie.spec returns add-t5 mul-t7 bits-requires add-t9 returns-2)
