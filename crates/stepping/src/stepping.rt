@@ -1,5 +1,6 @@
 // A job, operator by operator.
 ghost use mathlib.Core.Path.{_≡_};
+ghost use mathlib.Core.Bool.{true};
 ghost use mathlib.Core.List.{List};
 ghost use Prim.Native.Nat.{ℕ, _+_, _*_, _≤_, _<_};
 ghost use lib.ListN.{length};
@@ -161,6 +162,13 @@ fn perform(
     }
 }
 
+// The job is read to its end.
+fn is_over(len: usize, st: State) -> bool
+    ensures { λ r. ⌜ (r ≡ true → len ≤ st .at) ⌝ }
+{
+    len <= st.at
+}
+
 // One operator of the job, or its end.
 fn advance(
     job: &[u8],
@@ -183,7 +191,7 @@ fn advance(
         (jobStep every (record { high = high; gray = gray }) (now (job .entry)) (length list₀) d)) ⌝ }
 {
     let place = st.place;
-    if job.len() <= st.at {
+    if is_over(job.len(), st) {
         return Step::Stop(stop(st, end_code(place), job.len(), OUTER));
     }
     let context = Context {

@@ -43,6 +43,9 @@ read-is c r e list₀ l d z y h =
     (c .before .before .before .phase-of .ensures (d .place) (a .job .now) (l .rows) (l .sums) (l .work) (h .place))
     (c .before .before .opened-in .ensures (d .place) (a .job .now) (l .rows) (l .sums) (l .work) (h .place))) ∙ sym (c .operator-at .ensures .1 .0 z) ∙ ap (λ x. readAs x (c .operator-at .last .1 .1 .1 .0)) e
 
+is-over-requires : tie.Need-is-over-requires
+is-over-requires c κs = search needs
+
 end-code-requires : tie.Need-end-code-requires
 end-code-requires c κs = search needs
 
@@ -60,7 +63,7 @@ returns c =
           tt,
           λ d list₀ l z h.
               let set : Setting = record { high = a .high; gray = a .gray } in
-              let q = read-end (contextOf every (a .high) (d .place)) (a .job .now) (d .at) (omega (arith, c .before .before .if1 .taken, h .at)) in
+              let q = read-end (contextOf every (a .high) (d .place)) (a .job .now) (d .at) (omega (arith, c .before .before .before .is-over .ensures (c .before .before .if1 .taken), h .at)) in
               stopped (c .stop .result) (jobStep every set (a .job .now) (length list₀) d) (endCode (d .place)) (length (a .job .now)) outer h (step-ended set (a .job .now) (length list₀) d q)
               (c .stop .ensures d (omega (arith, st .pre)) (omega (arith, st .pre)) (h .records) (h .performed)
               ∙ ap (λ k. told (refusedAt k (length (a .job .now)) outer d)) (c .before .end-code .ensures (d .place) _ _ _ _ (h .place))),
@@ -173,6 +176,7 @@ pub advance-spec : {M : Type 1} → statement M
 advance-spec =
     tie.close
     (tie.spec
+    is-over-requires
     end-code-requires
     stop-requires
     returns
