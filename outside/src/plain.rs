@@ -301,8 +301,8 @@ enum Rule {
     Enumeration(u32, u32),
     /// One ubyte 0..=12 or 14..=16.
     MediaSize,
-    /// One ubyte or uint16, at least this.
-    Number(u32),
+    /// One ubyte or uint16 from..=to.
+    Number(u32, u32),
     /// Two uint16, both at least 1.
     Sizes,
     /// Two ubyte, uint16 or sint16.
@@ -323,28 +323,28 @@ fn rule(tag: u8, number: u16) -> Option<Rule> {
         (0x43, 40) => Enumeration(0, 3),
         (0x43, 37) => MediaSize,
         (0x43, 38) => Enumeration(0, 6),
-        (0x44, 49) => Number(1),
+        (0x44, 49) => Number(1, 1),
         (0x47, 129) => Array(0, ARRAY_MAX),
         (0x48, 136) => Enumeration(0, 0),
         (0x48, 130) => Enumeration(0, 1),
         (0x5b | 0x5e, 139) => Array(1, 16),
-        (0x5c, 140) => Number(1),
+        (0x5c, 140) => Number(1, 0xffff),
         (0x63 | 0x79, 11) => Array(3, 3),
         (0x63 | 0x79, 9) => Enumeration(0, 255),
         (0x63, 4) | (0x79, 5) => Enumeration(0, 0),
         (0x6a, 3) => Enumeration(1, 2),
         (0x6b | 0x6c, 76) => Point,
-        (0x7a, 75) => Number(0),
+        (0x7a, 75) => Number(0, 0xffff),
         (0x9b | 0x9d, 69) => Point,
-        (0x9b | 0x9d, 77) => Number(1),
+        (0x9b | 0x9d, 77) => Number(1, 0xffff),
         (0x9b | 0x9d, 80) => Enumeration(0, 3),
         (0xa0, 66) => Box,
         (0xb0, 100) => Enumeration(0, 0),
         (0xb0, 98) => Enumeration(0, 2),
-        (0xb0, 108 | 107) => Number(1),
+        (0xb0, 108 | 107) => Number(1, 0xffff),
         (0xb0, 103) => Sizes,
-        (0xb1, 109) => Number(0),
-        (0xb1, 99) => Number(1),
+        (0xb1, 109) => Number(0, 0xffff),
+        (0xb1, 99) => Number(1, 0xffff),
         (0xb1, 101) => Enumeration(0, 0),
         _ => return None,
     })
@@ -354,7 +354,7 @@ impl Rule {
     fn takes_type(self, kind: u8) -> bool {
         match self {
             Rule::Enumeration(..) | Rule::MediaSize => kind == 0xc0,
-            Rule::Number(_) => matches!(kind, 0xc0 | 0xc1),
+            Rule::Number(..) => matches!(kind, 0xc0 | 0xc1),
             Rule::Sizes => kind == 0xd1,
             Rule::Point => matches!(kind, 0xd0 | 0xd1 | 0xd3),
             Rule::Box => matches!(kind, 0xe0 | 0xe1 | 0xe3),
@@ -364,9 +364,8 @@ impl Rule {
 
     fn takes_value(self, reader: &Reader, a: &Attribute) -> bool {
         match self {
-            Rule::Enumeration(from, to) => (from..=to).contains(&reader.element(a, 0)),
+            Rule::Enumeration(from, to) | Rule::Number(from, to) => (from..=to).contains(&reader.element(a, 0)),
             Rule::MediaSize => matches!(reader.element(a, 0), 0..=12 | 14..=16),
-            Rule::Number(least) => reader.element(a, 0) >= least,
             Rule::Sizes => reader.element(a, 0) >= 1 && reader.element(a, 1) >= 1,
             Rule::Point | Rule::Box => true,
             Rule::Array(from, to) => (from..=to).contains(&a.count),

@@ -153,7 +153,7 @@ fn part_of_image(m: &mut Maker, rule: Broken) -> (Vec<Node>, Op) {
 
 /// The shape of an attribute of an operator.
 fn shape_of(tag: u8, number: u16) -> Shape {
-    shapes_of(tag).find(|s| s.0 == number).map_or(Shape::N(0), |s| s.1)
+    shapes_of(tag).find(|s| s.0 == number).map_or(Shape::N(0, 0xffff), |s| s.1)
 }
 
 fn good_pair(rng: &mut Rng, tag: u8, number: u16) -> Pair {

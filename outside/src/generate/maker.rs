@@ -50,7 +50,7 @@ impl Maker {
     }
 
     pub(super) fn pair(&mut self, tag: u8, n: u16) -> Pair {
-        let shape = shapes_of(tag).find(|s| s.0 == n).map_or(Shape::N(0), |s| s.1);
+        let shape = shapes_of(tag).find(|s| s.0 == n).map_or(Shape::N(0, 0xffff), |s| s.1);
         Pair { value: good_value(&mut self.rng, shape), number: n, wide: self.rng.one_in(6) }
     }
 

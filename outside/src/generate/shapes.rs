@@ -8,8 +8,8 @@ use crate::text::Value;
 pub enum Shape {
     /// ubyte in one of two ranges.
     E(u8, u8, u8, u8),
-    /// ubyte or uint16, at least.
-    N(u32),
+    /// ubyte or uint16 from..=to.
+    N(u32, u32),
     /// uint16 pair, both at least 1.
     Sizes,
     /// Two or four ubyte, uint16 or sint16.
@@ -37,12 +37,12 @@ pub const SHAPES: [(u8, u16, Shape, Need); 38] = [
     (0x43, 40, E(0, 3, 0, 3), Must),
     (0x43, 37, E(0, 12, 14, 16), Must),
     (0x43, 38, E(0, 6, 0, 6), May),
-    (0x44, 49, N(1), May),
+    (0x44, 49, N(1, 1), May),
     (0x47, 129, A(0, 1024), May),
     (0x48, 136, E(0, 0, 0, 0), Must),
     (0x48, 130, E(0, 1, 0, 1), Must),
     (0x5b, 139, A(1, 16), Must),
-    (0x5c, 140, N(1), Must),
+    (0x5c, 140, N(1, 0xffff), Must),
     (0x5e, 139, A(1, 16), Must),
     (0x63, 11, A(3, 3), Choice),
     (0x63, 9, E(0, 255, 0, 255), Choice),
@@ -53,21 +53,21 @@ pub const SHAPES: [(u8, u16, Shape, Need); 38] = [
     (0x79, 11, A(3, 3), Choice),
     (0x79, 9, E(0, 255, 0, 255), Choice),
     (0x79, 5, E(0, 0, 0, 0), Choice),
-    (0x7a, 75, N(0), Must),
+    (0x7a, 75, N(0, 0xffff), Must),
     (0x9b, 69, Several(0xd0), Choice),
-    (0x9b, 77, N(1), Choice),
+    (0x9b, 77, N(1, 0xffff), Choice),
     (0x9b, 80, E(0, 3, 0, 3), Choice),
     (0x9d, 69, Several(0xd0), Choice),
-    (0x9d, 77, N(1), Choice),
+    (0x9d, 77, N(1, 0xffff), Choice),
     (0x9d, 80, E(0, 3, 0, 3), Choice),
     (0xa0, 66, Several(0xe0), Must),
     (0xb0, 100, E(0, 0, 0, 0), Must),
     (0xb0, 98, E(0, 2, 0, 2), Must),
-    (0xb0, 108, N(1), Must),
-    (0xb0, 107, N(1), Must),
+    (0xb0, 108, N(1, 0xffff), Must),
+    (0xb0, 107, N(1, 0xffff), Must),
     (0xb0, 103, Sizes, Must),
-    (0xb1, 109, N(0), Must),
-    (0xb1, 99, N(1), Must),
+    (0xb1, 109, N(0, 0xffff), Must),
+    (0xb1, 99, N(1, 0xffff), Must),
     (0xb1, 101, E(0, 0, 0, 0), Must),
 ];
 
@@ -103,14 +103,10 @@ pub(super) fn good_value(rng: &mut Rng, shape: Shape) -> Value {
             };
             number(0xc0, n.into())
         }
-        N(least) => {
-            if rng.one_in(2) {
-                let n = rng.pick(&[least, 1, 2, 5, 255]).max(least);
-                number(0xc0, n)
-            } else {
-                let n = rng.pick(&[least, 1, 256, 300, 65535]).max(least);
-                number(0xc1, n)
-            }
+        N(from, to) => {
+            let (kind, edges) = if rng.one_in(2) { (0xc0, [1, 2, 5, 255]) } else { (0xc1, [1, 256, 300, 65535]) };
+            let n = if rng.one_in(5) { from } else { rng.pick(&edges) };
+            number(kind, n.clamp(from, to))
         }
         Sizes => {
             let numbers = vec![rng.pick(&[1, 256, 600, 65535]), rng.pick(&[1, 256, 600, 65535])];
@@ -137,7 +133,7 @@ pub(super) fn good_value(rng: &mut Rng, shape: Shape) -> Value {
 pub(super) fn takes_type(shape: Shape, kind: u8) -> bool {
     match shape {
         E(..) => kind == 0xc0,
-        N(_) => kind == 0xc0 || kind == 0xc1,
+        N(..) => kind == 0xc0 || kind == 0xc1,
         Sizes => kind == 0xd1,
         Several(family) => [family, family + 1, family + 3].contains(&kind),
         A(..) => kind == 0xc8,
@@ -164,7 +160,7 @@ pub(super) fn any_type(rng: &mut Rng) -> u8 {
 pub(super) fn bad_type(rng: &mut Rng, shape: Shape) -> Value {
     // Half of them of the right family, where a mistake is easiest.
     let family = match shape {
-        E(..) | N(_) => 0xc0,
+        E(..) | N(..) => 0xc0,
         Sizes => 0xd0,
         Several(family) => family,
         A(..) => 0xc8,
@@ -180,7 +176,7 @@ pub(super) fn bad_type(rng: &mut Rng, shape: Shape) -> Value {
 /// A value of a right type but out of range, if there is any.
 pub(super) fn bad_range(rng: &mut Rng, shape: Shape) -> Option<Value> {
     Some(match shape {
-        E(0, 255, ..) | N(0) | Several(_) | A(0, _) => return None,
+        E(0, 255, ..) | N(0, 0xffff) | Several(_) | A(0, _) => return None,
         E(a, b, c, d) => loop {
             let n = if rng.one_in(2) {
                 rng.pick(&[b.wrapping_add(1), b.wrapping_add(1), d.wrapping_add(1), a.wrapping_sub(1)])
@@ -191,7 +187,13 @@ pub(super) fn bad_range(rng: &mut Rng, shape: Shape) -> Option<Value> {
                 break number(0xc0, n.into());
             }
         },
-        N(_) => number(rng.pick(&[0xc0, 0xc1]), 0),
+        N(from, to) => loop {
+            let kind = rng.pick(&[0xc0, 0xc1]);
+            let n = if to < 0xff { rng.pick(&[0, to + 1, 128, 255, 256, 65535]) } else { 0 };
+            if !(from..=to).contains(&n) && (kind == 0xc1 || n < 256) {
+                break number(kind, n);
+            }
+        },
         Sizes => {
             let numbers = rng.pick(&[[0, 1], [1, 0], [0, 0], [0, 600]]).to_vec();
             Value { kind: 0xd1, numbers, wide: false }
