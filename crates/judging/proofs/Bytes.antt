@@ -43,7 +43,7 @@ either t k b h f e = go (eqb t k) refl e
 taken-byte : (k : Takes) (t : ℕ) → typeTaken k t ≡ true → t < 256
 unfolding typeTaken
 taken-byte (E low high) t e = same t 0xc0 (lit< tt) e
-taken-byte (N low) t e = either t 0xc0 (eqb t 0xc1) (lit< tt) (same t 0xc1 (lit< tt)) e
+taken-byte (N low high) t e = either t 0xc0 (eqb t 0xc1) (lit< tt) (same t 0xc1 (lit< tt)) e
 taken-byte P t e = either t 0xd0 (eqb t 0xd1 || eqb t 0xd3) (lit< tt) (either t 0xd1 (eqb t 0xd3) (lit< tt) (same t 0xd3 (lit< tt))) e
 taken-byte B t e = either t 0xe0 (eqb t 0xe1 || eqb t 0xe3) (lit< tt) (either t 0xe1 (eqb t 0xe3) (lit< tt) (same t 0xe3 (lit< tt))) e
 taken-byte (A low high) t e = same t 0xc8 (lit< tt) e

@@ -45,7 +45,7 @@ isRuled scope.Ruled.none = false
 -- values as numbers, and back
 kindIn : Takes → ℕ
 kindIn (scope.E l h) = 0
-kindIn (scope.N l) = 1
+kindIn (scope.N l h) = 1
 kindIn scope.P = 2
 kindIn scope.B = 3
 kindIn (scope.A l h) = 4
@@ -54,7 +54,7 @@ kindIn scope.M = 6
 
 lowIn : Takes → ℕ
 lowIn (scope.E l h) = l
-lowIn (scope.N l) = l
+lowIn (scope.N l h) = l
 lowIn scope.P = 0
 lowIn scope.B = 0
 lowIn (scope.A l h) = l
@@ -63,7 +63,7 @@ lowIn scope.M = 0
 
 highIn : Takes → ℕ
 highIn (scope.E l h) = h
-highIn (scope.N l) = 0
+highIn (scope.N l h) = h
 highIn scope.P = 0
 highIn scope.B = 0
 highIn (scope.A l h) = h
@@ -73,13 +73,13 @@ highIn scope.M = 0
 back : ℕ → ℕ → ℕ → Takes
 back k l h =
     pick (eqb k 0) (scope.E l h)
-    (pick (eqb k 1) (scope.N l)
+    (pick (eqb k 1) (scope.N l h)
     (pick (eqb k 2) scope.P (pick (eqb k 3) scope.B (pick (eqb k 4) (scope.A l h) (pick (eqb k 5) (scope.D l) scope.M)))))
 
 there-and-back : (t : Takes) → back (kindIn t) (lowIn t) (highIn t) ≡ t
 unfolding kindIn lowIn highIn back
 there-and-back (scope.E l h) = refl
-there-and-back (scope.N l) = refl
+there-and-back (scope.N l h) = refl
 there-and-back scope.P = refl
 there-and-back scope.B = refl
 there-and-back (scope.A l h) = refl

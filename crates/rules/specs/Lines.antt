@@ -89,7 +89,7 @@ ruleOf n = orNothing n (scope.ruleIn (rulesIn scope.table) n)
 -- the values that a kind with its lowest and highest stands for
 abbrev pub takesAs : Kind → ℕ → ℕ → scope.Takes
 takesAs E l h = scope.E l h
-takesAs N l h = scope.N l
+takesAs N l h = scope.N l h
 takesAs P l h = scope.P
 takesAs B l h = scope.B
 takesAs A l h = scope.A l h

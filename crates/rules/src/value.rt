@@ -108,7 +108,7 @@ pub fn in_range(s: &[u8], high: bool, kind: Kind, low: usize, top: usize, a: Att
 {
     match kind {
         Kind::E => within(low, top, first_number(s, high, a)),
-        Kind::N => low <= first_number(s, high, a),
+        Kind::N => within(low, top, first_number(s, high, a)),
         Kind::P => true,
         Kind::B => true,
         Kind::A => within(low, top, a.count),

@@ -27,6 +27,7 @@ use Rattle.scope.proofs.Parts.{all, times, op, H, S, E, J, P, O, Z, CUR
 use Rattle.scope.proofs.JobsRead.{given, read}
 use Rattle.scope.proofs.JobsJudged.{judged}
 use Rattle.scope.proofs.Padded.{padded}
+use Rattle.scope.proofs.Copies.{copies}
 
 -- the table
 abbrev tables : List (List Tried)
@@ -35,6 +36,7 @@ tables =
     ∷ read
     ∷ judged
     ∷ padded
+    ∷ copies
     ∷ []
 
 joined : List (List Tried) → List Tried

@@ -20,4 +20,5 @@ pub mod Parts
 pub mod JobsRead
 pub mod JobsJudged
 pub mod Padded
+pub mod Copies
 pub mod Jobs

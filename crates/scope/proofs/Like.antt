@@ -262,7 +262,7 @@ module _ (s t : List ℕ) (p q : ℕ) (hp : p ≤ length s) (hq : q ≤ length t
     range-like : (k : Takes) {a b : Attribute} → LikeAttr a b → inRange high s k a ≡ inRange high t k b
     unfolding inRange
     range-like (E low up) h = ap (between low up) (first-like h)
-    range-like (N low) h = ap (leb low) (first-like h)
+    range-like (N low up) h = ap (between low up) (first-like h)
     range-like P h = refl
     range-like B h = refl
     range-like (A low up) h = ap (between low up) (h .count)

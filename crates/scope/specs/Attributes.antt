@@ -26,7 +26,7 @@ secondOf high s a = number high 2 s (a .first + 2)
 -- the types taken
 unfoldable pub typeTaken : Takes → ℕ → Bool
 typeTaken (E low high) t = eqb t 0xc0
-typeTaken (N low) t = eqb t 0xc0 || eqb t 0xc1
+typeTaken (N low high) t = eqb t 0xc0 || eqb t 0xc1
 typeTaken P t = eqb t 0xd0 || (eqb t 0xd1 || eqb t 0xd3)
 typeTaken B t = eqb t 0xe0 || (eqb t 0xe1 || eqb t 0xe3)
 typeTaken (A low high) t = eqb t 0xc8
@@ -36,7 +36,7 @@ typeTaken M t = eqb t 0xc0
 -- the values taken, of a type that is taken
 unfoldable pub inRange : Bool → List ℕ → Takes → Attribute → Bool
 inRange order s (E low high) a = between low high (firstOf order s a)
-inRange order s (N low) a = leb low (firstOf order s a)
+inRange order s (N low high) a = between low high (firstOf order s a)
 inRange order s P a = true
 inRange order s B a = true
 inRange order s (A low high) a = between low high (a .count)

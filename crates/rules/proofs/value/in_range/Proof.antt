@@ -26,6 +26,9 @@ enum-told-2 c = search needs
 first-number-requires-2 : tie.Need-first-number-requires-2
 first-number-requires-2 c κs = search needs
 
+within-requires-2 : tie.Need-within-requires-2
+within-requires-2 c κs = search needs
+
 enum-told-3 : tie.Need-enum-told-3
 enum-told-3 c = search needs
 
@@ -35,8 +38,8 @@ enum-told-4 c = search needs
 enum-told-5 : tie.Need-enum-told-5
 enum-told-5 c = search needs
 
-within-requires-2 : tie.Need-within-requires-2
-within-requires-2 c κs = search needs
+within-requires-3 : tie.Need-within-requires-3
+within-requires-3 c κs = search needs
 
 enum-told-6 : tie.Need-enum-told-6
 enum-told-6 c = search needs
@@ -59,7 +62,7 @@ returns c = rw (c .before .before .enum-told .given .1, ← c .before .first-num
 
 returns-2 : tie.Need-returns-2
 unfolding inRange
-returns-2 c = rw (c .before .enum-told2 .given .1, c .first-number2 .ensures)
+returns-2 c = rw (c .before .before .enum-told2 .given .1, ← c .before .first-number2 .ensures) (c .within2 .ensures)
 
 returns-3 : tie.Need-returns-3
 unfolding inRange
@@ -71,7 +74,7 @@ returns-4 c = rw (c .enum-told4 .given .1)
 
 returns-5 : tie.Need-returns-5
 unfolding inRange
-returns-5 c = rw (c .before .enum-told5 .given .1) (c .within2 .ensures)
+returns-5 c = rw (c .before .enum-told5 .given .1) (c .within3 .ensures)
 
 returns-6 : tie.Need-returns-6
 unfolding inRange
@@ -90,10 +93,11 @@ in-range-spec =
     within-requires
     enum-told-2
     first-number-requires-2
+    within-requires-2
     enum-told-3
     enum-told-4
     enum-told-5
-    within-requires-2
+    within-requires-3
     enum-told-6
     both-from-requires
     enum-told-7
