@@ -1,17 +1,6 @@
 // Says of each file that the arguments name whether it passes, or what is wrong, where, and what to change.
 // With no name it reads standard input. Behind the word `list` it prints the operators of each job too.
-mod blame;
-mod bytes;
-mod codes;
-mod inside;
-mod judged;
-mod listing;
-mod names;
-mod out;
-mod table;
-mod values;
-
-use out::say;
+use text::say;
 
 fn unread() {
     say(b": cannot be read -- look at the name, and whether the file is there\n");
@@ -19,7 +8,7 @@ fn unread() {
 
 // The job that an open file holds.
 fn source(fd: i32, listed: bool) {
-    let mut job = [0u8; 61441];
+    let mut job = rooms::job();
     let n = io::read_full(fd, &mut job);
     if os::errno() != 0 {
         unread();
@@ -29,7 +18,7 @@ fn source(fd: i32, listed: bool) {
         say(b": empty -- save the job again\n");
         return;
     }
-    judged::judged(&job[..n], listed);
+    report::judged(&job[..n], listed);
 }
 
 fn input(listed: bool) {

@@ -2,6 +2,7 @@
 //
 // A job is the lengths of the job, of the work buffer and of the list, four bytes each with the low byte first, then the job.
 mod line;
+mod rooms;
 
 // A checksum with one more byte.
 fn mix(sum: u64, byte: u8) -> u64 {
@@ -42,8 +43,8 @@ fn judge(
 
 // Both buffers are full of a byte that no record and no zeroed work buffer has throughout.
 fn answer(job: &[u8], n: usize, held: usize, room: usize) {
-    let mut work = [238u8; 65536];
-    let mut list = [238u8; 65536];
+    let mut work = rooms::filled();
+    let mut list = rooms::filled();
     let verdict = judge(job, n, &mut work, held, &mut list, room);
     line::print(verdict, checksum(&work), checksum(&list));
 }
@@ -70,7 +71,7 @@ fn next() -> bool {
     let n = number(head[0], head[1], head[2], head[3]);
     let held = number(head[4], head[5], head[6], head[7]);
     let room = number(head[8], head[9], head[10], head[11]);
-    let mut job = [0u8; 131072];
+    let mut job = rooms::job();
     if !fill(&mut job, n) {
         io::write_all(2, b"the job is cut\n");
         return false;

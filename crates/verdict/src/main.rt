@@ -16,9 +16,9 @@ fn print(v: state::Verdict) {
 
 // One byte more than a job may have is room enough to tell a job that is too long.
 fn main() {
-    let mut job = [0u8; 61441];
+    let mut job = rooms::job();
     let n = io::read_full(0, &mut job);
-    let mut work = [0u8; 16384];
+    let mut work = rooms::work();
     let mut list = io::large_buffer();
     print(checker::check(&job[..n], &mut work, &mut list));
 }

@@ -4,10 +4,6 @@ use Prim.Native.Nat.{_-_}
 use borrow.Author.Needs.{needs}
 use Rattle.explain.proofs.files.Statement.{statement}
 use Rattle.explain.proofs.files.Tie as tie
-use Rattle.explain.proofs.files.Reads as reads
-use Rattle.explain.proofs.files.Lts as lts
-use Rattle.explain.proofs.asks_list.Reads as asks-list-reads
-use Rattle.explain.proofs.file.Reads as file-reads
 
 abbrev Inv-loop : tie.InvT-loop
 Inv-loop n listed₀ i₀ listed i = Unit {0}

@@ -1,0 +1,116 @@
+// The operators of a job with their attributes, a line each, indented by session, page and motif definition.
+use crate::records::field;
+use crate::records::field_four;
+use phrase::value;
+use text::number;
+use text::say;
+
+fn indent(depth: u32) {
+    match depth {
+        0 => say(b"  "),
+        1 => say(b"    "),
+        _ => say(b"      "),
+    }
+}
+
+// The depth of an operator's own line.
+fn depth_at(tag: u8, depth: u32) -> u32 {
+    if depth == 0 {
+        return 0;
+    }
+    match tag {
+        0x42 => depth - 1,
+        0x44 => depth - 1,
+        0x5d => depth - 1,
+        _ => depth,
+    }
+}
+
+// The depth of the lines behind it.
+fn depth_behind(tag: u8, depth: u32) -> u32 {
+    if 2 <= depth {
+        return depth;
+    }
+    match tag {
+        0x41 => depth + 1,
+        0x43 => depth + 1,
+        0x5b => depth + 1,
+        _ => depth,
+    }
+}
+
+// StreamName and CommentData are said as text.
+fn is_text(n: u8) -> bool {
+    if n == 139 {
+        return true;
+    }
+    n == 129
+}
+
+// The attribute of record j.
+fn attribute(job: &[u8], list: &[u8], j: usize) {
+    let n = field(list, j, 1);
+    let at = field_four(list, j, 12) as usize;
+    say(b", ");
+    phrase::attribute(n as usize);
+    say(b" ");
+    if is_text(n) {
+        text::part(job, field_four(list, j, 8) as usize, at);
+        return;
+    }
+    value(job, field(list, j, 2), field_four(list, j, 8), at);
+}
+
+// The attributes of the operator of record i, which stand right before it.
+fn attributes(job: &[u8], list: &[u8], i: usize, count: usize) {
+    if i < count {
+        return;
+    }
+    let mut j = i - count;
+    while j < i {
+        attribute(job, list, j);
+        j += 1;
+    }
+}
+
+// The embedded data, if there is any.
+fn data(length: u32) {
+    if length == 0 {
+        return;
+    }
+    say(b", ");
+    number(length);
+    say(b" bytes of data");
+}
+
+// The line of the operator of record i.
+fn operator(job: &[u8], list: &[u8], i: usize, tag: u8) {
+    phrase::operator(tag);
+    say(b" at byte ");
+    number(field_four(list, i, 4));
+    attributes(job, list, i, field(list, i, 2) as usize);
+    data(field_four(list, i, 8));
+    say(b"\n");
+}
+
+// The line of record i, if it is an operator's, and the depth behind it.
+fn line(job: &[u8], list: &[u8], i: usize, depth: u32) -> u32 {
+    if field(list, i, 0) != 2 {
+        return depth;
+    }
+    let tag = field(list, i, 1);
+    let own = depth_at(tag, depth);
+    indent(own);
+    operator(job, list, i, tag);
+    depth_behind(tag, own)
+}
+
+// The lines of so many records.
+pub fn lines(job: &[u8], list: &[u8], records: usize) {
+    let mut depth: u32 = 0;
+    let mut i: usize = 0;
+    while i < records {
+        depth = line(job, list, i, depth);
+        i += 1;
+    }
+}

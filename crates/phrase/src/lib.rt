@@ -1,0 +1,14 @@
+// What stands in a job, in words: operators, attributes, types, values, and what the table takes.
+mod asked;
+mod kinds;
+mod called;
+mod values;
+
+pub use asked::choice;
+pub use asked::needs;
+pub use asked::takes;
+pub use kinds::kind;
+pub use called::attribute;
+pub use called::operator;
+pub use values::after;
+pub use values::value;

@@ -1,0 +1,44 @@
+// A sentence with gaps: a percent sign and a letter stand for a fact.
+use crate::facts::Facts;
+
+// Says the fact of a letter.
+fn fact(s: &[u8], f: Facts, letter: u8) {
+    match letter {
+        b'a' => phrase::attribute(f.number),
+        b'b' => text::byte(f.byte),
+        b'c' => phrase::choice(f.tag),
+        b'n' => phrase::needs(f.tag),
+        b'o' => phrase::operator(f.tag),
+        b't' => phrase::kind(f.byte),
+        b'r' => phrase::takes(f.number),
+        _ => phrase::value(s, f.byte, f.count, f.first),
+    }
+}
+
+// Says a letter of a sentence, behind a percent sign or not; the answer is whether it is such a sign itself.
+fn letter(s: &[u8], f: Facts, gap: bool, b: u8) -> bool {
+    if gap {
+        fact(s, f, b);
+        return false;
+    }
+    if b == b'%' {
+        return true;
+    }
+    let one = [b];
+    text::say(&one);
+    false
+}
+
+// Says line k of a text, its gaps filled with the facts; a value stands in s.
+pub fn sentence(lines: &[u8], k: usize, s: &[u8], f: Facts) {
+    let mut gap = false;
+    let mut at = text::start_of(lines, k);
+    while at < lines.len() {
+        let b = lines[at];
+        if b == 0x0a {
+            return;
+        }
+        gap = letter(s, f, gap, b);
+        at += 1;
+    }
+}

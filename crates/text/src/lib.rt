@@ -1,0 +1,14 @@
+// Words, numbers, lines of a text and names, on standard output or another descriptor.
+mod lines;
+mod named;
+mod out;
+
+pub use lines::keyed;
+pub use lines::line;
+pub use lines::start_of;
+pub use named::name;
+pub use named::part;
+pub use out::byte;
+pub use out::number;
+pub use out::plain;
+pub use out::say;
