@@ -1,6 +1,6 @@
 // The fields of a record of the list; past the end all is 0.
-use phrase::after;
 use number::byte_at;
+use phrase::after;
 
 // Where record i of the list starts.
 fn start_of(i: usize) -> usize {

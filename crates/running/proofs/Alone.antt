@@ -27,8 +27,8 @@ use Rattle.arm.specs.Holds.{PageHolds, Moves, moves-to}
 use Rattle.arm.specs.declared.page.Page as Code
 use Rattle.arm.specs.declared.moved.Moved.the-variants.{To}
 use Rattle.early.specs.Earlier.{Unbroken}
-use Rattle.judging.specs.Judged.{Judgement}
-use Rattle.judging.proofs.Ruling.{plain-judged}
+use Rattle.ruling.specs.Judged.{Judgement}
+use Rattle.ruling.proofs.Ruling.{plain-judged}
 
 -- the operator of a tag alone
 abbrev pub alone : (tag at : ℕ) → Operator

@@ -18,8 +18,8 @@ use Rattle.arm.specs.declared.page.Page as Code
 use Rattle.arm.specs.declared.moved.Moved.the-variants.{To}
 use Rattle.reader.specs.EndPoint.{lineOf, Drawn, drawn-path, drawn-rel}
 use Rattle.early.specs.Earlier.{Unbroken}
-use Rattle.judging.specs.Judged.{Judgement}
-use Rattle.judging.proofs.Ruling.{plain-judged}
+use Rattle.ruling.specs.Judged.{Judgement}
+use Rattle.ruling.proofs.Ruling.{plain-judged}
 
 -- what holds of both tags
 each-line : {tag : ℕ} (P : ℕ → Type 0) → P 0x9b → P 0x9d → Drawn tag → P tag

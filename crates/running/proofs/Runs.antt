@@ -29,14 +29,14 @@ use Rattle.order.specs.declared.picture.Picture.the-variants.{Nothing}
 use Rattle.place.specs.Places.{BusyHolds, drawing-holds, PlaceHolds, inside-holds}
 use Rattle.place.specs.declared.place.Busy.the-variants.{Drawing}
 use Rattle.place.specs.declared.place.Place.the-variants.{Inside}
-use Rattle.judging.specs.Judged.{Judgement}
+use Rattle.ruling.specs.Judged.{Judgement}
 use Rattle.running.specs.Running.{inSession, Reaches, Runs}
 use Rattle.state.specs.Standing.{Lent, Stands}
 use Rattle.running.specs.declared.running.Run.{Run}
 use Rattle.state.specs.declared.state.State.{State}
 use Rattle.running.proofs.Alone.{alone, read-alone, judged-alone, place-alone}
 use Rattle.running.proofs.EndPoint.{judged-line, place-line}
-use Rattle.judging.proofs.Turns.{turned-go, listed-go, steps-read, judged-rules, judged-page, judged-count}
+use Rattle.ruling.proofs.Turns.{turned-go, listed-go, steps-read, judged-rules, judged-page, judged-count}
 
 -- no operator, and one run after another
 pub runs-none : {job list : List ℕ} {st : State} → Runs job list list st st

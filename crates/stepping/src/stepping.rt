@@ -19,14 +19,14 @@ ghost use Rattle.state.specs.Standing.{Stands, Listed, Comes, Steps, Goes, Last
 use arm::moved::Moved;
 use arm::page::Page;
 use early::Early;
-use judging::inner_of;
-use judging::judge;
 use names::limits::JOB_MOST;
 use names::limits::WORK_LEAST;
 use place::Place;
 use reader::Context;
 use reader::Operator;
 use reader::Read;
+use ruling::inner_of;
+use ruling::judge;
 use running::run_on;
 use state::OUTER;
 use state::State;

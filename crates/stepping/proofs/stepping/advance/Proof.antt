@@ -17,7 +17,7 @@ use Rattle.order.specs.Views.{phaseAs}
 use Rattle.reader.specs.Reads.{readAs}
 use Rattle.reader.specs.declared.reading.Read.{Read as CodeRead}
 use Rattle.state.specs.Standing.{Stands, Lent, endCode}
-use Rattle.judging.proofs.Turns.{stopped, context-is, step-no, step-ended, steps-read}
+use Rattle.ruling.proofs.Turns.{stopped, context-is, step-no, step-ended, steps-read}
 use borrow.Author.Needs.{needs}
 use Rattle.stepping.proofs.stepping.advance.Statement.{statement}
 use Rattle.stepping.proofs.stepping.advance.Tie as tie

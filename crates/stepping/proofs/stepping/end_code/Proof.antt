@@ -1,7 +1,7 @@
 -- `end_code` meets its contract.
 -- Assumes nothing.
 use mathlib.Core.Path.{sym, _∙_}
-use Rattle.judging.proofs.Turns.{end-outside, end-inside}
+use Rattle.ruling.proofs.Turns.{end-outside, end-inside}
 use borrow.Author.Needs.{needs}
 use Rattle.stepping.proofs.stepping.end_code.Statement.{statement}
 use Rattle.stepping.proofs.stepping.end_code.Tie as tie

@@ -7,7 +7,7 @@ use native.Mathlib.Omega.{arith}
 use borrow.Author.Tests.{not-true, not-false}
 use Rattle.reader.specs.Reads.{operatorAs}
 use Rattle.items.proofs.Rows.{length-rows}
-use Rattle.judging.proofs.Turns.{listed-no, listed-go, comes-in, comes-bytes}
+use Rattle.ruling.proofs.Turns.{listed-no, listed-go, comes-in, comes-bytes}
 use borrow.Author.Needs.{needs}
 use Rattle.stepping.proofs.stepping.go_on.Statement.{statement}
 use Rattle.stepping.proofs.stepping.go_on.Tie as tie

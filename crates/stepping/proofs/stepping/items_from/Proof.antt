@@ -10,7 +10,7 @@ use Rattle.scope.specs.Judge.{judgedFrom}
 use Rattle.scope.specs.Verdict.{every}
 use Rattle.place.specs.Places.{outside-holds}
 use Rattle.state.specs.Standing.{Stands}
-use Rattle.judging.proofs.Turns.{starts, turned-go, turned-stop}
+use Rattle.ruling.proofs.Turns.{starts, turned-go, turned-stop}
 use borrow.Author.Needs.{needs}
 use Rattle.stepping.proofs.stepping.items_from.Statement.{statement}
 use Rattle.stepping.proofs.stepping.items_from.Tie as tie

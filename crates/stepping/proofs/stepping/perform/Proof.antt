@@ -8,8 +8,8 @@ use Rattle.scope.specs.Reading.{operator}
 use Rattle.scope.specs.Judge.{contextOf, refusedAt, onRead}
 use Rattle.scope.specs.Session.{Setting}
 use Rattle.reader.specs.Reads.{operatorAs}
-use Rattle.judging.specs.Judged.{innerOf}
-use Rattle.judging.proofs.Turns.{read-may, stopped, step-refused, judged-refused, judged-rules, judged-page, judged-count, judged-passes}
+use Rattle.ruling.specs.Judged.{innerOf}
+use Rattle.ruling.proofs.Turns.{read-may, stopped, step-refused, judged-refused, judged-rules, judged-page, judged-count, judged-passes}
 use borrow.Author.Needs.{needs}
 use Rattle.stepping.proofs.stepping.perform.Statement.{statement}
 use Rattle.stepping.proofs.stepping.perform.Tie as tie

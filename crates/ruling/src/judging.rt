@@ -13,7 +13,7 @@ ghost use Rattle.reader.specs.Reads.{operatorAs};
 ghost use Rattle.place.specs.Places.{PlaceHolds};
 ghost use Rattle.early.specs.Earlier.{Earlies, Unbroken};
 ghost use Rattle.early.specs.declared.early.Early.the-variants as early-is;
-ghost use Rattle.judging.specs.Judged.{Judgement, innerOf};
+ghost use Rattle.ruling.specs.Judged.{Judgement, innerOf};
 use arm::moved::Moved;
 use early::Early;
 use place::Place;

@@ -17,7 +17,7 @@ use Rattle.early.specs.Earlier.{Earlies, early-no, Passes}
 use Rattle.early.specs.declared.early.Early.the-variants as Early-is
 use Rattle.arm.specs.Holds.{PageHolds}
 use Rattle.arm.specs.declared.moved.Moved.the-variants as Moved-is
-use Rattle.judging.specs.Judged.{Judgement, judged-to, judged-no}
+use Rattle.ruling.specs.Judged.{Judgement, judged-to, judged-no}
 use Rattle.early.specs.declared.early.Early.{Early}
 use Rattle.place.specs.declared.place.Place.{Place}
 use Rattle.place.specs.declared.place.Busy.{Busy}
@@ -44,7 +44,7 @@ use Rattle.state.specs.declared.verdict.Verdict.{Verdict}
 use Rattle.state.specs.declared.state.State as Code
 use Rattle.state.specs.declared.state.Step.{Step}
 use Rattle.state.specs.declared.state.Step.the-variants.{Go, Stop}
-use Rattle.judging.proofs.Bytes.{bytes-taken}
+use Rattle.ruling.proofs.Bytes.{bytes-taken}
 
 -- what is known of an operator that was read
 module _ (c : Context) (s : List ℕ) (at : ℕ) (o : Operator) (e : operatorAt c s at ≡ Read.operator o) where

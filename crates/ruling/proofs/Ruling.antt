@@ -24,7 +24,7 @@ use Rattle.arm.specs.declared.moved.Moved.the-variants.{No}
 use Rattle.early.specs.Earlier.{Earlies, Unbroken, early-fine, early-call, early-held, early-no}
 use Rattle.early.proofs.Breaking.{unbroken-first}
 use Rattle.early.specs.declared.early.Early.the-variants as Early-is
-use Rattle.judging.specs.Judged.{Judgement, judged-to, judged-no}
+use Rattle.ruling.specs.Judged.{Judgement, judged-to, judged-no}
 
 -- the row of an operator that is no call, and of a call
 module _ (high : Bool) (s : List ℕ) (st : State) (x : Session) (o : Operator) where

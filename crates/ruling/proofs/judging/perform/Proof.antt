@@ -5,10 +5,10 @@ use Rattle.arm.specs.Views.{keeping}
 use Rattle.reader.specs.Reads.{operatorAs}
 use Rattle.scope.specs.Session.{sessionOf}
 use Rattle.act.proofs.Operators.{act-is, plain-keeps}
-use Rattle.judging.proofs.Ruling.{plain-judged}
+use Rattle.ruling.proofs.Ruling.{plain-judged}
 use borrow.Author.Needs.{needs}
-use Rattle.judging.proofs.judging.perform.Statement.{statement}
-use Rattle.judging.proofs.judging.perform.Tie as tie
+use Rattle.ruling.proofs.judging.perform.Statement.{statement}
+use Rattle.ruling.proofs.judging.perform.Tie as tie
 
 page-in-requires : tie.Need-page-in-requires
 page-in-requires c κs = search needs

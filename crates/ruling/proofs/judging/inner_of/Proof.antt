@@ -6,8 +6,8 @@ use Rattle.scope.specs.Judge.{Case}
 use Rattle.early.specs.Earlier.{Earlies, early-no}
 use Rattle.early.specs.declared.early.Early.the-variants.{No}
 use borrow.Author.Needs.{needs}
-use Rattle.judging.proofs.judging.inner_of.Statement.{statement}
-use Rattle.judging.proofs.judging.inner_of.Tie as tie
+use Rattle.ruling.proofs.judging.inner_of.Statement.{statement}
+use Rattle.ruling.proofs.judging.inner_of.Tie as tie
 
 fits : {c : Case} {code inner : ℕ} → Earlies c (No code inner) → inner < 4_294_967_296
 fits (early-no f l) = l

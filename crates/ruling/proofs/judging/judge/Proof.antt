@@ -16,11 +16,11 @@ use Rattle.early.specs.Earlier.{Earlies, Unbroken}
 use Rattle.early.specs.declared.early.Early.{Early}
 use Rattle.early.specs.declared.early.Early.the-variants as Early-is
 use Rattle.early.proofs.early.Early.{the-type}
-use Rattle.judging.specs.Judged.{Judgement, innerOf}
-use Rattle.judging.proofs.Ruling.{early-judged, fine-call, fine-unbroken, held-no-call, held-unbroken}
+use Rattle.ruling.specs.Judged.{Judgement, innerOf}
+use Rattle.ruling.proofs.Ruling.{early-judged, fine-call, fine-unbroken, held-no-call, held-unbroken}
 use borrow.Author.Needs.{needs}
-use Rattle.judging.proofs.judging.judge.Statement.{statement}
-use Rattle.judging.proofs.judging.judge.Tie as tie
+use Rattle.ruling.proofs.judging.judge.Statement.{statement}
+use Rattle.ruling.proofs.judging.judge.Tie as tie
 
 enum-known-early : tie.Need-enum-known-early
 enum-known-early c = search needs

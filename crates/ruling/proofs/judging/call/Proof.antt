@@ -2,10 +2,10 @@
 -- Assumes nothing.
 use mathlib.Core.Path.{refl}
 use Rattle.scope.specs.Session.{sessionOf}
-use Rattle.judging.proofs.Ruling.{call-judged}
+use Rattle.ruling.proofs.Ruling.{call-judged}
 use borrow.Author.Needs.{needs}
-use Rattle.judging.proofs.judging.call.Statement.{statement}
-use Rattle.judging.proofs.judging.call.Tie as tie
+use Rattle.ruling.proofs.judging.call.Statement.{statement}
+use Rattle.ruling.proofs.judging.call.Tie as tie
 
 page-in-requires : tie.Need-page-in-requires
 page-in-requires c κs = search needs
