@@ -1,12 +1,13 @@
--- Things that are not equal, of which a proof by cases lets go.
+-- Things that are not equal, of which a proof by cases lets go; and bytes that are the same, which are equal.
 -- Assumes nothing.
 use Prim.Native.Nat.{ℕ}
 use mathlib.Core.Path.{_≡_, refl, sym, ap, _∙_, subst, subst⁻¹}
 use mathlib.Core.Bool.{Bool, true, false}
-use mathlib.Core.List.{List}
+use mathlib.Core.List.{List, [], _∷_}
 use native.Mathlib.Omega.{arith}
 use borrow.Author.Tests.{eqb-true}
 use lib.Dec.{eqb}
+use Rattle.scope.specs.Choice.{same}
 use Rattle.scope.specs.Motif.{Own, Motif, Held, Judged, valid, faulty}
 use Rattle.scope.specs.Judge.{Refusal}
 
@@ -20,6 +21,18 @@ differs f tag k h n = go (eqb tag k) refl
     go : (b : Bool) → eqb tag k ≡ b → b ≡ false
     go true e = clash-of (sym h ∙ ap f (eqb-true tag k e) ∙ n)
     go false e = refl
+
+-- the same bytes are equal
+pub same-eq : (a b : List ℕ) → same a b ≡ true → a ≡ b
+unfolding same
+same-eq [] [] e = refl
+same-eq [] (y ∷ ys) e = clash-of (sym e)
+same-eq (x ∷ xs) [] e = clash-of (sym e)
+same-eq (x ∷ xs) (y ∷ ys) e = by (eqb x y) refl e (same-eq xs ys)
+  where
+    by : (b : Bool) → eqb x y ≡ b → elim b [ true ↦ same xs ys | false ↦ false ] ≡ true → (same xs ys ≡ true → xs ≡ ys) → x ∷ xs ≡ y ∷ ys
+    by true f g k = λ i. eqb-true x y f i ∷ k g i
+    by false f g k = clash-of (sym g)
 
 -- a refusal is not none
 abbrev pub IsNone : Refusal → Type 0

@@ -32,6 +32,7 @@ use Rattle.scope.proofs.Rows.{Clean, armOf, row-clean, clean-row, comes
 use Rattle.scope.proofs.Codes.{end-state, not-coded, GoodJudged, judged-good, Refuses, not-so, so, broken-coded, stateCode, Laid, laid, layout-none, clean-none, none-clean, GoodHeader, header-good}
 use Rattle.scope.proofs.Stands.{Shaped, shaped, row-shaped, standing, stands}
 use Rattle.scope.proofs.Sound.{knownOf}
+use Rattle.scope.proofs.Runs.{runs-of, ends-state, runs-grow}
 use Rattle.scope.proofs.Gathered.{unrolled, unrolled-step, gathered}
 use Rattle.scope.proofs.Follows.{Steady, steady-start, steady-after, at-state, phase-same, operator-on}
 
@@ -48,24 +49,10 @@ module _ (set : Setting) (s : List ℕ) where
   rowOf st o = rowFor (set .high) s (sessionOf (st .place) .held) o
 
   -- records only grow
-  module _ (n : ℕ) (ih : (st : State) → length s - st .at < n → st .records ≤ lay st .state .records) where
-    grow-refusal : (st : State) (o : Operator) → length s - o .next < n → (f : Refusal)
-        → st .records ≤ onward lay (onRefusal set s st (caseOf (set .high) s st (sessionOf (st .place)) o) f) .state .records
-    unfolding onRefusal after caseOf
-    grow-refusal st o k Refusal.none = let l = ih (next st o) k in omega arith
-    grow-refusal st o k (Refusal.refused code inner) = omega arith
-
-    grow-on : (st : State) → length s - st .at < suc n → {may : ℕ → Bool} {r : Read} → GoodRead (length s) (st .at) may r
-        → st .records ≤ onward lay (onRead layout set s 0 st r) .state .records
-    unfolding onRead onCase
-    grow-on st h (GoodRead.operator {o = o} p q m) = let k : length s - o .next < n = omega arith in grow-refusal st o k _
-    grow-on st h GoodRead.ended = rw (end-state s st (st .place)) (omega arith)
-    grow-on st h (GoodRead.no k) = omega arith
-
-  grows : (n : ℕ) (st : State) → length s - st .at < n → st .records ≤ lay st .state .records
-  unfolding jobStep
-  grows zero st h = absurd (omega arith)
-  grows (suc n) st h = rw (judged-step layout set s 0 st) (grow-on n (grows n) st h (read-good (contextOf layout (set .high) (st .place)) s (st .at)))
+  grows : (st : State) → st .records ≤ lay st .state .records
+  grows st =
+      let c = runs-of layout set s 0 st in
+      subst⁻¹ (λ w. st .records ≤ w .records) (ends-state layout set s 0 (c .ends)) (runs-grow layout set s 0 (c .runs) .1)
 
 -- what an operator's row says of the plain arm, for rows of either shape
 shaped-clean : (o : Bool) {t : Turn} {r : List Stroke} (w : Seen) → Shaped t r → Clean o w → comes (deeds t r) (armOf o w) ≡ true → Clean o (walk r w)
@@ -173,7 +160,7 @@ module _ (set : Setting) (s : List ℕ) (room : ℕ) where
       fits-here : lay set s (next set s st o) .state .records * 16 ≤ room → c .records * 16 ≤ room
       unfolding after caseOf
       fits-here r =
-          let g = grows set s (suc (length s - o .next)) (next set s st o) (omega arith) in
+          let g = grows set s (next set s st o) in
           omega arith
 
       by-state : Laid c → (f : Refusal) → stateCode room c ≡ f → Refuses f → lay set s (next set s st o) .code ≡ 0

@@ -1,255 +1,113 @@
--- Sessions are isolated: from between two sessions on, only the bytes from there, the number performed and the records so far matter.
+-- Sessions are isolated: from outside a session on, only the bytes from there matter; 26 and 28 look at the numbers performed and listed before, and nothing else
+-- does.
 -- Assumes nothing.
-use Prim.Native.Nat.{ℕ, zero, suc, _+_, _-_, _*_, _≤_, _<_}
-use mathlib.Core.Path.{_≡_, refl, sym, ap, _∙_, subst, subst⁻¹}
-use mathlib.Core.Bool.{Bool, true, false, not, _&&_, _||_}
-use mathlib.Core.List.{List, [], _∷_, _++_}
+use Prim.Native.Nat.{ℕ, _-_, _≤_, _<_}
+use mathlib.Core.Path.{_≡_, refl, sym, ap, _∙_, subst, subst₂, subst⁻¹}
+use mathlib.Core.Bool.{Bool, false}
+use mathlib.Core.List.{List}
 use native.Mathlib.Omega.{arith}
-use lib.ListN.{length, take, drop}
-use lib.Dec.{ltb, leb, eqb}
-use Rattle.scope.specs.Choice.{pick}
-use Rattle.scope.specs.Iterate.{Next, go, stop, onward}
-use Rattle.scope.specs.Item.{Attribute}
-use Rattle.scope.specs.Attributes.{has, valueIn, bytesIn}
-use Rattle.scope.specs.Reading.{Operator, Read, operatorAt}
-use Rattle.scope.specs.Arm.{Act, Effect, Space, Seen, idle, push, pop, put, to, kept, gray, rgb, any, needsCursor, needsSpace, effectOf, actOf, step, walk, from, blank, Stroke}
-use Rattle.scope.specs.Motif.{Motif, Held, heldAs, isHeld, unfolded, bytesHeld, Picture, begun, readOn, pictureAfter, Judged, motifOf}
-use Rattle.scope.specs.Session.{Setting, Busy, resting, reading, drawing, Session, Place, outside, inside, keptAs, sessionOf, pageOf, joinedOf, rowFor, sessionAfter, placeAfter}
-use Rattle.scope.specs.Judge.{State, Case, caseOf, Rule, Refusal, rules, firstBroken, ownOr, outer, tooMuch, nameHeld, nameMissing, sourceClosed, savedOver, cursorUnset, spaceWrong, countOver, roomOver, judgedAt, after, Outcome, refusedAt, endAt, onRefusal, onCase, onRead, contextOf, jobStep, judgedFrom}
-use Rattle.scope.specs.Verdict.{every}
-use Rattle.scope.specs.Claims.{afterOne, Isolated, AttributeMoved, AttributesMoved, OperatorMoved, OperatorsMoved}
-use Rattle.scope.proofs.Ends.{GoodRead, read-good}
-use Rattle.scope.proofs.Falls.{judged-step}
-use Rattle.scope.proofs.Like.{Far, far-end, far-start, LikeAttr, LikeAttrs, nil, cons, LikeData, nowhere, read-from, LikeOp, LikeRead, read-like, has-like, value-in-like, bytes-in-like, LikeNext, on, at-end, attrs-length}
+use borrow.Author.Tests.{le-ltb}
+use lib.ListN.{length, drop, length-drop}
+use Rattle.scope.specs.Item.{after as blackAfter}
+use Rattle.scope.specs.Reading.{Operator, Read}
+use Rattle.scope.specs.Session.{Setting, outside}
+use Rattle.scope.specs.Judge.{State, Outcome, contextOf, judgedFrom}
+use Rattle.scope.specs.Verdict.{startsGray, every, judgedAfter, entryOf, outcomeAt, outcomeOf}
+use Rattle.scope.specs.Runs.{readAt, ended, onto}
+use Rattle.scope.specs.Claims.{limit, OperatorsMoved, Between, SameFrom, Alike, Isolated}
+use Rattle.scope.proofs.Ends.{after-le}
+use Rattle.scope.proofs.Runs.{runs-of, runs-judged, runs-past, ends-state}
+use Rattle.scope.proofs.Says.{LikePlace, outsides}
+use Rattle.scope.proofs.Apart.{clash-of}
+use Rattle.scope.proofs.Goes.{read-goes}
+use Rattle.scope.proofs.Moved.{pairwise-listed, starts-listed}
+use Rattle.scope.proofs.Twice.{TwoEnds, both-end, first-ends, second-ends, two-judged}
+use Rattle.scope.proofs.Beside.{LikeState}
+use Rattle.scope.proofs.Like.{Far, far-start}
 
--- a row performed: where its first operator stands plays no part
-row-through : (call : Bool) (k : ℕ) (a : Act) (l : List Stroke) (w : Seen)
-    → walk (pick call (record { motif = 0; at = k; act = idle } ∷ l) (record { motif = 0; at = k; act = a } ∷ [])) w
-    ≡ pick call (walk l (step idle w)) (step a w)
-unfolding walk
-row-through true k a l w = refl
-row-through false k a l w = refl
+-- what an outcome lists are the operators of its run, before those already there
+judged-past : (given : ℕ → Bool) (set : Setting) (s : List ℕ) (room : ℕ) (st : State)
+    → judgedFrom given set s room st .state .past ≡ onto (runs-of given set s room st .ops) (st .past)
+judged-past given set s room st =
+    let c = runs-of given set s room st in
+    ap (λ z. z .past) (ends-state given set s room (c .ends)) ∙ runs-past given set s room (c .runs)
 
-module _ (s t : List ℕ) (p q : ℕ) (hp : p ≤ length s) (hq : q ≤ length t) (same : drop p s ≡ drop q t) where
-  abbrev F : ℕ → ℕ → Type 0
-  F = Far s t p q hp hq same
+module _ (s t : List ℕ) (a b : State) (hp : a .at ≤ length s) (hq : b .at ≤ length t) (same-bytes : drop (a .at) s ≡ drop (b .at) t) (set : Setting) (room space : ℕ) where
+  alike-of : {os ps : List Operator} {e f : Outcome}
+      → TwoEnds s t (a .at) (b .at) hp hq same-bytes every every (λ k _. refl) set (a .performed) (b .performed) (a .records) (b .records) room space os ps e f
+      → e .state .past ≡ onto os (a .past) → f .state .past ≡ onto ps (b .past) → Alike a b room space e f
+  alike-of (both-end k c d i u v) x y =
+      Alike.same
+      (record {
+        code = c;
+        position = d .far;
+        inner = i;
+        performed = u;
+        records = v;
+        listed = subst₂ (OperatorsMoved (a .at) (b .at) (a .past) (b .past)) (sym x) (sym y) (pairwise-listed k OperatorsMoved.start);
+      })
+  alike-of (first-ends c k d) x y =
+      let z : OperatorsMoved (a .at) (b .at) (a .past) (b .past) (a .past) (b .past) = OperatorsMoved.start in
+      let l = starts-listed k z in
+      Alike.first-cut
+      (record {
+        over = c;
+        later = l .later;
+        until = l .until;
+        parts = y ∙ l .parts;
+        listed = subst⁻¹ (λ z. OperatorsMoved (a .at) (b .at) (a .past) (b .past) z (l .until)) x (l .listed);
+        differs = d (λ _. refl);
+      })
+  alike-of (second-ends c k d) x y =
+      let z : OperatorsMoved (b .at) (a .at) (b .past) (a .past) (b .past) (a .past) = OperatorsMoved.start in
+      let l = starts-listed k z in
+      Alike.second-cut
+      (record {
+        over = c;
+        later = l .later;
+        until = l .until;
+        parts = x ∙ l .parts;
+        listed = subst⁻¹ (λ z. OperatorsMoved (b .at) (a .at) (b .past) (a .past) z (l .until)) y (l .listed);
+        differs = λ n r z. d (λ _. refl) (sym n) (sym r) (sym z);
+      })
 
-  abbrev Op : Operator → Operator → Type 0
-  Op = LikeOp s t p q hp hq same
-
-  module _ (high : Bool) (a b : Operator) (h : Op a b) where
-    value : (n : ℕ) → valueIn high s (a .attrs) n ≡ valueIn high t (b .attrs) n
-    value n = value-in-like s t p q hp hq same high n (h .attrs)
-
-    name : (n : ℕ) → bytesIn s (a .attrs) n ≡ bytesIn t (b .attrs) n
-    name n = bytes-in-like s t p q hp hq same n (h .attrs)
-
-    there : (n : ℕ) → has n (a .attrs) ≡ has n (b .attrs)
-    there n = has-like s t p q hp hq same n (h .attrs)
-
-    space-like : needsSpace (a .tag) (a .attrs) ≡ needsSpace (b .tag) (b .attrs)
-    unfolding needsSpace
-    space-like = λ i. pick (eqb (h .tag i) 0xb0) gray (pick (eqb (h .tag i) 0x63 || eqb (h .tag i) 0x79) (pick (there 11 i) rgb (pick (there 9 i) gray any)) any)
-
-    effect-like : effectOf high s (a .tag) (a .attrs) ≡ effectOf high t (b .tag) (b .attrs)
-    unfolding effectOf
-    effect-like =
-        λ i. pick (eqb (h .tag i) 0x61) push
-        (pick (eqb (h .tag i) 0x60) pop
-        (pick (eqb (h .tag i) 0x6b) (put (to true) kept)
-        (pick (eqb (h .tag i) 0x85) (put (to false) kept)
-        (pick (eqb (h .tag i) 0x6a) (put kept (to (eqb (value 3 i) 1))) (put kept kept)))))
-
-    act-like : actOf high s a ≡ actOf high t b
-    unfolding actOf
-    act-like = λ i. record { source = h .reads i; cursor = needsCursor (h .tag i); space = space-like i; effect = effect-like i }
-
-    row-like : (held : List Motif) (w : Seen) → walk (rowFor high s held a) w ≡ walk (rowFor high t held b) w
-    unfolding rowFor
-    row-like held w =
-        row-through (eqb (a .tag) 0x5e) (a .at) (actOf high s a) (unfolded held (bytesIn s (a .attrs) 139)) w
-        ∙ (λ i. pick (eqb (h .tag i) 0x5e) (walk (unfolded held (name 139 i)) (step idle w)) (step (act-like i) w))
-        ∙ sym (row-through (eqb (b .tag) 0x5e) (b .at) (actOf high t b) (unfolded held (bytesIn t (b .attrs) 139)) w)
-
-    picture-like : (v : Picture) → pictureAfter high s a v ≡ pictureAfter high t b v
-    unfolding pictureAfter begun
-    picture-like v =
-        λ i. pick (eqb (h .tag i) 0xb0)
-        (Picture.being (record { width = value 108 i; depth = value 98 i; height = value 107 i; rows = 0 }))
-        (pick (eqb (h .tag i) 0xb1) (readOn (value 99 i) v) (pick (eqb (h .tag i) 0xb2) Picture.none v))
-
-    module _ (x y : State) (ep : x .performed ≡ y .performed) (er : x .records ≡ y .records) (z : Session) where
-      abbrev c : Case
-      c = caseOf high s x z a
-
-      abbrev d : Case
-      d = caseOf high t y z b
-
-      seen-like : c .seen ≡ d .seen
-      unfolding caseOf
-      seen-like =
-          row-like (z .held) (from (pageOf (z .busy)) (x .performed))
-          ∙ (λ i. walk (rowFor high t (z .held) b) (from (pageOf (z .busy)) (ep i)))
-
-      made-like : c .made ≡ d .made
-      unfolding caseOf
-      made-like = λ i. judgedAt (z .held) (joinedOf (z .busy)) (h .tag i)
-
-      name-like : c .name ≡ d .name
-      unfolding caseOf
-      name-like = name 139
-
-      records-like : c .records ≡ d .records
-      unfolding caseOf
-      records-like = λ i. er i + suc (attrs-length s t p q hp hq same (h .attrs) i)
-
-      broken-like : (given : ℕ → Bool) (room : ℕ) → firstBroken given c (rules room) ≡ firstBroken given d (rules room)
-      unfolding firstBroken rules caseOf tooMuch nameHeld nameMissing sourceClosed savedOver cursorUnset spaceWrong countOver roomOver
-      broken-like given room =
-          λ i. pick
-          (given 19
-          && ((eqb (h .tag i) 0x5b && leb 64 (length (z .held)))
-          || (eqb (h .tag i) 0x5c && ltb 16384 (bytesHeld (z .held) + (length (joinedOf (z .busy)) + h .size i))))) (Refusal.refused 19 outer)
-          (pick (given 20 && (eqb (h .tag i) 0x5b && isHeld (heldAs (name 139 i) (z .held)))) (Refusal.refused 20 outer)
-          (pick (given 21 && (eqb (h .tag i) 0x5e && not (isHeld (heldAs (name 139 i) (z .held))))) (Refusal.refused 21 outer)
-          (ownOr (made-like i)
-          (pick (given 17 && (seen-like i .source && not (z .opened))) (Refusal.refused 17 outer)
-          (pick (given 23 && ltb 24 (seen-like i .most)) (Refusal.refused 23 outer)
-          (pick (given 24 && seen-like i .lost) (Refusal.refused 24 outer)
-          (pick (given 25 && seen-like i .wrong) (Refusal.refused 25 outer)
-          (pick (given 26 && ltb 1_000_000 (seen-like i .count)) (Refusal.refused 26 outer)
-          (pick (given 28 && ltb room (records-like i * 16)) (Refusal.refused 28 outer) Refusal.none)))))))))
-
-      session-like : (g : Bool) (w : Busy)
-          → sessionAfter (record { high = high; gray = g }) s a (c .seen .page) w z ≡ sessionAfter (record { high = high; gray = g }) t b (d .seen .page) w z
-      unfolding sessionAfter
-      session-like g resting =
-          λ i. record {
-            held = z .held;
-            opened = pick (eqb (h .tag i) 0x48) true (pick (eqb (h .tag i) 0x49) false (z .opened));
-            busy = pick (eqb (h .tag i) 0x43) (drawing (blank g) Picture.none) (pick (eqb (h .tag i) 0x5b) (reading (name 139 i) []) resting);
-          }
-      session-like g (reading n j) =
-          λ i. pick (eqb (h .tag i) 0x5c)
-          (record { held = z .held; opened = z .opened; busy = reading n (j ++ h .block i) })
-          (record { held = keptAs n j (motifOf (z .held) j) (z .held); opened = z .opened; busy = resting })
-      session-like g (drawing o v) =
-          λ i. pick (eqb (h .tag i) 0x44)
-          (record { held = z .held; opened = z .opened; busy = resting })
-          (record { held = z .held; opened = z .opened; busy = drawing (seen-like i .page) (picture-like v i) })
-
-    place-like : (g : Bool) (x y : State) (ep : x .performed ≡ y .performed) (er : x .records ≡ y .records) (w : Place)
-        → placeAfter (record { high = high; gray = g }) s a (caseOf high s x (sessionOf w) a .seen .page) w
-        ≡ placeAfter (record { high = high; gray = g }) t b (caseOf high t y (sessionOf w) b .seen .page) w
-    unfolding placeAfter
-    place-like g x y ep er (outside v) = refl
-    place-like g x y ep er (inside z) = λ i. pick (eqb (h .tag i) 0x42) (outside true) (inside (session-like x y ep er z g (z .busy) i))
-
-  -- operators that are alike but for their places, after any others
-  data LikePast (before other : List Operator) : List Operator → List Operator → Type 0 where
-    start : LikePast before other before other
-    more : {a b : Operator} {l m : List Operator} → Op a b → LikePast before other l m → LikePast before other (a ∷ l) (b ∷ m)
-
-  module _ (before other : List Operator) where
-    -- two states that are the same but for their places and for what went before
-    data LikeState : State → State → Type 0 where
-      like : {a b n r : ℕ} {w : Place} {l m : List Operator} → F a b
-          → LikePast before other l m → LikeState (record { at = a; place = w; performed = n; records = r; past = l }) (record { at = b; place = w; performed = n; records = r; past = m })
-
-    like-state : (x y : State) → F (x .at) (y .at) → x .place ≡ y .place → x .performed ≡ y .performed → x .records ≡ y .records → LikePast before other (x .past) (y .past) → LikeState x y
-    like-state x y f e g k z =
-        subst (λ v. LikeState x v) (λ i. record { at = y .at; place = e i; performed = g i; records = k i; past = y .past }) (like f z)
-
-    record LikeOut (e f : Outcome) : Type 0 where
-      code : e .code ≡ f .code
-      position : F (e .position) (f .position)
-      inner : e .inner ≡ f .inner
-      records : e .state .records ≡ f .state .records
-      performed : e .state .performed ≡ f .state .performed
-      past : LikePast before other (e .state .past) (f .state .past)
-
-    module _ (given : ℕ → Bool) (set : Setting) (room : ℕ) where
-      abbrev J : State → Outcome
-      J = judgedFrom given set s room
-
-      abbrev K : State → Outcome
-      K = judgedFrom given set t room
-
-      end-like : (x y : State) (w : Place) → x .performed ≡ y .performed → x .records ≡ y .records → LikePast before other (x .past) (y .past) → LikeOut (endAt s x w) (endAt t y w)
-      unfolding endAt
-      end-like x y (outside true) e f z =
-          record { code = refl; position = far-end s t p q hp hq same; inner = refl; records = f; performed = e; past = z }
-      end-like x y (outside false) e f z =
-          record { code = refl; position = far-end s t p q hp hq same; inner = refl; records = f; performed = e; past = z }
-      end-like x y (inside v) e f z =
-          record { code = refl; position = far-end s t p q hp hq same; inner = refl; records = f; performed = e; past = z }
-
-      module _ (n : ℕ) (ih : (x y : State) → LikeState x y → length s - x .at < n → LikeOut (J x) (K y)) where
-        module _ (x y : State) (w : Place) (ex : x .place ≡ w) (ey : y .place ≡ w) (ep : x .performed ≡ y .performed) (er : x .records ≡ y .records) (ez : LikePast before other (x .past) (y .past)) where
-          refusal-like : (a b : Operator) → LikeOp s t p q hp hq same a b → length s - a .next < n → (f : Refusal)
-              → LikeOut (onward J (onRefusal set s x (caseOf (set .high) s x (sessionOf w) a) f)) (onward K (onRefusal set t y (caseOf (set .high) t y (sessionOf w) b) f))
-          unfolding onRefusal after caseOf
-          refusal-like a b h less Refusal.none =
-              let e = ap (placeAfter set s a (caseOf (set .high) s x (sessionOf w) a .seen .page)) ex ∙ place-like (set .high) a b h (set .gray) x y ep er w
-              ∙ ap (placeAfter set t b (caseOf (set .high) t y (sessionOf w) b .seen .page)) (sym ey) in
-              ih _ _ (like-state _ _ (h .next) e (ap (λ v. v .count) (seen-like (set .high) a b h x y ep er (sessionOf w))) (records-like (set .high) a b h x y ep er (sessionOf w)) (more h ez)) less
-          refusal-like a b h less (Refusal.refused code inner) =
-              record { code = refl; position = h .at; inner = refl; records = er; performed = ep; past = ez }
-
-        on-read : (a b m r : ℕ) (w : Place) (l k : List Operator) → LikePast before other l k → length s - a < suc n → {may : ℕ → Bool} {u v : Read}
-            → GoodRead (length s) a may u → LikeRead s t p q hp hq same u v
-            → LikeOut (onward J (onRead given set s room (record { at = a; place = w; performed = m; records = r; past = l }) u))
-            (onward K (onRead given set t room (record { at = b; place = w; performed = m; records = r; past = k }) v))
-        unfolding onRead onCase
-        on-read a b m r w l k z less (GoodRead.operator {o = o} x y g) (LikeRead.operator {b = o′} h) =
-            let st : State = record { at = a; place = w; performed = m; records = r; past = l } in
-            let st′ : State = record { at = b; place = w; performed = m; records = r; past = k } in
-            let e : length s - o .next < n = omega arith in
-            subst⁻¹ (λ f. LikeOut (onward J (onRefusal set s st (caseOf (set .high) s st (sessionOf w) o) f)) (onward K (onCase given set t room st′ (caseOf (set .high) t st′ (sessionOf w) o′))))
-            (broken-like (set .high) o o′ h st st′ refl refl (sessionOf w) given room)
-            (refusal-like st st′ w refl refl refl refl z o o′ h e (firstBroken given (caseOf (set .high) t st′ (sessionOf w) o′) (rules room)))
-        on-read a b m r w l k z less GoodRead.ended LikeRead.ended = end-like _ _ w refl refl z
-        on-read a b m r w l k z less (GoodRead.no g) (LikeRead.no x) = record { code = refl; position = x; inner = refl; records = refl; performed = refl; past = z }
-
-      all-like : (n : ℕ) (x y : State) → LikeState x y → length s - x .at < n → LikeOut (J x) (K y)
-      unfolding jobStep
-      all-like zero x y h less = absurd (omega arith)
-      all-like (suc n) x y (like {a = a} {b = b} {n = m} {r = r} {w = w} {l = l} {m = k} f z) less =
-          rw (judged-step given set s room x, judged-step given set t room y)
-          (on-read n (all-like n) a b m r w l k z less (read-good (contextOf given (set .high) w) s a) (read-like s t p q hp hq same (contextOf given (set .high) w) f))
-
-  attribute-moved : {a b : Attribute} → LikeAttr s t p q hp hq same a b → AttributeMoved p q a b
-  attribute-moved h = record { number = h .number; tag = h .tag; at = h .at .far; count = h .count; first = h .first .far }
-
-  attributes-moved : {l m : List Attribute} → LikeAttrs s t p q hp hq same l m → AttributesMoved p q l m
-  attributes-moved nil = AttributesMoved.none
-  attributes-moved (cons h k) = AttributesMoved.more (attribute-moved h) (attributes-moved k)
-
-  reading-moved : {b : Bool} {x y : ℕ} → LikeData s t p q hp hq same b x y → b ≡ true → x + q ≡ y + p
-  reading-moved nowhere e = absurd (let z : _≡_ {A = ℕ} 0 1 = cc in omega arith)
-  reading-moved (read-from h) e = h .far
-
-  quiet-moved : {b : Bool} {x y : ℕ} → LikeData s t p q hp hq same b x y → b ≡ false → (x ≡ 0) × (y ≡ 0)
-  quiet-moved nowhere e = (refl, refl)
-  quiet-moved (read-from h) e = absurd (let z : _≡_ {A = ℕ} 0 1 = cc in omega arith)
-
-  operator-moved : {a b : Operator} → Op a b → OperatorMoved p q a b
-  operator-moved h =
+  -- from two states outside a session on
+  judged-alike : (v w : Bool) → a .place ≡ outside v → b .place ≡ outside w → blackAfter s (a .at) < length s
+      → Alike a b room space (judgedFrom every set s room a) (judgedFrom every set t space b)
+  judged-alike v w ea eb goes =
+      let more = readAt every set s a ≡ Read.ended → ⊥ in
+      let l : LikeState every every (λ k _. refl) set set refl s t (Far s t (a .at) (b .at) hp hq same-bytes) (a .performed) (b .performed) (a .records) (b .records) a b =
       record {
-        tag = h .tag;
-        at = h .at .far;
-        attrs = attributes-moved (h .attrs);
-        length = h .size;
-        reading = reading-moved (h .where-data);
-        quiet = quiet-moved (h .where-data);
-      }
+        at = far-start s t (a .at) (b .at) hp hq same-bytes;
+        place = subst₂ (LikePlace more) (sym ea) (sym eb) (outsides (read-goes (contextOf every (set .high) (a .place)) s (a .at) goes));
+        performed = omega arith;
+        records = omega arith;
+      } in
+      alike-of (two-judged s t (a .at) (b .at) hp hq same-bytes every every (λ k _. refl) set (a .performed) (b .performed) (a .records) (b .records) room space a b l)
+      (judged-past every set s room a) (judged-past every set t space b)
 
-  operators-moved : (before other : List Operator) {l m : List Operator} → LikePast before other l m → OperatorsMoved p q before other l m
-  operators-moved before other start = OperatorsMoved.start
-  operators-moved before other (more h k) = OperatorsMoved.more (operator-moved h) (operators-moved before other k)
+-- the outcome of a job is that of the state which it comes to
+pub between-judged : (job : List ℕ) (work room : ℕ) (high : Bool) (st : State) → 16384 ≤ work → length job ≤ 61440 → Between job room high st
+    → outcomeOf every job work room ≡ judgedFrom every (record { high = high; gray = startsGray }) job room st
+unfolding outcomeOf outcomeAt judgedAfter entryOf
+between-judged job work room high st h k b =
+    rw (le-ltb work 16384 h, le-ltb 61440 (length job) k, b .header) (runs-judged every (record { high = high; gray = startsGray }) job room (b .runs))
 
 pub isolated : Isolated
-isolated set s t room p q performed records before other hp hq same =
-    let h = all-like s t p q hp hq same before other every set room (suc (length s - p)) (afterOne p performed records before) (afterOne q performed records other)
-    (like (far-start s t p q hp hq same) start) (omega arith) in
-    (h .code, h .position .far, h .inner, h .records, h .performed, operators-moved s t p q hp hq same before other (h .past))
+isolated job other work work′ room space high a b h k l m x y same-bytes goes =
+    let i = after-le high job (a .at) in
+    let d : length job - a .at ≡ length other - b .at = sym (length-drop (a .at) job) ∙ ap length same-bytes ∙ length-drop (b .at) other in
+    subst₂ (Alike a b room space) (sym (between-judged job work room high a h l x)) (sym (between-judged other work′ space high b k m y))
+    (judged-alike job other a b (omega arith) (omega arith) same-bytes (record { high = high; gray = startsGray }) room space (x .after-one) (y .after-one) (x .stands) (y .stands) goes)
+
+-- where neither is 26 or 28, the same from there on
+pub alike-same : {a b : State} {room space : ℕ} {e f : Outcome} → Alike a b room space e f → limit (e .code) ≡ false → limit (f .code) ≡ false → SameFrom a b e f
+alike-same (Alike.same h) u v = h
+alike-same (Alike.first-cut h) u v = clash-of (sym (h .over) ∙ u)
+alike-same (Alike.second-cut h) u v = clash-of (sym (h .over) ∙ v)
+
+-- where the same numbers were performed and listed before, and the rooms are the same, then too
+pub alike-equal : {a b : State} {room space : ℕ} {e f : Outcome} → Alike a b room space e f → a .performed ≡ b .performed → a .records ≡ b .records → room ≡ space → SameFrom a b e f
+alike-equal (Alike.same h) u v w = h
+alike-equal (Alike.first-cut h) u v w = absurd (h .differs u v w)
+alike-equal (Alike.second-cut h) u v w = absurd (h .differs (sym u) (sym v) (sym w))

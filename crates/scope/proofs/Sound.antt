@@ -6,7 +6,7 @@ use mathlib.Core.Path.{_≡_, refl, sym, ap, _∙_, subst, subst⁻¹}
 use mathlib.Core.Bool.{Bool, true, false, not, _&&_}
 use mathlib.Core.List.{List, [], _∷_, _++_}
 use native.Mathlib.Omega.{arith}
-use borrow.Author.Tests.{eqb-true, leb-false}
+use borrow.Author.Tests.{leb-false}
 use lib.ListN.{length}
 use lib.Dec.{leb, eqb}
 use Rattle.scope.specs.Choice.{pick, same}
@@ -18,20 +18,8 @@ use Rattle.scope.specs.Motif.{Own, does, calls, Motif, Held, heldAs, isH
 use Rattle.scope.specs.Session.{rowFor}
 use Rattle.scope.specs.Plain.{Known, Found, knownAs, strokesOf, ownOf, called}
 use Rattle.scope.proofs.Ends.{pick-all, Kept, kept-go, kept-stop, iterate-holds}
-use Rattle.scope.proofs.Apart.{clash-of, not-held-as}
+use Rattle.scope.proofs.Apart.{clash-of, same-eq, not-held-as}
 use Rattle.scope.proofs.Again.{read-again}
-
--- the same bytes are equal
-same-eq : (a b : List ℕ) → same a b ≡ true → a ≡ b
-unfolding same
-same-eq [] [] e = refl
-same-eq [] (y ∷ ys) e = clash-of (sym e)
-same-eq (x ∷ xs) [] e = clash-of (sym e)
-same-eq (x ∷ xs) (y ∷ ys) e = by (eqb x y) refl e (same-eq xs ys)
-  where
-    by : (b : Bool) → eqb x y ≡ b → elim b [ true ↦ same xs ys | false ↦ false ] ≡ true → (same xs ys ≡ true → xs ≡ ys) → x ∷ xs ≡ y ∷ ys
-    by true f g k = λ i. eqb-true x y f i ∷ k g i
-    by false f g k = clash-of (sym g)
 
 motifIn : Motif → Held → Motif
 motifIn d (Held.is m) = m

@@ -1,24 +1,35 @@
 -- The theorems to prove, as types.
-use Prim.Native.Nat.{ℕ, _+_, _*_, _≤_}
+use Prim.Native.Nat.{ℕ, _+_, _*_, _≤_, _<_}
 use mathlib.Core.Path.{_≡_}
 use mathlib.Core.Logic.{_↔_}
-use mathlib.Core.Bool.{Bool, true, false}
+use mathlib.Core.Bool.{Bool, true, false, _||_}
 use mathlib.Core.List.{List, [], _∷_, _++_}
-use lib.ListN.{length, drop}
-use Rattle.scope.specs.Item.{Attribute}
+use lib.ListN.{length, take, drop}
+use lib.Dec.{eqb}
+use Rattle.scope.specs.Header.{Header, headerOf}
+use Rattle.scope.specs.Item.{Attribute, after}
 use Rattle.scope.specs.Reading.{Operator}
-use Rattle.scope.specs.Session.{Setting, outside}
-use Rattle.scope.specs.Judge.{State, Outcome, judgedFrom}
-use Rattle.scope.specs.Verdict.{startsGray, every, layout, verdictOf, outcomeOf, zeros, workAfter}
+use Rattle.scope.specs.Attributes.{bytesIn}
+use Rattle.scope.specs.Arm.{Stroke}
+use Rattle.scope.specs.Motif.{Own, Motif, Judged, motifOf}
+use Rattle.scope.specs.Session.{Setting, outside, sessionOf, rowFor}
+use Rattle.scope.specs.Names.{BeginSession, BeginStream, ReadStream, EndStream, ExecStream, StreamName}
+use Rattle.scope.specs.Judge.{State, Outcome, starting}
+use Rattle.scope.specs.Runs.{Runs}
+use Rattle.scope.specs.Verdict.{startsGray, every, layout, verdictOf, outcomeOf, attributeRecord, operatorRecord, listOf, zeros, workAfter}
 use Rattle.scope.specs.Plain.{unfoldingOf, comes, atStart}
 
--- a job keeps the layout rules: it would pass were 17, 23 to 26 and 28 never given (with a work buffer that is long enough)
-pub record Keeps (job : List ℕ) : Type 0 where
-  pub passes : outcomeOf layout job 16384 0 .code ≡ 0
+-- what becomes of a job where 17, 23 to 26 and 28 are never given, with a work buffer that is long enough; the list plays no part then
+abbrev pub withoutTheSix : List ℕ → Outcome
+withoutTheSix job = outcomeOf layout job 16384 0
 
--- room for its list
+-- a job keeps the layout rules: it would pass were those six never given
+pub record Keeps (job : List ℕ) : Type 0 where
+  pub passes : withoutTheSix job .code ≡ 0
+
+-- there is room for its list
 pub record HasRoom (job : List ℕ) (room : ℕ) : Type 0 where
-  pub fits : outcomeOf layout job 16384 0 .state .records * 16 ≤ room
+  pub fits : withoutTheSix job .state .records * 16 ≤ room
 
 -- demand 3
 abbrev pub Demand3 : Type 0
@@ -38,10 +49,6 @@ PassesExactly =
 abbrev pub Within : Type 0
 Within = (job : List ℕ) (work room : ℕ) → verdictOf job work room .position ≤ length job
 
--- the state between sessions, after one, with so many operators performed, so many records, and these operators before
-abbrev pub afterOne : ℕ → ℕ → ℕ → List Operator → State
-afterOne at performed records past = record { at = at; place = outside true; performed = performed; records = records; past = past }
-
 -- an attribute that has moved with the bytes from place p to place q: the same but for its two places
 pub record AttributeMoved (p q : ℕ) (a b : Attribute) : Type 0 where
   pub number : a .number ≡ b .number
@@ -50,6 +57,7 @@ pub record AttributeMoved (p q : ℕ) (a b : Attribute) : Type 0 where
   pub count : a .count ≡ b .count
   pub first : a .first + q ≡ b .first + p
 
+-- attributes that have moved, one by one
 pub data AttributesMoved (p q : ℕ) : List Attribute → List Attribute → Type 0 where
   none : AttributesMoved p q [] []
   more : {a b : Attribute} {l m : List Attribute} → AttributeMoved p q a b → AttributesMoved p q l m → AttributesMoved p q (a ∷ l) (b ∷ m)
@@ -60,6 +68,7 @@ pub record OperatorMoved (p q : ℕ) (a b : Operator) : Type 0 where
   pub at : a .at + q ≡ b .at + p
   pub attrs : AttributesMoved p q (a .attrs) (b .attrs)
   pub length : a .length ≡ b .length
+  pub reads : a .reads ≡ b .reads
   pub reading : a .reads ≡ true → a .first + q ≡ b .first + p
   pub quiet : a .reads ≡ false → (a .first ≡ 0) × (b .first ≡ 0)
 
@@ -68,15 +77,131 @@ pub data OperatorsMoved (p q : ℕ) (before other : List Operator) : List Operat
   start : OperatorsMoved p q before other before other
   more : {a b : Operator} {l m : List Operator} → OperatorMoved p q a b → OperatorsMoved p q before other l m → OperatorsMoved p q before other (a ∷ l) (b ∷ m)
 
--- sessions are isolated: from between two sessions on, only the bytes from there, the number performed and the records so far matter; and what is listed from
--- there on is the same but for the places
+-- judging stands outside a session, between two or before the first: from the end of the header on it has performed some operators, none refused
+pub record Between (job : List ℕ) (room : ℕ) (high : Bool) (st : State) : Type 0 where
+  pub next : ℕ
+  pub header : headerOf job ≡ Header.is high next
+  pub before : List Operator
+  pub runs : Runs every (record { high = high; gray = startsGray }) job room (starting next) before st
+  pub after-one : Bool
+  pub stands : st .place ≡ outside after-one
+
+-- the codes of the two rules that look at numbers gathered before: operators performed, records listed
+abbrev pub limit : ℕ → Bool
+limit code = eqb code 26 || eqb code 28
+
+-- two outcomes are the same from a state of each job on: code, inner, the operators performed and the records listed since; the position but for the change
+-- of place; and the operators listed since, but for their places
+pub record SameFrom (a b : State) (e f : Outcome) : Type 0 where
+  pub code : e .code ≡ f .code
+  pub position : e .position + b .at ≡ f .position + a .at
+  pub inner : e .inner ≡ f .inner
+  pub performed : e .state .performed + b .performed ≡ f .state .performed + a .performed
+  pub records : e .state .records + b .records ≡ f .state .records + a .records
+  pub listed : OperatorsMoved (a .at) (b .at) (a .past) (b .past) (e .state .past) (f .state .past)
+
+-- records of 16 bytes that have moved: record by record those of an attribute or of an operator that has
+pub data RecordsMoved (p q : ℕ) : List ℕ → List ℕ → Type 0 where
+  none : RecordsMoved p q [] []
+  attribute : {a b : Attribute} {l m : List ℕ} → AttributeMoved p q a b → RecordsMoved p q l m → RecordsMoved p q (attributeRecord a ++ l) (attributeRecord b ++ m)
+  operator : {a b : Operator} {l m : List ℕ} → OperatorMoved p q a b → RecordsMoved p q l m → RecordsMoved p q (operatorRecord a ++ l) (operatorRecord b ++ m)
+
+-- the bytes of a list from its record m on up to its record n
+abbrev pub recordsFrom : (m n : ℕ) → List ℕ → List ℕ
+recordsFrom m n list = drop (m * 16) (take (n * 16) list)
+
+-- a list has as many bytes as its records take
+abbrev pub ListLong : Type 0
+ListLong = (job : List ℕ) (work room : ℕ) → length (listOf job work room) ≡ verdictOf job work room .records * 16
+
+-- the first job is refused by 26 or 28 before the other ends: up to there the two are the same; and the numbers before, or the rooms, were not the same
+pub record CutShort (a b : State) (room space : ℕ) (e f : Outcome) : Type 0 where
+  pub over : limit (e .code) ≡ true
+  pub later : List Operator
+  pub until : List Operator
+  pub parts : f .state .past ≡ later ++ until
+  pub listed : OperatorsMoved (a .at) (b .at) (a .past) (b .past) (e .state .past) until
+  pub differs : a .performed ≡ b .performed → a .records ≡ b .records → room ≡ space → ⊥
+
+-- the two are the same from there on, or 26 or 28 cuts one of them short
+pub data Alike (a b : State) (room space : ℕ) (e f : Outcome) : Type 0 where
+  same : SameFrom a b e f → Alike a b room space e f
+  first-cut : CutShort a b room space e f → Alike a b room space e f
+  second-cut : CutShort b a space room f e → Alike a b room space e f
+
+-- sessions are isolated: two jobs of one byte order, each standing outside a session, whose bytes from there on are the same and not all white, get the same
+-- verdict from there on, whatever they have performed and listed before, unless 26 or 28 cuts one of them short
 abbrev pub Isolated : Type 0
 Isolated =
-    (set : Setting) (s t : List ℕ) (room p q performed records : ℕ) (before other : List Operator) → p ≤ length s → q ≤ length t → drop p s ≡ drop q t
-    → let a = judgedFrom every set s room (afterOne p performed records before) in
-    let b = judgedFrom every set t room (afterOne q performed records other) in
-    (a .code ≡ b .code) × (a .position + q ≡ b .position + p) × (a .inner ≡ b .inner) × (a .state .records ≡ b .state .records)
-    × (a .state .performed ≡ b .state .performed) × OperatorsMoved p q before other (a .state .past) (b .state .past)
+    (job other : List ℕ) (work work′ room space : ℕ) (high : Bool) (a b : State) → 16384 ≤ work → 16384 ≤ work′ → length job ≤ 61440 → length other ≤ 61440
+    → Between job room high a → Between other space high b → drop (a .at) job ≡ drop (b .at) other → after job (a .at) < length job
+    → Alike a b room space (outcomeOf every job work room) (outcomeOf every other work′ space)
+
+-- where they are the same from there on, so are the bytes of both lists, record by record, but for places
+abbrev pub SameList : Type 0
+SameList =
+    (job other : List ℕ) (work work′ room space : ℕ) (high : Bool) (a b : State) → Between job room high a → Between other space high b
+    → SameFrom a b (outcomeOf every job work room) (outcomeOf every other work′ space)
+    → RecordsMoved (a .at) (b .at) (recordsFrom (a .records) (verdictOf job work room .records) (listOf job work room))
+    (recordsFrom (b .records) (verdictOf other work′ space .records) (listOf other work′ space))
+
+-- the operators performed since the last BeginSession; as everywhere, the last one stands first
+unfoldable pub ofSession : List Operator → List Operator
+ofSession [] = []
+ofSession (o ∷ os) = elim (eqb (o .tag) BeginSession) [ true ↦ [] | false ↦ o ∷ ofSession os ]
+
+-- a motif is being read: a BeginStream of this name, and behind it ReadStreams whose data, joined, are these bytes
+pub data Collects (s name : List ℕ) : List ℕ → List Operator → Type 0 where
+  begins : {o : Operator} {os : List Operator} → o .tag ≡ BeginStream → bytesIn s (o .attrs) StreamName ≡ name → Collects s name [] (o ∷ os)
+  reads : {bytes : List ℕ} {o : Operator} {os : List Operator} → o .tag ≡ ReadStream → Collects s name bytes os
+      → Collects s name (bytes ++ take (o .length) (drop (o .first) s)) (o ∷ os)
+
+-- a motif of this name and these bytes is defined among some operators: a BeginStream of the name, ReadStreams of the bytes, an EndStream
+pub data Defines (s name bytes : List ℕ) : List Operator → Type 0 where
+  ends : {o : Operator} {os : List Operator} → o .tag ≡ EndStream → Collects s name bytes os → Defines s name bytes (o ∷ os)
+  before : {o : Operator} {os : List Operator} → Defines s name bytes os → Defines s name bytes (o ∷ os)
+
+-- all these motifs are defined among some operators, and their own operators are those of their bytes, judged with the motifs defined before
+pub data AllDefined (s : List ℕ) (since : List Operator) : List Motif → Type 0 where
+  none : AllDefined s since []
+  more : {m : Motif} {ms : List Motif} → Defines s (m .name) (m .bytes) since → motifOf ms (m .bytes) ≡ Judged.valid (m .ops) (m .depth) → AllDefined s since ms
+      → AllDefined s since (m ∷ ms)
+
+-- a motif is known only inside the session that defined it: in every state that judging a job comes to, each motif that is held was defined since the last
+-- BeginSession
+abbrev pub OwnMotifs : Type 0
+OwnMotifs =
+    (set : Setting) (job : List ℕ) (room next : ℕ) (os : List Operator) (st : State) → Runs every set job room (starting next) os st
+    → AllDefined job (ofSession (st .past)) (sessionOf (st .place) .held)
+
+-- an operator as it is performed, x, is one of these own operators of a motif
+pub data Among (x : Stroke) : List Own → Type 0 where
+  does-it : {os : List Own} → Among x (Own.does (x .at) (x .act) ∷ os)
+  calls-it : {name : List ℕ} {os : List Own} → Among x (Own.calls (x .at) name ∷ os)
+  later : {o : Own} {os : List Own} → Among x os → Among x (o ∷ os)
+
+-- what is performed for an operator of the job: itself; or an operator of a motif that is defined among some operators
+pub data Drawn (s : List ℕ) (since : List Operator) (x : Stroke) : Type 0 where
+  itself : x .motif ≡ 0 → Drawn s since x
+  of-motif : (m : Motif) → x .motif ≡ m .number → Among x (m .ops) → Defines s (m .name) (m .bytes) since → Drawn s since x
+
+-- all of a row
+pub data AllDrawn (s : List ℕ) (since : List Operator) : List Stroke → Type 0 where
+  none : AllDrawn s since []
+  more : {x : Stroke} {l : List Stroke} → Drawn s since x → AllDrawn s since l → AllDrawn s since (x ∷ l)
+
+-- no motif of another session is ever performed: in every state that judging a job comes to, whatever operator comes next, all that is performed for it is itself and
+-- operators of motifs defined since the last BeginSession
+abbrev pub OwnStrokes : Type 0
+OwnStrokes =
+    (set : Setting) (job : List ℕ) (room next : ℕ) (os : List Operator) (st : State) (o : Operator) → Runs every set job room (starting next) os st
+    → AllDrawn job (ofSession (st .past)) (rowFor (set .high) job (sessionOf (st .place) .held) o)
+
+-- an ExecStream that is performed, in whatever job, names a motif that was defined in its own session
+abbrev pub OwnCalls : Type 0
+OwnCalls =
+    (job : List ℕ) (work room : ℕ) (later before : List Operator) (o : Operator) → outcomeOf every job work room .state .past ≡ later ++ (o ∷ before)
+    → o .tag ≡ ExecStream → (bytes : List ℕ) × Defines job (bytesIn job (o .attrs) StreamName) bytes (ofSession before)
 
 -- the work buffer of a job that is judged is zero in its first 16,384 bytes, and behind them as it was
 abbrev pub Zeroed : Type 0

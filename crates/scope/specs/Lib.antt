@@ -15,4 +15,5 @@ pub mod Session
 pub mod Judge
 pub mod Verdict
 pub mod Plain
+pub mod Runs
 pub mod Claims

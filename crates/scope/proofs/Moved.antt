@@ -1,0 +1,60 @@
+-- Operators that have moved with their bytes: back the other way, and in the order in which they are listed.
+-- Assumes nothing.
+use Prim.Native.Nat.{ℕ, _+_, _-_}
+use mathlib.Core.Path.{_≡_, refl, sym, ap, _∙_}
+use mathlib.Core.List.{List, [], _∷_, _++_, append-assoc}
+use native.Mathlib.Omega.{arith}
+use lib.ListN.{length}
+use Rattle.scope.specs.Item.{Attribute}
+use Rattle.scope.specs.Reading.{Operator}
+use Rattle.scope.specs.Runs.{onto, Pairwise}
+use Rattle.scope.specs.Claims.{AttributeMoved, AttributesMoved, OperatorMoved, OperatorsMoved}
+use Rattle.scope.proofs.Beside.{Starts}
+
+-- what has moved one way has moved back the other
+attribute-back : {p q : ℕ} {a b : Attribute} → AttributeMoved p q a b → AttributeMoved q p b a
+attribute-back h = record { number = sym (h .number); tag = sym (h .tag); at = sym (h .at); count = sym (h .count); first = sym (h .first) }
+
+attributes-back : {p q : ℕ} {l m : List Attribute} → AttributesMoved p q l m → AttributesMoved q p m l
+attributes-back AttributesMoved.none = AttributesMoved.none
+attributes-back (AttributesMoved.more h k) = AttributesMoved.more (attribute-back h) (attributes-back k)
+
+pub operator-back : {p q : ℕ} {a b : Operator} → OperatorMoved p q a b → OperatorMoved q p b a
+operator-back h =
+    record {
+      tag = sym (h .tag);
+      at = sym (h .at);
+      attrs = attributes-back (h .attrs);
+      length = sym (h .length);
+      reads = sym (h .reads);
+      reading = λ e. sym (h .reading (h .reads ∙ e));
+      quiet = λ e. let k = h .quiet (h .reads ∙ e) in (k .1, k .0);
+    }
+
+-- the operators of two runs, after those before
+pub pairwise-listed : {p q : ℕ} {before other : List Operator} {os ps : List Operator} → Pairwise (OperatorMoved p q) os ps → {l m : List Operator}
+    → OperatorsMoved p q before other l m → OperatorsMoved p q before other (onto os l) (onto ps m)
+unfolding onto
+pairwise-listed Pairwise.none h = h
+pairwise-listed (Pairwise.more x k) h = pairwise-listed k (OperatorsMoved.more x h)
+
+-- a list put before another is put before nothing, and then the other
+pub onto-front : (os l : List Operator) → onto os l ≡ onto os [] ++ l
+unfolding onto
+onto-front [] l = refl
+onto-front (o ∷ os) l =
+    onto-front os (o ∷ l) ∙ sym (append-assoc (onto os []) (o ∷ []) l) ∙ ap (λ z. z ++ l) (sym (onto-front os (o ∷ [])))
+
+-- the first list of operators is a start of the second
+pub record Part (p q : ℕ) (before other l m : List Operator) : Type 0 where
+  pub later : List Operator
+  pub until : List Operator
+  pub parts : m ≡ later ++ until
+  pub listed : OperatorsMoved p q before other l until
+
+-- a start of a run lists a start
+pub starts-listed : {p q : ℕ} {before other : List Operator} {os ps : List Operator} → Starts (OperatorMoved p q) os ps → {l m : List Operator}
+    → OperatorsMoved p q before other l m → Part p q before other (onto os l) (onto ps m)
+unfolding onto
+starts-listed {ps} Starts.none {m} h = record { later = onto ps []; until = m; parts = onto-front ps m; listed = h }
+starts-listed (Starts.more x k) h = starts-listed k (OperatorsMoved.more x h)
