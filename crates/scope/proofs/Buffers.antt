@@ -3,20 +3,20 @@
 -- Assumes nothing.
 use Prim.Native.Nat.{ℕ, _-_, _≤_}
 use mathlib.Core.Path.{_≡_, refl, sym, ap, _∙_}
-use mathlib.Core.Bool.{Bool, true, false, not, _||_}
-use mathlib.Core.List.{List, [], _++_}
-use borrow.Author.Tests.{le-ltb, not-true}
+use mathlib.Core.Bool.{Bool, true, false, _||_}
+use mathlib.Core.List.{List, _++_}
+use native.Mathlib.Omega.{arith}
+use borrow.Author.Tests.{le-ltb, ne-eqb}
 use lib.ListN.{length, drop}
-use lib.Dec.{T, ltb, eqb}
+use lib.Dec.{ltb, eqb}
 use Rattle.scope.specs.Choice.{pick}
-use Rattle.scope.specs.Iterate.{Next, go, stop}
 use Rattle.scope.specs.Header.{Header, headerOf}
-use Rattle.scope.specs.Reading.{Operator, Read}
+use Rattle.scope.specs.Reading.{Read}
 use Rattle.scope.specs.Session.{Setting, Place, outside, inside as within, sessionOf}
-use Rattle.scope.specs.Judge.{State, Outcome, Case, Refusal, starting, outer, refusedAt, caseOf, rules, firstBroken, endAt, onRefusal, onCase, onRead, contextOf, jobStep, judgedFrom}
+use Rattle.scope.specs.Judge.{State, Outcome, Case, Refusal, starting, outer, refusedAt, caseOf, endAt, onRefusal, onCase, onRead, contextOf, jobStep, judgedFrom}
 use Rattle.scope.specs.Verdict.{startsGray, every, Entry, refused, admitted, entryOf, judgedAfter, outcomeAt, outcomeOf, verdictOf, zeros, clearedBy, workAfter}
 use Rattle.scope.specs.Claims.{NoMotifLeft, Zeroed}
-use Rattle.scope.proofs.Ends.{pick-all, Kept, kept-go, kept-stop, iterate-holds, Coded, ZeroOr, none-given, given, GoodRead, read-good}
+use Rattle.scope.proofs.Ends.{pick-all, Kept, kept-go, kept-stop, iterate-holds, coded-between, ZeroOr, none-given, given, GoodRead, read-good}
 use Rattle.scope.proofs.Codes.{judged-good, Refuses, not-so, so, broken-coded, GoodHeader, header-good}
 
 short : (n work : ℕ) → n ≤ 61440 → entryOf n work ≡ entryOf 0 work
@@ -33,7 +33,7 @@ unfolding workAfter clearedBy entryOf
 zeroed job work h k = rw (le-ltb (length work) 16384 k, le-ltb 61440 (length job) h)
 
 -- an outcome of judging passes, or has a code that is neither 1 nor 29
-data Late : Outcome → Type 0 where
+pub data Late : Outcome → Type 0 where
   late : {e : Outcome} → ZeroOr (e .code) → Late e
 
 abbrev Any : State → Type 0
@@ -67,30 +67,26 @@ module _ (set : Setting) (s : List ℕ) (room : ℕ) where
   judged-late st =
       iterate-holds (jobStep every set s room) (refusedAt 5 0 outer (starting 0)) Any Late (late (given tt)) step-late (λ x. length s - x .at) st tt
 
-header-late : (job : List ℕ) (room : ℕ) {r : Header} → GoodHeader r → Late (judgedAfter every job room r)
+pub header-late : (job : List ℕ) (room : ℕ) {r : Header} → GoodHeader r → Late (judgedAfter every job room r)
 unfolding judgedAfter
 header-late job room (GoodHeader.good {high = high} {next = next}) = judged-late (record { high = high; gray = startsGray }) job room (starting next)
 header-late job room (GoodHeader.ill k) = late (given k)
 
 neither : (k : ℕ) → ZeroOr k → (eqb k 1 || eqb k 29) ≡ false
 neither k none-given = refl
-neither k (given c) = go (eqb k 0) (eqb k 1 || eqb k 29) c
-  where
-    go : (a b : Bool) → T (not (a || b)) → b ≡ false
-    go true b c = absurd c
-    go false true c = absurd c
-    go false false c = refl
+neither k (given c) = let h = coded-between k c in rw (ne-eqb k 1 (λ e. omega arith), ne-eqb k 29 (λ e. omega arith)) refl
 
-data Entered : Entry → Type 0 where
+-- what the entry may say
+pub data Entered : Entry → Type 0 where
   short-work : Entered (refused 29 0)
   long-job : Entered (refused 1 61440)
   inside : Entered admitted
 
-entered : (n work : ℕ) → Entered (entryOf n work)
+pub entered : (n work : ℕ) → Entered (entryOf n work)
 unfolding entryOf
 entered n work = pick-all Entered (ltb work 16384) (λ _. short-work) (λ _. pick-all Entered (ltb 61440 n) (λ _. long-job) (λ _. inside))
 
-late-code : {e : Outcome} → Late e → ZeroOr (e .code)
+pub late-code : {e : Outcome} → Late e → ZeroOr (e .code)
 late-code (late z) = z
 
 by-entry : (job work : List ℕ) (room : ℕ) {e : Entry} → Entered e

@@ -25,6 +25,7 @@ pub mod Twice
 pub mod Sessions
 pub mod Records
 pub mod Places
+pub mod Told
 pub mod Known
 pub mod Parts
 pub mod JobsRead

@@ -4,7 +4,7 @@ use mathlib.Core.Path.{_≡_}
 use mathlib.Core.Logic.{_↔_}
 use mathlib.Core.Bool.{Bool, true, false, _||_}
 use mathlib.Core.List.{List, [], _∷_, _++_}
-use lib.ListN.{length, take, drop}
+use lib.ListN.{length, take, drop, getD}
 use lib.Dec.{eqb}
 use Rattle.scope.specs.Header.{Header, headerOf}
 use Rattle.scope.specs.Item.{Attribute, after}
@@ -12,10 +12,10 @@ use Rattle.scope.specs.Reading.{Operator}
 use Rattle.scope.specs.Attributes.{bytesIn}
 use Rattle.scope.specs.Arm.{Stroke}
 use Rattle.scope.specs.Motif.{Own, Motif, Judged, motifOf}
-use Rattle.scope.specs.Session.{Setting, outside, sessionOf, rowFor}
+use Rattle.scope.specs.Session.{Setting, outside, sessionOf, joinedOf, rowFor}
 use Rattle.scope.specs.Names.{BeginSession, BeginStream, ReadStream, EndStream, ExecStream, StreamName}
-use Rattle.scope.specs.Judge.{State, Outcome, starting}
-use Rattle.scope.specs.Runs.{Runs}
+use Rattle.scope.specs.Judge.{State, Case, Rule, rule, motifs-own, rules, outer, Outcome, starting}
+use Rattle.scope.specs.Runs.{caseAt, Performs, Runs, Comes}
 use Rattle.scope.specs.Verdict.{startsGray, every, layout, verdictOf, outcomeOf, attributeRecord, operatorRecord, listOf, zeros, workAfter}
 use Rattle.scope.specs.Plain.{unfoldingOf, comes, atStart}
 
@@ -48,6 +48,36 @@ PassesExactly =
 -- the position of a verdict is a place of the job, or its end
 abbrev pub Within : Type 0
 Within = (job : List ℕ) (work room : ℕ) → verdictOf job work room .position ≤ length job
+
+-- the code of a verdict is one of 0 to 29
+abbrev pub CodeKnown : Type 0
+CodeKnown = (job : List ℕ) (work room : ℕ) → verdictOf job work room .code ≤ 29
+
+-- what inner says: nothing; or the motif that was being read is faulty, by its code and at a place of its own or at its end, and the position is that of an
+-- EndStream
+pub data InnerSays (job : List ℕ) (e : Outcome) : Type 0 where
+  nothing : e .inner ≡ outer → InnerSays job e
+  of-motif : motifOf (sessionOf (e .state .place) .held) (joinedOf (sessionOf (e .state .place) .busy)) ≡ Judged.faulty (e .code) (e .inner)
+      → e .inner ≤ length (joinedOf (sessionOf (e .state .place) .busy)) → getD job (e .position) 0 ≡ EndStream → InnerSays job e
+
+-- inner is 4294967295 unless a motif is faulty
+abbrev pub InnerKnown : Type 0
+InnerKnown = (job : List ℕ) (work room : ℕ) → InnerSays job (outcomeOf every job work room)
+
+-- none of these rules is broken
+pub data BreaksNone (c : Case) : List Rule → Type 0 where
+  none : BreaksNone c []
+  kept : {code : ℕ} {broken : Case → Bool} {rs : List Rule} → broken c ≡ false → BreaksNone c rs → BreaksNone c (rule code broken ∷ rs)
+  sound : {ops : List Own} {depth : ℕ} {rs : List Rule} → c .made ≡ Judged.valid ops depth → BreaksNone c rs → BreaksNone c (motifs-own ∷ rs)
+
+-- the first fault: of a job that is let in and has a header, one operator after the other is performed, each of which is read without a fault and breaks no rule;
+-- and there its judging ends, at the end of the job, at what reading refuses, or at an operator that a rule refuses
+abbrev pub FirstFault : Type 0
+FirstFault =
+    (job : List ℕ) (work room : ℕ) (high : Bool) (next : ℕ) → 16384 ≤ work → length job ≤ 61440 → headerOf job ≡ Header.is high next
+    → Comes every (record { high = high; gray = startsGray }) job room (starting next) (outcomeOf every job work room)
+    × ((st : State) (o : Operator) → Performs every (record { high = high; gray = startsGray }) job room st o
+    → BreaksNone (caseAt (record { high = high; gray = startsGray }) job st o) (rules room))
 
 -- an attribute that has moved with the bytes from place p to place q: the same but for its two places
 pub record AttributeMoved (p q : ℕ) (a b : Attribute) : Type 0 where

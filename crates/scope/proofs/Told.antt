@@ -1,0 +1,179 @@
+-- What a verdict can say: its code, its inner place, and that every operator before the refused one breaks no rule.
+-- Assumes nothing.
+use Prim.Native.Nat.{ℕ, _≤_}
+use mathlib.Core.Path.{_≡_, refl, sym, ap, _∙_, subst, subst⁻¹}
+use mathlib.Core.Bool.{Bool, true, false, _&&_}
+use mathlib.Core.List.{List, [], _∷_}
+use native.Mathlib.Omega.{arith}
+use borrow.Author.Tests.{eqb-true}
+use lib.ListN.{length, getD}
+use lib.Dec.{leb, eqb}
+use Rattle.scope.specs.Choice.{pick, between}
+use Rattle.scope.specs.Header.{Header, headerOf}
+use Rattle.scope.specs.Item.{Attribute, Pair, Scan, Walk, endedWith, onPair, scanItem, scanStep, scanFrom, scanAt, pairAt, after as blackAfter}
+use Rattle.scope.specs.Table.{table, lineIn}
+use Rattle.scope.specs.Reading.{Context, Operator, Read, scanned, operatorAt}
+use Rattle.scope.specs.Motif.{Motif, Judged, valid, faulty, motifOf}
+use Rattle.scope.specs.Session.{Setting, Place, outside, inside, sessionOf, joinedOf}
+use Rattle.scope.specs.Judge.{State, Case, Rule, rule, motifs-own, rules, Refusal, ownOr, firstBroken, judgedAt, caseOf, contextOf, Outcome, outer, refusedAt, endAt, starting, judgedFrom}
+use Rattle.scope.specs.Verdict.{startsGray, every, judgedAfter, Entry, entryOf, outcomeAt, outcomeOf, verdictOf}
+use Rattle.scope.specs.Runs.{readAt, caseAt, Ends, ended, unread, refused, Comes}
+use Rattle.scope.specs.Claims.{CodeKnown, InnerSays, nothing, of-motif, InnerKnown, BreaksNone, FirstFault}
+use Rattle.scope.proofs.Ends.{pick-all, Kept, kept-go, kept-stop, iterate-holds, coded-between, ZeroOr, none-given, given}
+use Rattle.scope.proofs.Apart.{is-none, not-valid}
+use Rattle.scope.proofs.Through.{through}
+use Rattle.scope.proofs.Placed.{motif-placed}
+use Rattle.scope.proofs.Codes.{header-good}
+use Rattle.scope.proofs.Buffers.{Entered, short-work, long-job, entered, late-code, header-late}
+use Rattle.scope.proofs.Runs.{runs-of}
+use Rattle.scope.proofs.Sessions.{between-judged}
+use Rattle.scope.proofs.Places.{between-start}
+
+code-low : (k : ℕ) → ZeroOr k → k ≤ 29
+code-low k none-given = omega arith
+code-low k (given c) = let h = coded-between k c in omega arith
+
+code-entered : (job : List ℕ) (room : ℕ) {e : Entry} → Entered e → outcomeAt every job room e .code ≤ 29
+unfolding outcomeAt
+code-entered job room short-work = omega arith
+code-entered job room long-job = omega arith
+code-entered job room Entered.inside = code-low _ (late-code (header-late job room (header-good job)))
+
+pub code-known : CodeKnown
+unfolding verdictOf outcomeOf
+code-known job work room = code-entered job room (entered (length job) work)
+
+-- an operator's tag stands at its place
+module _ (s : List ℕ) where
+  abbrev ScanTag : Scan → Type 0
+  ScanTag (Scan.tagged tag at l) = getD s at 0 ≡ tag
+  ScanTag Scan.ended = Unit {0}
+  ScanTag (Scan.no code place) = Unit {0}
+
+  abbrev Any : Walk → Type 0
+  Any w = Unit {0}
+
+  ended-tag : (l : List Attribute) → ScanTag (endedWith s l)
+  unfolding endedWith
+  ended-tag [] = tt
+  ended-tag (a ∷ l) = tt
+
+  pair-tag : (l : List Attribute) (r : Pair) → Kept Any ScanTag (onPair s l r)
+  unfolding onPair
+  pair-tag l (Pair.is a n) = kept-go tt
+  pair-tag l (Pair.no code place) = kept-stop tt
+  pair-tag l Pair.waits = kept-stop tt
+
+  step-tag : (high : Bool) (w : Walk) → Any w → Kept Any ScanTag (scanStep high s w)
+  unfolding scanStep scanItem
+  step-tag high w u =
+      pick-all (Kept Any ScanTag) (leb (length s) (blackAfter s (w .at))) (λ _. kept-stop (ended-tag (w .attrs)))
+      (λ _. pick-all (Kept Any ScanTag) (between 0x41 0xbf (getD s (blackAfter s (w .at)) 0)) (λ _. kept-stop refl)
+      (λ _. pair-tag (w .attrs) (pairAt high s (blackAfter s (w .at)) (length (w .attrs)))))
+
+  scan-tag : (high : Bool) (at : ℕ) → ScanTag (scanAt high s at)
+  unfolding scanAt scanFrom
+  scan-tag high at = iterate-holds (scanStep high s) Scan.ended Any ScanTag tt (step-tag high) _ (record { at = at; attrs = [] }) tt
+
+  abbrev ReadTag : Read → Type 0
+  ReadTag (Read.operator o) = getD s (o .at) 0 ≡ o .tag
+  ReadTag Read.ended = Unit {0}
+  ReadTag (Read.no code place) = Unit {0}
+
+  scanned-tag : (c : Context) (r : Scan) → ScanTag r → ReadTag (scanned c s r)
+  unfolding scanned
+  scanned-tag c (Scan.tagged tag at l) h = through ReadTag (λ _ _. tt) c s tag at l (λ o e f _. ap (λ k. getD s k 0) f ∙ h ∙ sym e) (lineIn table tag)
+  scanned-tag c Scan.ended h = tt
+  scanned-tag c (Scan.no code place) h = tt
+
+  pub read-tag : (c : Context) (at : ℕ) (o : Operator) → operatorAt c s at ≡ Read.operator o → getD s (o .at) 0 ≡ o .tag
+  unfolding operatorAt
+  read-tag c at o e = subst ReadTag e (scanned-tag c (scanAt (c .high) s at) (scan-tag (c .high) at))
+
+-- a refusal says no inner place, or it is the motif's own
+data Whose (c : Case) : Refusal → Type 0 where
+  nobody : Whose c Refusal.none
+  rule-of-job : {code : ℕ} → Whose c (Refusal.refused code outer)
+  motif's : {code inner : ℕ} → c .made ≡ faulty code inner → Whose c (Refusal.refused code inner)
+
+own-whose : (c : Case) (m : Judged) → c .made ≡ m → (r : Refusal) → Whose c r → Whose c (ownOr m r)
+own-whose c (valid ops d) e r h = h
+own-whose c (faulty code inner) e r h = motif's e
+
+whose : (codes : ℕ → Bool) (c : Case) (rs : List Rule) → Whose c (firstBroken codes c rs)
+unfolding firstBroken
+whose codes c [] = nobody
+whose codes c (rule k broken ∷ rs) = pick-all (Whose c) (codes k && broken c) (λ _. rule-of-job) (λ _. whose codes c rs)
+whose codes c (motifs-own ∷ rs) = own-whose c (c .made) refl (firstBroken codes c rs) (whose codes c rs)
+
+-- a faulty motif is judged at an EndStream
+at-end : (held : List Motif) (joined : List ℕ) (tag code inner : ℕ) → judgedAt held joined tag ≡ faulty code inner → (tag ≡ 0x5d) × (motifOf held joined ≡ faulty code inner)
+unfolding judgedAt
+at-end held joined tag code inner e = by (eqb tag 0x5d) refl e
+  where
+    by : (b : Bool) → eqb tag 0x5d ≡ b → pick b (motifOf held joined) (valid [] 1) ≡ faulty code inner → (tag ≡ 0x5d) × (motifOf held joined ≡ faulty code inner)
+    by true f g = (eqb-true tag 0x5d f, g)
+    by false f g = not-valid (sym g)
+
+module _ (set : Setting) (s : List ℕ) (room : ℕ) where
+  end-inner : (st : State) (p : Place) → InnerSays s (endAt s st p)
+  unfolding endAt
+  end-inner st (outside true) = nothing refl
+  end-inner st (outside false) = nothing refl
+  end-inner st (inside x) = nothing refl
+
+  refused-inner : (st : State) (o : Operator) (code inner : ℕ) → readAt every set s st ≡ Read.operator o → Whose (caseAt set s st o) (Refusal.refused code inner)
+      → InnerSays s (refusedAt code (o .at) inner st)
+  unfolding caseOf contextOf
+  refused-inner st o code inner r rule-of-job = nothing refl
+  refused-inner st o code inner r (motif's e) =
+      let x = sessionOf (st .place) in
+      let h = at-end (x .held) (joinedOf (x .busy)) (o .tag) code inner e in
+      of-motif (h .1) (motif-placed (x .held) (joinedOf (x .busy)) code inner (h .1)) (read-tag s (contextOf every (set .high) (st .place)) (st .at) o r ∙ h .0)
+
+  ends-inner : (st : State) (e : Outcome) → Ends every set s room st e → InnerSays s e
+  ends-inner st e (ended r) = end-inner st (st .place)
+  ends-inner st e (unread r) = nothing refl
+  ends-inner st e (refused {code = code} {inner = inner} {o = o} r b) =
+      refused-inner st o code inner r (subst (Whose (caseAt set s st o)) b (whose every (caseAt set s st o) (rules room)))
+
+  judged-inner : (st : State) → InnerSays s (judgedFrom every set s room st)
+  judged-inner st = let c = runs-of every set s room st in ends-inner (c .last) (judgedFrom every set s room st) (c .ends)
+
+header-inner : (job : List ℕ) (room : ℕ) (h : Header) → InnerSays job (judgedAfter every job room h)
+unfolding judgedAfter
+header-inner job room (Header.is high next) = judged-inner (record { high = high; gray = startsGray }) job room (starting next)
+header-inner job room (Header.no code place) = nothing refl
+
+entry-inner : (job : List ℕ) (room : ℕ) (e : Entry) → InnerSays job (outcomeAt every job room e)
+unfolding outcomeAt
+entry-inner job room (Entry.refused code position) = nothing refl
+entry-inner job room Entry.admitted = header-inner job room (headerOf job)
+
+pub inner-known : InnerKnown
+unfolding outcomeOf
+inner-known job work room = entry-inner job room (entryOf (length job) work)
+
+-- where no rule refuses, none is broken
+breaks-none : (c : Case) (rs : List Rule) → firstBroken every c rs ≡ Refusal.none → BreaksNone c rs
+unfolding firstBroken
+breaks-none c [] e = BreaksNone.none
+breaks-none c (rule k broken ∷ rs) e = by (broken c) refl e (breaks-none c rs)
+  where
+    by : (b : Bool) → broken c ≡ b → pick b (Refusal.refused k outer) (firstBroken every c rs) ≡ Refusal.none → (firstBroken every c rs ≡ Refusal.none → BreaksNone c rs)
+        → BreaksNone c (rule k broken ∷ rs)
+    by true f g h = absurd (is-none g)
+    by false f g h = BreaksNone.kept f (h g)
+breaks-none c (motifs-own ∷ rs) e = by (c .made) refl e (breaks-none c rs)
+  where
+    by : (m : Judged) → c .made ≡ m → ownOr m (firstBroken every c rs) ≡ Refusal.none → (firstBroken every c rs ≡ Refusal.none → BreaksNone c rs) → BreaksNone c (motifs-own ∷ rs)
+    by (valid ops d) f g h = BreaksNone.sound f (h g)
+    by (faulty code inner) f g h = absurd (is-none g)
+
+pub first-fault : FirstFault
+first-fault job work room high next h k e =
+    let set : Setting = record { high = high; gray = startsGray } in (
+      subst⁻¹ (Comes every set job room (starting next)) (between-judged job work room high (starting next) h k (between-start job room high next e))
+          (runs-of every set job room (starting next)),
+      λ st o p. breaks-none (caseAt set job st o) (rules room) (p .kept),
+    )
