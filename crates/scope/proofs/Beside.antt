@@ -88,6 +88,17 @@ module _ (given other : ℕ → Bool) (alike : AlikeGiven given other) where
       by (silent s) = s Refusal.none
       by (speaks code inner s) = absurd (is-none (sym (s (limits given room c)) ∙ sym (broken-is given room c) ∙ e))
 
+  -- where the numbers before and the rooms are the same, the rules say the same
+  pub equal-broken : (room space : ℕ) {m n r q : ℕ} {c d : Case} → LikeCase m n r q c d → ((k : ℕ) → given k ≡ other k) → m ≡ n → r ≡ q → room ≡ space
+      → firstBroken given c (rules room) ≡ firstBroken other d (rules space)
+  unfolding limits countOver roomOver
+  equal-broken room space {c = c} {d = d} h g en eo er =
+      let ec : c .seen .count ≡ d .seen .count = let k = h .count in omega arith in
+      let ed : c .records ≡ d .records = let k = h .records in omega arith in
+      broken-is given room c ∙ chain-like given other alike h (limits given room c)
+      ∙ ap (chain other d) (λ i. pick (g 26 i && ltb 1_000_000 (ec i)) (Refusal.refused 26 outer) (pick (g 28 i && ltb (er i) (ed i * 16)) (Refusal.refused 28 outer) Refusal.none))
+      ∙ sym (broken-is other space d)
+
 -- two jobs; their places that belong together; m and n operators, r and q records before
 module _ (given other : ℕ → Bool) (alike : AlikeGiven given other) (set turned : Setting) (same-gray : set .gray ≡ turned .gray) (s t : List ℕ)
     (At : ℕ → ℕ → Type 0) (m n r q : ℕ) where

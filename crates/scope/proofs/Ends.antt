@@ -266,7 +266,7 @@ module _ (c : Context) (s : List ℕ) (at : ℕ) where
       with-attributes-good r (ill k′) = no k′
       with-attributes-good r good = as-whole-good (form-coded l (r .rules) (r .form))
 
-    with-line-good : (r : Line) → Good (withLine c s tag p l r)
+    pub with-line-good : (r : Line) → Good (withLine c s tag p l r)
     unfolding withLine
     with-line-good Line.none = no tt
     with-line-good (Line.is r) =

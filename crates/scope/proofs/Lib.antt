@@ -26,6 +26,10 @@ pub mod Sessions
 pub mod Records
 pub mod Places
 pub mod Told
+pub mod AheadItems
+pub mod AheadScan
+pub mod AheadRead
+pub mod Ahead
 pub mod Known
 pub mod Parts
 pub mod JobsRead

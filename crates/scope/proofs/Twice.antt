@@ -1,25 +1,23 @@
 -- Two judgings side by side, of two jobs whose bytes are the same from a place of each on: they go along together, operator by operator, until both end the same
 -- way or 26 or 28 ends one of them.
 -- Assumes nothing.
-use Prim.Native.Nat.{ℕ, _+_, _-_, _*_, _≤_}
+use Prim.Native.Nat.{ℕ, _+_, _-_, _≤_}
 use mathlib.Core.Path.{_≡_, refl, sym, ap, _∙_, subst, subst₂}
-use mathlib.Core.Bool.{Bool, true, false, _&&_}
+use mathlib.Core.Bool.{Bool, true, false}
 use mathlib.Core.List.{List, [], _∷_}
 use native.Mathlib.Omega.{arith}
 use lib.ListN.{length, drop}
-use lib.Dec.{ltb}
-use Rattle.scope.specs.Choice.{pick}
 use Rattle.scope.specs.Item.{Attribute}
 use Rattle.scope.specs.Reading.{Operator, Read, operatorAt}
 use Rattle.scope.specs.Session.{Setting, Place, outside, inside}
-use Rattle.scope.specs.Judge.{State, Case, Refusal, Outcome, rules, firstBroken, refusedAt, endAt, outer, countOver, roomOver, contextOf, judgedFrom}
+use Rattle.scope.specs.Judge.{State, Refusal, Outcome, rules, firstBroken, refusedAt, endAt, contextOf, judgedFrom}
 use Rattle.scope.specs.Runs.{readAt, caseAt, next, Performs, Runs, here, then, Ends, ended, unread, refused, Pairwise}
 use Rattle.scope.specs.Claims.{limit, AttributeMoved, AttributesMoved, OperatorMoved}
 use Rattle.scope.proofs.Runs.{runs-of}
-use Rattle.scope.proofs.Says.{Says, LikePlace, same-place, outsides, session-same, phase-same, LikeCase, chain, limits, broken-is, AlikeGiven, chain-like, case-like}
+use Rattle.scope.proofs.Says.{Says, LikePlace, same-place, outsides, session-same, phase-same, LikeCase, AlikeGiven, case-like}
 use Rattle.scope.proofs.Apart.{clash-of}
 use Rattle.scope.proofs.Moved.{operator-back}
-use Rattle.scope.proofs.Beside.{Starts, Both, agree, left-over, right-over, both, LikeState, next-like}
+use Rattle.scope.proofs.Beside.{equal-broken, Starts, Both, agree, left-over, right-over, both, LikeState, next-like}
 use Rattle.scope.proofs.Like.{Far, far-end, LikeAttr, LikeAttrs, nil, cons, LikeData, nowhere, read-from, LikeOp, LikeRead, read-like, has-like, value-in-like, bytes-in-like, attrs-length}
 
 -- which of the three a reading gives
@@ -106,16 +104,6 @@ module _ (s t : List ℕ) (p q : ℕ) (hp : p ≤ length s) (hq : q ≤ length t
     abbrev Differs : Type 0
     Differs = ((k : ℕ) → given k ≡ other k) → m ≡ n → r ≡ o → room ≡ space → ⊥
 
-    equal-broken : {c d : Case} → LikeCase m n r o c d → ((k : ℕ) → given k ≡ other k) → m ≡ n → r ≡ o → room ≡ space
-        → firstBroken given c (rules room) ≡ firstBroken other d (rules space)
-    unfolding limits countOver roomOver
-    equal-broken {c} {d} h g en eo er =
-        let ec : c .seen .count ≡ d .seen .count = let k = h .count in omega arith in
-        let ed : c .records ≡ d .records = let k = h .records in omega arith in
-        broken-is given room c ∙ chain-like given other alike h (limits given room c)
-        ∙ ap (chain other d) (λ i. pick (g 26 i && ltb 1_000_000 (ec i)) (Refusal.refused 26 outer) (pick (g 28 i && ltb (er i) (ed i * 16)) (Refusal.refused 28 outer) Refusal.none))
-        ∙ sym (broken-is other space d)
-
     -- how two judgings end
     pub data TwoEnds (os ps : List Operator) (e f : Outcome) : Type 0 where
       both-end : Pairwise (OperatorMoved p q) os ps → e .code ≡ f .code → F (e .position) (f .position) → e .inner ≡ f .inner
@@ -153,7 +141,7 @@ module _ (s t : List ℕ) (p q : ℕ) (hp : p ≤ length s) (hq : q ≤ length t
 
     numbers-differ : (x y : State) (a b : Operator) → St x y → Op a b → {f g : Refusal} → firstBroken given (caseAt set s x a) (rules room) ≡ f
         → firstBroken other (caseAt set t y b) (rules space) ≡ g → (f ≡ g → ⊥) → Differs
-    numbers-differ x y a b l h e k d eg en eo er = d (sym e ∙ equal-broken (the-cases x y a b l h) eg en eo er ∙ k)
+    numbers-differ x y a b l h e k d eg en eo er = d (sym e ∙ equal-broken given other alike room space (the-cases x y a b l h) eg en eo er ∙ k)
 
     refused-both : (x y : State) (a b : Operator) (l : St x y) → Op a b → {k i j c : ℕ} → Both (Refusal.refused k i) (Refusal.refused j c)
         → ((Refusal.refused k i ≡ Refusal.refused j c → ⊥) → Differs) → TwoEnds [] [] (refusedAt k (a .at) i x) (refusedAt j (b .at) c y)

@@ -6,6 +6,7 @@ use mathlib.Core.Bool.{Bool, true, false, _||_}
 use mathlib.Core.List.{List, [], _∷_, _++_}
 use lib.ListN.{length, take, drop, getD}
 use lib.Dec.{eqb}
+use Rattle.scope.specs.Choice.{among}
 use Rattle.scope.specs.Header.{Header, headerOf}
 use Rattle.scope.specs.Item.{Attribute, after}
 use Rattle.scope.specs.Reading.{Operator}
@@ -78,6 +79,30 @@ FirstFault =
     → Comes every (record { high = high; gray = startsGray }) job room (starting next) (outcomeOf every job work room)
     × ((st : State) (o : Operator) → Performs every (record { high = high; gray = startsGray }) job room st o
     → BreaksNone (caseAt (record { high = high; gray = startsGray }) job st o) (rules room))
+
+-- the codes of a job that is cut off: in an item, and elsewhere
+abbrev pub cutOff : ℕ → Bool
+cutOff code = eqb code 5 || eqb code 27
+
+-- the start of a job, with outcome e, and the whole job, with outcome f: they are the same; or the start passes, or is cut off, in its header or behind it, and no
+-- motif is faulty
+pub data StartOf (start : List ℕ) (e f : Outcome) : Type 0 where
+  same : e ≡ f → StartOf start e f
+  passes : e .code ≡ 0 → StartOf start e f
+  cut : cutOff (e .code) ≡ true → e .inner ≡ outer → StartOf start e f
+  in-header : e .code ≡ 2 → e .position ≡ length start → e .inner ≡ outer → StartOf start e f
+
+-- no looking ahead: a refusal other than 5, 27 and a 2 at the end of the bytes is there whatever stands behind them, with the same verdict and the same list
+abbrev pub NoLookingAhead : Type 0
+NoLookingAhead =
+    (start rest : List ℕ) (work room : ℕ) → length (start ++ rest) ≤ 61440
+    → StartOf start (outcomeOf every start work room) (outcomeOf every (start ++ rest) work room)
+
+-- cuts: each start of a job that passes gets 2, 5 or 27, with no motif at fault, or passes, since it ends between sessions
+abbrev pub Cuts : Type 0
+Cuts =
+    (start rest : List ℕ) (work room : ℕ) → verdictOf (start ++ rest) work room .code ≡ 0
+    → (among (0 ∷ 2 ∷ 5 ∷ 27 ∷ []) (verdictOf start work room .code) ≡ true) × (verdictOf start work room .inner ≡ outer)
 
 -- an attribute that has moved with the bytes from place p to place q: the same but for its two places
 pub record AttributeMoved (p q : ℕ) (a b : Attribute) : Type 0 where

@@ -1,0 +1,227 @@
+-- No looking ahead: the start of a job is judged as the of-whole job is, operator by operator, until its end cuts it off.
+-- Assumes nothing.
+use Prim.Native.Nat.{ℕ, zero, suc, _+_, _-_, _≤_, _<_}
+use mathlib.Core.Path.{_≡_, refl, ap, _∙_, subst, subst⁻¹}
+use mathlib.Core.Bool.{Bool, true, false, _&&_, _||_}
+use mathlib.Core.List.{List, [], _∷_, _++_}
+use native.Mathlib.Omega.{arith}
+use borrow.Author.Tests.{leb-true, le-ltb, ltb-false}
+use lib.ListN.{length, getD, length-append, List·getD-append}
+use lib.Dec.{ltb, leb, eqb}
+use Rattle.scope.specs.Choice.{pick, among}
+use Rattle.scope.specs.Iterate.{onward}
+use Rattle.scope.specs.Header.{Form, ends, breaks, Header, mayStand, formFrom, classed, headerOf}
+use Rattle.scope.specs.Reading.{Operator, Read}
+use Rattle.scope.specs.Motif.{Judged}
+use Rattle.scope.specs.Session.{Setting, Place, outside, inside}
+use Rattle.scope.specs.Judge.{State, Outcome, Refusal, caseOf, after, rules, firstBroken, outer, endAt, onRefusal, onCase, onRead, contextOf, jobStep, judgedFrom, starting}
+use Rattle.scope.specs.Verdict.{startsGray, every, judgedAfter, Entry, entryOf, outcomeAt, outcomeOf, verdictOf}
+use Rattle.scope.specs.Runs.{caseAt, next}
+use Rattle.scope.specs.Claims.{cutOff, StartOf, InnerSays, NoLookingAhead, Cuts}
+use Rattle.scope.proofs.Ends.{GoodRead, read-good}
+use Rattle.scope.proofs.Falls.{judged-step}
+use Rattle.scope.proofs.Codes.{GoodJudged, motif-good, not-coded}
+use Rattle.scope.proofs.Says.{Says, LikePlace, same-place, uncounted, case-like, place-like}
+use Rattle.scope.proofs.Beside.{equal-broken}
+use Rattle.scope.proofs.AheadRead.{OpIn, CutRead, ShortRead, value-in-cut, bytes-cut, stretch-cut, read-cut}
+use Rattle.scope.proofs.Told.{inner-known}
+
+module _ (u v : List ℕ) where
+  abbrev w : List ℕ
+  w = u ++ v
+
+  -- an operator all of which stands in u says the same in both
+  op-says : (high : Bool) (o : Operator) → OpIn u v o → Says high high u w o o
+  op-says high o i =
+      record {
+        tag = refl;
+        reads = refl;
+        size = refl;
+        many = refl;
+        there = λ n. refl;
+        value = λ n _. value-in-cut u v high n (i .attrs);
+        name = bytes-cut u v 139 (i .attrs);
+        block = stretch-cut u v (o .length) (o .first) (i .block);
+      }
+
+  module _ (set : Setting) (room : ℕ) where
+    -- so it is judged the same, and the state after it is the same
+    broken-same : (st : State) (o : Operator) → OpIn u v o → firstBroken every (caseAt set u st o) (rules room) ≡ firstBroken every (caseAt set w st o) (rules room)
+    broken-same st o i =
+        equal-broken every every (λ k _. refl) room room (case-like set set refl u w o o (op-says (set .high) o i) st st refl) (λ _. refl) refl refl refl
+
+    next-same : (st : State) (o : Operator) → OpIn u v o → next set u st o ≡ next set w st o
+    unfolding after caseOf uncounted
+    next-same st o i =
+        let z = op-says (set .high) o i in
+        let c = case-like set set refl u w o o z st st refl in
+        let q : LikePlace (Unit {0}) (st .place) (st .place) = same-place in
+        let p = place-like set set refl u w o o z (caseAt set u st o .seen .page) (caseAt set w st o .seen .page) (ap (λ x. x .page) (c .seen)) q in
+        let k = c .count in
+        let n : caseAt set u st o .seen .count ≡ caseAt set w st o .seen .count = omega arith in
+        λ j. record { at = o .next; place = p j; performed = n j; records = caseAt set u st o .records; past = o ∷ st .past }
+
+    abbrev of-start : State → Outcome
+    of-start = judgedFrom every set u room
+
+    abbrev of-whole : State → Outcome
+    of-whole = judgedFrom every set w room
+
+    end-cut : (st : State) (p : Place) (f : Outcome) → StartOf u (endAt u st p) f
+    unfolding endAt
+    end-cut st (outside true) f = StartOf.passes refl
+    end-cut st (outside false) f = StartOf.cut refl refl
+    end-cut st (inside x) f = StartOf.cut refl refl
+
+    module _ (n : ℕ) (ih : (st : State) → st .at ≤ length u → length u - st .at < n → StartOf u (of-start st) (of-whole st)) (st : State) where
+      by-rule : (o : Operator) → OpIn u v o → length u - o .next < n → (f : Refusal) → firstBroken every (caseAt set u st o) (rules room) ≡ f
+          → StartOf u (onward of-start (onRefusal set u st (caseAt set u st o) f)) (onward of-whole (onRefusal set w st (caseAt set w st o) f))
+      unfolding onRefusal
+      by-rule o i h Refusal.none e = subst (λ x. StartOf u (of-start (next set u st o)) (of-whole x)) (next-same st o i) (unfold after caseOf in ih (next set u st o) (i .ends) h)
+      by-rule o i h (Refusal.refused code inner) e = StartOf.same (unfold caseOf in refl)
+
+      by-case : (o : Operator) → OpIn u v o → length u - o .next < n
+          → StartOf u (onward of-start (onRead every set u room st (Read.operator o))) (onward of-whole (onRead every set w room st (Read.operator o)))
+      unfolding onRead onCase
+      by-case o i h =
+          subst (λ f. StartOf u (onward of-start (onRefusal set u st (caseAt set u st o) (firstBroken every (caseAt set u st o) (rules room)))) (onward of-whole (onRefusal set w st (caseAt set w st o) f)))
+          (broken-same st o i) (by-rule o i h (firstBroken every (caseAt set u st o) (rules room)) refl)
+
+      on-cut : length u - st .at < suc n → {may : ℕ → Bool} {x y : Read} → GoodRead (length u) (st .at) may x → CutRead u v x y
+          → StartOf u (onward of-start (onRead every set u room st x)) (onward of-whole (onRead every set w room st y))
+      unfolding onRead
+      on-cut h (GoodRead.operator {o = o} a b m) (CutRead.both i) = let k : length u - o .next < n = omega arith in by-case o i k
+      on-cut h g CutRead.same = StartOf.same refl
+      on-cut h g (CutRead.lost {x = x} {y = y} a b) = by x a
+        where
+          by : (x : Read) → ShortRead u v x → StartOf u (onward of-start (onRead every set u room st x)) (onward of-whole (onRead every set w room st y))
+          by (Read.operator o) k = absurd k
+          by Read.ended k = end-cut st (st .place) _
+          by (Read.no code place) k = StartOf.cut k refl
+
+    cut-from : (n : ℕ) (st : State) → st .at ≤ length u → length u - st .at < n → StartOf u (of-start st) (of-whole st)
+    unfolding jobStep
+    cut-from zero st h k = absurd (omega arith)
+    cut-from (suc n) st h k =
+        let c = contextOf every (set .high) (st .place) in
+        subst⁻¹ (λ x. StartOf u x (of-whole st)) (judged-step every set u room st)
+        (subst⁻¹ (λ y. StartOf u (onward of-start (jobStep every set u room st)) y) (judged-step every set w room st)
+        (on-cut n (cut-from n) st k (read-good c u (st .at)) (read-cut u v c (st .at) h)))
+
+-- the form of a header: it ends within u, it breaks at the same place in both, or the end of u cuts it off
+data FormCut (i : ℕ) (u : List ℕ) : Form → Form → Type 0 where
+  ended : {n : ℕ} → 16 ≤ n → n ≤ i + length u → FormCut i u (ends n) (ends n)
+  broken : {k : ℕ} → FormCut i u (breaks k) (breaks k)
+  cut-short : {f : Form} → FormCut i u (breaks (i + length u)) f
+
+form-up : {i : ℕ} {b : ℕ} {bs : List ℕ} {f g : Form} → FormCut (suc i) bs f g → FormCut i (b ∷ bs) f g
+form-up {i} {b} {bs} (ended {n = n} h k) = let l : n ≤ i + length (b ∷ bs) = omega arith in ended h l
+form-up broken = broken
+form-up {i} {b} {bs} (cut-short {f = f}) = let e : suc i + length bs ≡ i + length (b ∷ bs) = omega arith in subst⁻¹ (λ k. FormCut i (b ∷ bs) (breaks k) f) e cut-short
+
+both-true : (a b : Bool) → (a && b) ≡ true → a ≡ true
+both-true true b e = refl
+both-true false b e = e
+
+form-cut : (i : ℕ) (u v : List ℕ) → FormCut i u (formFrom i u) (formFrom i (u ++ v))
+unfolding formFrom
+form-cut i [] v = let e : i ≡ i + 0 = omega arith in subst⁻¹ (λ k. FormCut i [] (breaks k) (formFrom i v)) e cut-short
+form-cut i (b ∷ bs) v = by (mayStand i b) (leb 15 i && eqb b 0x0a) refl (form-cut (suc i) bs v)
+  where
+    by : (x y : Bool) → (leb 15 i && eqb b 0x0a) ≡ y → FormCut (suc i) bs (formFrom (suc i) bs) (formFrom (suc i) (bs ++ v))
+        → FormCut i (b ∷ bs) (elim x [ false ↦ breaks i | true ↦ elim y [ true ↦ ends (suc i) | false ↦ formFrom (suc i) bs ] ])
+        (elim x [ false ↦ breaks i | true ↦ elim y [ true ↦ ends (suc i) | false ↦ formFrom (suc i) (bs ++ v) ] ])
+    by false y e h = broken
+    by true true e h =
+        let l = leb-true 15 i (both-true (leb 15 i) (eqb b 0x0a) e) in
+        let p : 16 ≤ suc i = omega arith in
+        let q : suc i ≤ i + length (b ∷ bs) = omega arith in
+        ended p q
+    by true false e h = form-up h
+
+data HeaderCut (u : List ℕ) : Header → Header → Type 0 where
+  alike : {high : Bool} {next : ℕ} → next ≤ length u → HeaderCut u (Header.is high next) (Header.is high next)
+  refused : {code place : ℕ} → HeaderCut u (Header.no code place) (Header.no code place)
+  header-short : {h : Header} → HeaderCut u (Header.no 2 (length u)) h
+
+classed-cut : (u v : List ℕ) {f g : Form} → FormCut 0 u f g → HeaderCut u (classed u f) (classed (u ++ v) g)
+unfolding classed
+classed-cut u v (ended {n = n} h k) =
+    rw (List·getD-append u v 0 0 (omega arith), List·getD-append u v 0 12 (omega arith), List·getD-append u v 0 14 (omega arith))
+    (by (eqb (getD u 12 0) 0x31 && eqb (getD u 14 0) 0x31))
+  where
+    by : (b : Bool) → HeaderCut u (pick b (Header.is (eqb (getD u 0 0) 0x28) n) (Header.no 4 12)) (pick b (Header.is (eqb (getD u 0 0) 0x28) n) (Header.no 4 12))
+    by true = let l : n ≤ length u = omega arith in alike l
+    by false = refused
+classed-cut u v broken = refused
+classed-cut u v (cut-short {f = f}) =
+    let e : 0 + length u ≡ length u = omega arith in subst⁻¹ (λ k. HeaderCut u (Header.no 2 k) (classed (u ++ v) f)) e header-short
+
+header-cut : (u v : List ℕ) → HeaderCut u (headerOf u) (headerOf (u ++ v))
+unfolding headerOf
+header-cut [] v = unfold formFrom classed in header-short
+header-cut (b ∷ bs) v = by (eqb b 0x27)
+  where
+    by : (x : Bool) → HeaderCut (b ∷ bs) (pick x (Header.no 3 0) (classed (b ∷ bs) (formFrom 0 (b ∷ bs)))) (pick x (Header.no 3 0) (classed (b ∷ (bs ++ v)) (formFrom 0 (b ∷ (bs ++ v)))))
+    by true = refused
+    by false = classed-cut (b ∷ bs) v (form-cut 0 (b ∷ bs) v)
+
+after-header : (u v : List ℕ) (room : ℕ) {g h : Header} → HeaderCut u g h → StartOf u (judgedAfter every u room g) (judgedAfter every (u ++ v) room h)
+unfolding judgedAfter
+after-header u v room (alike {high = high} {next = next} k) =
+    cut-from u v (record { high = high; gray = startsGray }) room (suc (length u - next)) (starting next) k (omega arith)
+after-header u v room refused = StartOf.same refl
+after-header u v room header-short = StartOf.in-header refl refl refl
+
+pub no-looking-ahead : NoLookingAhead
+unfolding outcomeOf entryOf outcomeAt
+no-looking-ahead u v work room h =
+    let e = length-append u v in
+    rw (le-ltb 61440 (length u) (omega arith), le-ltb 61440 (length (u ++ v)) h) (by (ltb work 16384))
+  where
+    by : (b : Bool) → StartOf u (outcomeAt every u room (pick b (Entry.refused 29 0) Entry.admitted)) (outcomeAt every (u ++ v) room (pick b (Entry.refused 29 0) Entry.admitted))
+    by true = StartOf.same refl
+    by false = after-header u v room (header-cut u v)
+
+-- a job that passes is not too long
+let-in : (job : List ℕ) (work room : ℕ) → verdictOf job work room .code ≡ 0 → length job ≤ 61440
+unfolding verdictOf outcomeOf entryOf outcomeAt
+let-in job work room pass = by (ltb work 16384) (ltb 61440 (length job)) refl pass
+  where
+    by : (a b : Bool) → ltb 61440 (length job) ≡ b → outcomeAt every job room (pick a (Entry.refused 29 0) (pick b (Entry.refused 1 61440) Entry.admitted)) .code ≡ 0
+        → length job ≤ 61440
+    by true b e k = absurd (omega arith)
+    by false true e k = absurd (omega arith)
+    by false false e k = ltb-false 61440 (length job) e
+
+-- with a pass no motif is at fault
+passes-outer : (job : List ℕ) (e : Outcome) → InnerSays job e → e .code ≡ 0 → e .inner ≡ outer
+passes-outer job e (InnerSays.nothing h) k = h
+passes-outer job e (InnerSays.of-motif m i t) k = by (subst GoodJudged m (motif-good _ _))
+  where
+    by : GoodJudged (Judged.faulty (e .code) (e .inner)) → e .inner ≡ outer
+    by (GoodJudged.ill c) = not-coded (e .code) c k
+
+early-code : (k : ℕ) → cutOff k ≡ true → among (0 ∷ 2 ∷ 5 ∷ 27 ∷ []) k ≡ true
+unfolding among
+early-code k e = by (eqb k 0) (eqb k 2) (eqb k 5) (eqb k 27) e
+  where
+    by : (a b c d : Bool) → (c || d) ≡ true → pick a true (pick b true (pick c true (pick d true false))) ≡ true
+    by true b c d e = refl
+    by false true c d e = refl
+    by false false true d e = refl
+    by false false false true e = refl
+    by false false false false e = e
+
+cuts-of : (start : List ℕ) (e f : Outcome) → InnerSays start e → StartOf start e f → f .code ≡ 0 → (among (0 ∷ 2 ∷ 5 ∷ 27 ∷ []) (e .code) ≡ true) × (e .inner ≡ outer)
+unfolding among
+cuts-of start e f i (StartOf.same s) k = let z : e .code ≡ 0 = ap (λ x. x .code) s ∙ k in (rw z refl, passes-outer start e i z)
+cuts-of start e f i (StartOf.passes s) k = (rw s refl, passes-outer start e i s)
+cuts-of start e f i (StartOf.cut s o) k = (early-code (e .code) s, o)
+cuts-of start e f i (StartOf.in-header s p o) k = (rw s refl, o)
+
+pub cuts : Cuts
+unfolding verdictOf
+cuts start rest work room pass =
+    cuts-of start (outcomeOf every start work room) (outcomeOf every (start ++ rest) work room) (inner-known start work room)
+    (no-looking-ahead start rest work room (let-in (start ++ rest) work room pass)) pass

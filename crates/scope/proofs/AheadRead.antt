@@ -1,0 +1,230 @@
+-- No looking ahead: what is read in u is read in u with anything behind it, an operator or a refusal, unless the end of u cuts it off.
+-- Assumes nothing.
+use Prim.Native.Nat.{ℕ, suc, _+_, _-_, _≤_, _<_}
+use mathlib.Core.Path.{_≡_, refl, sym, ap, _∙_, subst}
+use mathlib.Core.Bool.{Bool, true, false, not, _&&_, _||_}
+use mathlib.Core.List.{List, [], _∷_, _++_}
+use native.Mathlib.Omega.{arith}
+use borrow.Author.Tests.{leb-true, leb-false, le-leb, lt-leb, eqb-true}
+use lib.ListN.{length, getD, take, drop, length-drop}
+use lib.Seq.{drop-append-le, take-append-le}
+use lib.Dec.{leb, eqb}
+use Rattle.scope.specs.Choice.{pick, between}
+use Rattle.scope.specs.Number.{place, number}
+use Rattle.scope.specs.Item.{Attribute, Scan}
+use Rattle.scope.specs.Table.{Takes, E, N, P, B, A, D, M, Rule, Row, Line, Ruled, table, lineIn, ruleIn}
+use Rattle.scope.specs.Attributes.{Fault, fine, bad, has, firstOf, secondOf, typeTaken, inRange, attributeCode, oneByOne, valueIn, bytesIn}
+use Rattle.scope.specs.Data.{Image, Due, Found, dueOf, blockOf, blockAt}
+use Rattle.scope.specs.Order.{mayCome, imageOf, rowsFit}
+use Rattle.scope.specs.Reading.{Context, Operator, Read, withBlock, withData, asWhole, withAttributes, withLine, scanned, operatorAt}
+use Rattle.scope.specs.Claims.{cutOff}
+use Rattle.scope.proofs.Ends.{pick-all, GoodRead, with-line-good}
+use Rattle.scope.proofs.AheadItems.{pick-both, longer, byte-cut, number-cut, CutPlace, within, past, after-cut, Inside, AllIn, none, more, all-up}
+use Rattle.scope.proofs.AheadScan.{CutScan, BeyondScan, ShortScan, scan-cut}
+
+module _ (u v : List ℕ) where
+  abbrev w : List ℕ
+  w = u ++ v
+
+  -- what is looked at of attributes that stand in u
+  two-at-most : (t : ℕ) → pick (eqb t 0xc0) 1 2 ≤ 2
+  two-at-most t = pick-all (λ k. k ≤ 2) (eqb t 0xc0) (λ _. omega arith) (λ _. omega arith)
+
+  pick-when : {A : Type 0} (b : Bool) (x y z : A) → (b ≡ true → x ≡ y) → pick b x z ≡ pick b y z
+  pick-when true x y z h = h refl
+  pick-when false x y z h = refl
+
+  module _ (high : Bool) where
+    first-cut : {a : Attribute} → Inside (length u) a → firstOf high u a ≡ firstOf high w a
+    unfolding firstOf
+    first-cut {a} i = let x = two-at-most (a .tag) in let y = i .word in number-cut u v high (pick (eqb (a .tag) 0xc0) 1 2) (a .first) (omega arith)
+
+    second-cut : {a : Attribute} → Inside (length u) a → a .tag ≡ 0xd1 → secondOf high u a ≡ secondOf high w a
+    unfolding secondOf
+    second-cut {a} i e = let y = i .words e in number-cut u v high 2 (a .first + 2) (omega arith)
+
+    range-cut : (k : Takes) (a : Attribute) → Inside (length u) a → typeTaken k (a .tag) ≡ true → inRange high u k a ≡ inRange high w k a
+    unfolding inRange typeTaken
+    range-cut (E low up) a i e = ap (between low up) (first-cut i)
+    range-cut (N low) a i e = ap (leb low) (first-cut i)
+    range-cut P a i e = refl
+    range-cut B a i e = refl
+    range-cut (A low up) a i e = refl
+    range-cut (D low) a i e =
+        let x = first-cut i in let y = second-cut i (eqb-true (a .tag) 0xd1 e) in (λ j. leb low (x j) && leb low (y j))
+    range-cut M a i e = ap (λ z. between 0 12 z || between 14 16 z) (first-cut i)
+
+    code-cut : (before : List Attribute) (a : Attribute) → Inside (length u) a → (r : Ruled) → attributeCode high u before a r ≡ attributeCode high w before a r
+    unfolding attributeCode
+    code-cut before a i Ruled.none = refl
+    code-cut before a i (Ruled.is r) =
+        ap (pick (has (a .number) before) 12) (pick-when (typeTaken (r .takes) (a .tag)) _ _ 15 (λ e. ap (λ b. pick b 0 16) (range-cut (r .takes) a i e)))
+
+    one-cut : (rs : List Rule) (before l : List Attribute) → AllIn (length u) l → oneByOne high u rs before l ≡ oneByOne high w rs before l
+    unfolding oneByOne
+    one-cut rs before [] none = refl
+    one-cut rs before (a ∷ l) (more i k) =
+        let e = code-cut before a i (ruleIn rs (a .number)) in
+        let f = one-cut rs (before ++ (a ∷ [])) l k in
+        (λ j. pick (eqb (e j) 0) (f j) (bad (e j) (a .at)))
+
+    pub value-in-cut : (n : ℕ) {l : List Attribute} → AllIn (length u) l → valueIn high u l n ≡ valueIn high w l n
+    unfolding valueIn
+    value-in-cut n none = refl
+    value-in-cut n (more {a = a} i k) = let e = first-cut i in let f = value-in-cut n k in (λ j. pick (eqb (a .number) n) (e j) (f j))
+
+    rows-cut : (i : Image) (tag : ℕ) {l : List Attribute} → AllIn (length u) l → rowsFit high u i tag l ≡ rowsFit high w i tag l
+    unfolding rowsFit
+    rows-cut i tag k = rw (value-in-cut 109 k, value-in-cut 99 k) refl
+
+    due-cut : (i : Image) (tag : ℕ) {l : List Attribute} → AllIn (length u) l → dueOf high u i tag l ≡ dueOf high w i tag l
+    unfolding dueOf
+    due-cut i tag k = rw (value-in-cut 140 k, value-in-cut 99 k, value-in-cut 80 k, value-in-cut 77 k) refl
+
+  pub stretch-cut : (k at : ℕ) → at + k ≤ length u → take k (drop at u) ≡ take k (drop at w)
+  stretch-cut k at h =
+      let e = length-drop at u in
+      let l : k ≤ length (drop at u) = omega arith in
+      sym (take-append-le k (drop at u) v l) ∙ ap (take k) (sym (drop-append-le at u v (omega arith)))
+
+  pub bytes-cut : (n : ℕ) {l : List Attribute} → AllIn (length u) l → bytesIn u l n ≡ bytesIn w l n
+  unfolding bytesIn
+  bytes-cut n none = refl
+  bytes-cut n (more {a = a} i k) =
+      let e = stretch-cut (a .count) (a .first) (i .many) in let f = bytes-cut n k in (λ j. pick (eqb (a .number) n) (e j) (f j))
+
+  -- data
+  abbrev BeyondFound : ℕ → Found → Type 0
+  BeyondFound due (Found.at first) = length u < first + due
+  BeyondFound due (Found.no code place) = Unit {0}
+
+  data CutFound (due : ℕ) : Found → Found → Type 0 where
+    both : {first : ℕ} → first + due ≤ length u → CutFound due (Found.at first) (Found.at first)
+    same : {code place : ℕ} → CutFound due (Found.no code place) (Found.no code place)
+    lost : {code place : ℕ} {y : Found} → cutOff code ≡ true → BeyondFound due y → CutFound due (Found.no code place) y
+
+  module _ (high : Bool) (op due : ℕ) where
+    block-of-beyond : (p b : ℕ) → length u < p + 1 + b + due → BeyondFound due (blockOf high w op due p b)
+    unfolding blockOf
+    block-of-beyond p b h =
+        pick-all (BeyondFound due) (leb (p + 1 + b) (length w))
+        (λ _. pick-all (BeyondFound due) (eqb (number high b w (p + 1)) due) (λ _. pick-all (BeyondFound due) (leb (p + 1 + b + due) (length w)) (λ _. h) (λ _. tt)) (λ _. tt))
+        (λ _. tt)
+
+    block-of-cut : (p b : ℕ) → CutFound due (blockOf high u op due p b) (blockOf high w op due p b)
+    unfolding blockOf
+    block-of-cut p b =
+        pick-all (λ z. CutFound due z (blockOf high w op due p b)) (leb (p + 1 + b) (length u))
+        (λ t. let x = leb-true (p + 1 + b) (length u) t in let y = longer u v in
+        rw (le-leb (p + 1 + b) (length w) (omega arith), number-cut u v high b (p + 1) x)
+        (pick-both (CutFound due) (eqb (number high b w (p + 1)) due)
+        (λ _. pick-all (λ z. CutFound due z (pick (leb (p + 1 + b + due) (length w)) (Found.at (p + 1 + b)) (Found.no 5 p))) (leb (p + 1 + b + due) (length u))
+        (λ t2. let x2 = leb-true (p + 1 + b + due) (length u) t2 in rw (le-leb (p + 1 + b + due) (length w) (omega arith)) (both x2))
+        (λ f. lost refl (pick-all (BeyondFound due) (leb (p + 1 + b + due) (length w)) (λ _. leb-false (p + 1 + b + due) (length u) f) (λ _. tt)))) (λ _. same)))
+        (λ f. let x = leb-false (p + 1 + b) (length u) f in lost refl (block-of-beyond p b (omega arith)))
+
+    block-beyond : (r : ℕ) → length u ≤ r → BeyondFound due (blockAt high w op due r)
+    unfolding blockAt
+    block-beyond r h =
+        pick-all (BeyondFound due) (leb (length w) r) (λ _. tt)
+        (λ _. pick-all (BeyondFound due) (eqb (getD w r 0) 0xfa) (λ _. block-of-beyond r 4 (omega arith))
+        (λ _. pick-all (BeyondFound due) (eqb (getD w r 0) 0xfb) (λ _. block-of-beyond r 1 (omega arith)) (λ _. tt)))
+
+    block-cut : {p r : ℕ} → CutPlace u v p r → CutFound due (blockAt high u op due p) (blockAt high w op due r)
+    unfolding blockAt
+    block-cut (within {p = p} k) =
+        let y = longer u v in
+        rw (lt-leb (length u) p k, lt-leb (length w) p (omega arith), byte-cut u v p k)
+        (pick-both (CutFound due) (eqb (getD w p 0) 0xfa) (λ _. block-of-cut p 4)
+        (λ _. pick-both (CutFound due) (eqb (getD w p 0) 0xfb) (λ _. block-of-cut p 1) (λ _. same)))
+    block-cut (past {p = p} {r = r} k l) = rw (le-leb (length u) p k) (lost refl (block-beyond r l))
+
+  -- an operator all of which stands in u
+  pub record OpIn (o : Operator) : Type 0 where
+    pub ends : o .next ≤ length u
+    pub attrs : AllIn (length u) (o .attrs)
+    pub block : o .first + o .length ≤ length u
+
+  -- a reading that the end of u cuts off: the end, 5 or 27
+  abbrev pub ShortRead : Read → Type 0
+  ShortRead (Read.operator o) = ⊥
+  ShortRead Read.ended = Unit {0}
+  ShortRead (Read.no code place) = cutOff code ≡ true
+
+  abbrev pub BeyondRead : Read → Type 0
+  BeyondRead (Read.operator o) = length u < o .next
+  BeyondRead Read.ended = Unit {0}
+  BeyondRead (Read.no code place) = Unit {0}
+
+  -- the same operator in both, all of it within u; the same refusal; or the end of u cuts it off
+  pub data CutRead : Read → Read → Type 0 where
+    both : {o : Operator} → OpIn o → CutRead (Read.operator o) (Read.operator o)
+    same : {code place : ℕ} → CutRead (Read.no code place) (Read.no code place)
+    lost : {x y : Read} → ShortRead x → BeyondRead y → CutRead x y
+
+  module _ (c : Context) (tag p : ℕ) (l : List Attribute) (h : p < length u) (k : AllIn p l) where
+    all-in : AllIn (length u) l
+    all-in = all-up p (length u) (omega arith) k
+
+    with-block-cut : (due : ℕ) {f g : Found} → CutFound due f g → CutRead (withBlock tag p l due f) (withBlock tag p l due g)
+    unfolding withBlock
+    with-block-cut due (both x) = both (record { ends = x; attrs = all-in; block = x })
+    with-block-cut due same = same
+    with-block-cut due (lost {y = y} a b) = lost a (by y b)
+      where
+        by : (y : Found) → BeyondFound due y → BeyondRead (withBlock tag p l due y)
+        by (Found.at first) b = b
+        by (Found.no code place) b = tt
+
+    with-data-cut : (d : Due) → CutRead (withData c u tag p l d) (withData c w tag p l d)
+    unfolding withData
+    with-data-cut Due.none = let z : 0 + 0 ≤ length u = omega arith in both (record { ends = h; attrs = all-in; block = z })
+    with-data-cut (Due.reads due) =
+        pick-both CutRead (c .asked && not (c .opened)) (λ _. same) (λ _. with-block-cut due (block-cut (c .high) p due (after-cut u v (suc p) h)))
+
+    whole-cut : (code : ℕ) → CutRead (asWhole c u tag p l code) (asWhole c w tag p l code)
+    unfolding asWhole
+    whole-cut code =
+        rw (rows-cut (c .high) (imageOf (c .phase)) tag all-in, due-cut (c .high) (imageOf (c .phase)) tag all-in)
+        (pick-both CutRead (eqb code 0)
+        (λ _. pick-both CutRead (rowsFit (c .high) w (imageOf (c .phase)) tag l) (λ _. with-data-cut (dueOf (c .high) w (imageOf (c .phase)) tag l)) (λ _. same)) (λ _. same))
+
+    attributes-cut : (r : Row) (f : Fault) → CutRead (withAttributes c u tag p l r f) (withAttributes c w tag p l r f)
+    unfolding withAttributes
+    attributes-cut r fine = whole-cut _
+    attributes-cut r (bad code place) = same
+
+    line-cut : (r : Line) → CutRead (withLine c u tag p l r) (withLine c w tag p l r)
+    unfolding withLine
+    line-cut Line.none = same
+    line-cut (Line.is r) =
+        pick-both CutRead (mayCome (c .phase) (c .opened) tag)
+        (λ _. subst (λ f. CutRead (withAttributes c u tag p l r (oneByOne (c .high) u (r .rules) [] l)) (withAttributes c w tag p l r f)) (one-cut (c .high) (r .rules) [] l all-in)
+        (attributes-cut r (oneByOne (c .high) u (r .rules) [] l))) (λ _. same)
+
+  good-beyond : (p : ℕ) → length u ≤ p → {may : ℕ → Bool} {r : Read} → GoodRead (length w) p may r → BeyondRead r
+  good-beyond p h (GoodRead.operator x y z) = omega arith
+  good-beyond p h GoodRead.ended = tt
+  good-beyond p h (GoodRead.no x) = tt
+
+  scanned-short : (c : Context) (x : Scan) → ShortScan u v x → ShortRead (scanned c u x)
+  unfolding scanned
+  scanned-short c (Scan.tagged tag p l) h = absurd h
+  scanned-short c Scan.ended h = tt
+  scanned-short c (Scan.no code place) h = h
+
+  scanned-beyond : (c : Context) (y : Scan) → BeyondScan u v y → BeyondRead (scanned c w y)
+  unfolding scanned
+  scanned-beyond c (Scan.tagged tag p l) h = good-beyond p (h .0) (with-line-good c w p tag p l (omega arith) (h .1) (lineIn table tag))
+  scanned-beyond c Scan.ended h = tt
+  scanned-beyond c (Scan.no code place) h = tt
+
+  scanned-cut : (c : Context) {x y : Scan} → CutScan u v x y → CutRead (scanned c u x) (scanned c w y)
+  unfolding scanned
+  scanned-cut c (CutScan.both {tag = tag} {p = p} {l = l} h k) = line-cut c tag p l h k (lineIn table tag)
+  scanned-cut c CutScan.same = same
+  scanned-cut c (CutScan.lost {x = x} {y = y} a b) = lost (scanned-short c x a) (scanned-beyond c y b)
+
+  pub read-cut : (c : Context) (at : ℕ) → at ≤ length u → CutRead (operatorAt c u at) (operatorAt c w at)
+  unfolding operatorAt
+  read-cut c at h = scanned-cut c (scan-cut u v (c .high) at h)
