@@ -13,7 +13,7 @@ use Rattle.scope.specs.Verdict.{startsGray, every, refused, admitted, entryOf, 
 use Rattle.state.specs.Views.{verdictAs}
 use Rattle.state.specs.Standing.{Listed}
 use Rattle.state.specs.declared.verdict.Verdict.{Verdict}
-pub use Rattle.checker.specs.Claims.{Promised}
+pub use Rattle.checker.specs.Claims.{answer, Promised}
 
 pub short-work : (n w : ℕ) → w < 16384 → entryOf n w ≡ refused 29 0
 unfolding entryOf
@@ -41,7 +41,7 @@ list-is job list list₁ w e q h =
 module _ (job work list : List ℕ) (v : Verdict) where
   -- refused before the job is looked at
   pub early : (code position : ℕ) → entryOf (length job) (length work) ≡ refused code position → verdictAs v ≡ verdict.told (refusedAt code position outer (starting 0))
-      → Promised job work list (record { verdict = v; work = work; list = list })
+      → Promised job work list (answer v work list)
   unfolding verdictOf outcomeOf outcomeAt workAfter clearedBy
   early code position e f =
       let o : outcomeOf every job (length work) (length list) ≡ refusedAt code position outer (starting 0) = rw e in
@@ -53,7 +53,7 @@ module _ (job work list : List ℕ) (v : Verdict) where
 
   pub whole : (work₁ list₁ : List ℕ) → entryOf (length job) (length work) ≡ admitted
       → verdictAs v ≡ verdict.told (judgedAfter every job (length list) (headerOf job))
-      → Listed list (judgedAfter every job (length list) (headerOf job) .state .past) list₁ → work₁ ≡ clearedBy admitted work → Promised job work list (record { verdict = v; work = work₁; list = list₁ })
+      → Listed list (judgedAfter every job (length list) (headerOf job) .state .past) list₁ → work₁ ≡ clearedBy admitted work → Promised job work list (answer v work₁ list₁)
   unfolding verdictOf outcomeOf outcomeAt workAfter
   whole work₁ list₁ e f h k =
       let o : outcomeOf every job (length work) (length list) ≡ judgedAfter every job (length list) (headerOf job) = rw e in

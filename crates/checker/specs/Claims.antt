@@ -20,7 +20,11 @@ pub record Answer : Type 0 where
   pub work : List ℕ
   pub list : List ℕ
 
--- what `check` promises of its answer to a job, where these buffers are lent: its three `ensures`
+-- the answer of a verdict and two buffers
+abbrev pub answer : Verdict → (work list : List ℕ) → Answer
+answer v work list = record { verdict = v; work = work; list = list }
+
+-- what `check` promises of its answer to a job, where these buffers are lent: the contract in src/entry.rt
 pub record Promised (job work list : List ℕ) (a : Answer) : Type 0 where
   pub verdict : verdictAs (a .verdict) ≡ verdictOf job (length work) (length list)
   pub listed : a .list ≡ listAfter job (length work) list

@@ -2,10 +2,11 @@
 ghost use mathlib.Core.Path.{_≡_};
 ghost use Prim.Native.Nat.{_≤_};
 ghost use lib.ListN.{length};
-ghost use Rattle.scope.specs.Verdict.{every, verdictOf, listAfter, workAfter, judgedAfter};
+ghost use Rattle.scope.specs.Verdict.{every, judgedAfter};
 ghost use Rattle.scope.specs.Verdict as verdict;
 ghost use Rattle.scope.specs.Header.{headerOf};
 ghost use Rattle.state.specs.Views.{verdictAs};
+ghost use Rattle.checker.specs.Claims.{Promised, answer};
 ghost use Rattle.state.specs.Standing.{Lasts, Listed};
 use header::Header;
 use names::limits::JOB_MOST;
@@ -30,9 +31,7 @@ fn judge_job(job: &[u8], work: &mut [u8], list: &mut [u8]) -> Verdict
 
 // Judges a job. The list gets its records, the first 16,384 bytes of the work buffer are zero afterwards.
 pub fn check(job: &[u8], work: &mut [u8], list: &mut [u8]) -> Verdict
-    ensures { λ r. ⌜ verdictAs r ≡ verdictOf (now (job .entry)) (length (now (work .entry))) (length (now (list .entry))) ⌝ }
-    ensures { λ _. ⌜ now (list .exit) ≡ listAfter (now (job .entry)) (length (now (work .entry))) (now (list .entry)) ⌝ }
-    ensures { λ _. ⌜ now (work .exit) ≡ workAfter (now (job .entry)) (now (work .entry)) ⌝ }
+    ensures { λ r. ⌜ Promised (now (job .entry)) (now (work .entry)) (now (list .entry)) (answer r (now (work .exit)) (now (list .exit))) ⌝ }
 {
     if work.len() < WORK_LEAST {
         return told(29, 0, OUTER, 0, 0);
@@ -48,9 +47,7 @@ pub fn check(job: &[u8], work: &mut [u8], list: &mut [u8]) -> Verdict
 // The same for C and Rust.
 #[no_mangle]
 pub extern "C" fn dieuvakhop_check(job: &[u8], work: &mut [u8], list: &mut [u8]) -> Verdict
-    ensures { λ r. ⌜ verdictAs r ≡ verdictOf (now (job .entry)) (length (now (work .entry))) (length (now (list .entry))) ⌝ }
-    ensures { λ _. ⌜ now (list .exit) ≡ listAfter (now (job .entry)) (length (now (work .entry))) (now (list .entry)) ⌝ }
-    ensures { λ _. ⌜ now (work .exit) ≡ workAfter (now (job .entry)) (now (work .entry)) ⌝ }
+    ensures { λ r. ⌜ Promised (now (job .entry)) (now (work .entry)) (now (list .entry)) (answer r (now (work .exit)) (now (list .exit))) ⌝ }
 {
     check(job, work, list)
 }
