@@ -46,7 +46,7 @@ module _ (u v : List ℕ) where
     range-cut : (k : Takes) (a : Attribute) → Inside (length u) a → typeTaken k (a .tag) ≡ true → inRange high u k a ≡ inRange high w k a
     unfolding inRange typeTaken
     range-cut (E low up) a i e = ap (between low up) (first-cut i)
-    range-cut (N low) a i e = ap (leb low) (first-cut i)
+    range-cut (N low up) a i e = ap (between low up) (first-cut i)
     range-cut P a i e = refl
     range-cut B a i e = refl
     range-cut (A low up) a i e = refl
