@@ -1,17 +1,10 @@
 -- `past`: by the tag, what the operator does is what the definition does, and no more than 24 are saved then.
 -- Assumes nothing.
-use Prim.Native.Nat.{ℕ, _≤_, _<_}
-use mathlib.Core.Path.{_≡_, refl, ap, _∙_}
+use mathlib.Core.Path.{refl}
 use mathlib.Core.Bool.{false}
 use native.Mathlib.Omega.{arith}
-use lib.ListN.{length}
-use Rattle.scope.specs.Arm as scope
-use Rattle.scope.specs.Arm.{Effect, done, risen, put, kept, to, push, pop}
-use Rattle.arm.specs.Alone.{Alone, alone-close, alone-new, alone-paint, alone-push, alone-pop, Leaves, leaves-to, leaves-no}
-use Rattle.arm.specs.Holds.{PageHolds}
-use Rattle.arm.specs.Views.{pageAs}
-use Rattle.arm.specs.declared.page.Page.{Page}
-use Rattle.arm.specs.declared.page.Passed.the-variants.{To}
+use Rattle.scope.specs.Arm.{done, risen, put, kept, to, push, pop}
+use Rattle.arm.specs.Alone.{alone-close, alone-new, alone-paint, leaves-no}
 use Rattle.arm.proofs.Saves.{leaves, alone-out, pushed-leaves, popped-leaves}
 use borrow.Author.Needs.{needs}
 use Rattle.arm.proofs.page.Page.past.Statement.{statement}
