@@ -18,7 +18,7 @@ use Rattle.scope.specs.Judge.{State, Outcome, Refusal, caseOf, after, ru
 use Rattle.scope.specs.Verdict.{startsGray, every, judgedAfter, Entry, entryOf, outcomeAt, outcomeOf, verdictOf}
 use Rattle.scope.specs.Runs.{caseAt, next}
 use Rattle.scope.specs.Claims.{cutOff, StartOf, InnerSays, NoLookingAhead, Cuts}
-use Rattle.scope.proofs.Ends.{GoodRead, read-good}
+use Rattle.scope.proofs.Ends.{pick-all, GoodRead, read-good}
 use Rattle.scope.proofs.Falls.{judged-step}
 use Rattle.scope.proofs.Codes.{GoodJudged, motif-good, not-coded}
 use Rattle.scope.proofs.Says.{Says, LikePlace, same-place, uncounted, case-like, place-like}
@@ -46,11 +46,11 @@ module _ (u v : List ℕ) where
 
   module _ (set : Setting) (room : ℕ) where
     -- so it is judged the same, and the state after it is the same
-    broken-same : (st : State) (o : Operator) → OpIn u v o → firstBroken every (caseAt set u st o) (rules room) ≡ firstBroken every (caseAt set w st o) (rules room)
+    pub broken-same : (st : State) (o : Operator) → OpIn u v o → firstBroken every (caseAt set u st o) (rules room) ≡ firstBroken every (caseAt set w st o) (rules room)
     broken-same st o i =
         equal-broken every every (λ k _. refl) room room (case-like set set refl u w o o (op-says (set .high) o i) st st refl) (λ _. refl) refl refl refl
 
-    next-same : (st : State) (o : Operator) → OpIn u v o → next set u st o ≡ next set w st o
+    pub next-same : (st : State) (o : Operator) → OpIn u v o → next set u st o ≡ next set w st o
     unfolding after caseOf uncounted
     next-same st o i =
         let z = op-says (set .high) o i in
@@ -108,16 +108,38 @@ module _ (u v : List ℕ) where
         (subst⁻¹ (λ y. StartOf u (onward of-start (jobStep every set u room st)) y) (judged-step every set w room st)
         (on-cut n (cut-from n) st k (read-good c u (st .at)) (read-cut u v c (st .at) h)))
 
+-- a form that ends, ends behind a place
+abbrev FormPast : ℕ → Form → Type 0
+FormPast i (ends n) = i < n
+FormPast i (breaks k) = Unit {0}
+
+form-back : (i : ℕ) (f : Form) → FormPast (suc i) f → FormPast i f
+form-back i (ends n) h = omega arith
+form-back i (breaks k) h = tt
+
+form-past : (i : ℕ) (l : List ℕ) → FormPast i (formFrom i l)
+unfolding formFrom
+form-past i [] = tt
+form-past i (b ∷ bs) = by (mayStand i b) (leb 15 i && eqb b 0x0a) (form-back i (formFrom (suc i) bs) (form-past (suc i) bs))
+  where
+    by : (x y : Bool) → FormPast i (formFrom (suc i) bs)
+        → FormPast i (elim x [ false ↦ breaks i | true ↦ elim y [ true ↦ ends (suc i) | false ↦ formFrom (suc i) bs ] ])
+    by false y h = tt
+    by true true h = let z : i < suc i = omega arith in z
+    by true false h = h
+
 -- the form of a header: it ends within u, it breaks at the same place in both, or the end of u cuts it off
 data FormCut (i : ℕ) (u : List ℕ) : Form → Form → Type 0 where
   ended : {n : ℕ} → 16 ≤ n → n ≤ i + length u → FormCut i u (ends n) (ends n)
   broken : {k : ℕ} → FormCut i u (breaks k) (breaks k)
-  cut-short : {f : Form} → FormCut i u (breaks (i + length u)) f
+  cut-short : {f : Form} → FormPast (i + length u) f → FormCut i u (breaks (i + length u)) f
 
 form-up : {i : ℕ} {b : ℕ} {bs : List ℕ} {f g : Form} → FormCut (suc i) bs f g → FormCut i (b ∷ bs) f g
 form-up {i} {b} {bs} (ended {n = n} h k) = let l : n ≤ i + length (b ∷ bs) = omega arith in ended h l
 form-up broken = broken
-form-up {i} {b} {bs} (cut-short {f = f}) = let e : suc i + length bs ≡ i + length (b ∷ bs) = omega arith in subst⁻¹ (λ k. FormCut i (b ∷ bs) (breaks k) f) e cut-short
+form-up {i} {b} {bs} (cut-short {f = f} h) =
+    let e : suc i + length bs ≡ i + length (b ∷ bs) = omega arith in
+    subst⁻¹ (λ k. FormCut i (b ∷ bs) (breaks k) f) e (cut-short (subst (λ k. FormPast k f) e h))
 
 both-true : (a b : Bool) → (a && b) ≡ true → a ≡ true
 both-true true b e = refl
@@ -125,7 +147,9 @@ both-true false b e = e
 
 form-cut : (i : ℕ) (u v : List ℕ) → FormCut i u (formFrom i u) (formFrom i (u ++ v))
 unfolding formFrom
-form-cut i [] v = let e : i ≡ i + 0 = omega arith in subst⁻¹ (λ k. FormCut i [] (breaks k) (formFrom i v)) e cut-short
+form-cut i [] v =
+    let e : i ≡ i + 0 = omega arith in
+    subst⁻¹ (λ k. FormCut i [] (breaks k) (formFrom i v)) e (cut-short (subst (λ k. FormPast k (formFrom i v)) e (form-past i v)))
 form-cut i (b ∷ bs) v = by (mayStand i b) (leb 15 i && eqb b 0x0a) refl (form-cut (suc i) bs v)
   where
     by : (x y : Bool) → (leb 15 i && eqb b 0x0a) ≡ y → FormCut (suc i) bs (formFrom (suc i) bs) (formFrom (suc i) (bs ++ v))
@@ -139,10 +163,21 @@ form-cut i (b ∷ bs) v = by (mayStand i b) (leb 15 i && eqb b 0x0a) refl (form-
         ended p q
     by true false e h = form-up h
 
-data HeaderCut (u : List ℕ) : Header → Header → Type 0 where
+-- a header that is there ends behind a place
+abbrev pub HeaderPast : ℕ → Header → Type 0
+HeaderPast i (Header.is high next) = i < next
+HeaderPast i (Header.no code place) = Unit {0}
+
+-- the same header in both, within u; the same refusal; or the end of u cuts it off
+pub data HeaderCut (u : List ℕ) : Header → Header → Type 0 where
   alike : {high : Bool} {next : ℕ} → next ≤ length u → HeaderCut u (Header.is high next) (Header.is high next)
   refused : {code place : ℕ} → HeaderCut u (Header.no code place) (Header.no code place)
-  header-short : {h : Header} → HeaderCut u (Header.no 2 (length u)) h
+  header-short : {h : Header} → HeaderPast (length u) h → HeaderCut u (Header.no 2 (length u)) h
+
+classed-past : (i : ℕ) (s : List ℕ) (f : Form) → FormPast i f → HeaderPast i (classed s f)
+unfolding classed
+classed-past i s (ends n) h = pick-all (HeaderPast i) (eqb (getD s 12 0) 0x31 && eqb (getD s 14 0) 0x31) (λ _. h) (λ _. tt)
+classed-past i s (breaks k) h = tt
 
 classed-cut : (u v : List ℕ) {f g : Form} → FormCut 0 u f g → HeaderCut u (classed u f) (classed (u ++ v) g)
 unfolding classed
@@ -154,12 +189,13 @@ classed-cut u v (ended {n = n} h k) =
     by true = let l : n ≤ length u = omega arith in alike l
     by false = refused
 classed-cut u v broken = refused
-classed-cut u v (cut-short {f = f}) =
-    let e : 0 + length u ≡ length u = omega arith in subst⁻¹ (λ k. HeaderCut u (Header.no 2 k) (classed (u ++ v) f)) e header-short
+classed-cut u v (cut-short {f = f} h) =
+    let e : 0 + length u ≡ length u = omega arith in
+    subst⁻¹ (λ k. HeaderCut u (Header.no 2 k) (classed (u ++ v) f)) e (header-short (classed-past (length u) (u ++ v) f (subst (λ k. FormPast k f) e h)))
 
-header-cut : (u v : List ℕ) → HeaderCut u (headerOf u) (headerOf (u ++ v))
+pub header-cut : (u v : List ℕ) → HeaderCut u (headerOf u) (headerOf (u ++ v))
 unfolding headerOf
-header-cut [] v = unfold formFrom classed in header-short
+header-cut [] v = unfold formFrom classed in header-short (pick-all (HeaderPast 0) (eqb (getD v 0 0) 0x27) (λ _. tt) (λ _. classed-past 0 v (formFrom 0 v) (form-past 0 v)))
 header-cut (b ∷ bs) v = by (eqb b 0x27)
   where
     by : (x : Bool) → HeaderCut (b ∷ bs) (pick x (Header.no 3 0) (classed (b ∷ bs) (formFrom 0 (b ∷ bs)))) (pick x (Header.no 3 0) (classed (b ∷ (bs ++ v)) (formFrom 0 (b ∷ (bs ++ v)))))
@@ -171,7 +207,7 @@ unfolding judgedAfter
 after-header u v room (alike {high = high} {next = next} k) =
     cut-from u v (record { high = high; gray = startsGray }) room (suc (length u - next)) (starting next) k (omega arith)
 after-header u v room refused = StartOf.same refl
-after-header u v room header-short = StartOf.in-header refl refl refl
+after-header u v room (header-short h) = StartOf.in-header refl refl refl
 
 pub no-looking-ahead : NoLookingAhead
 unfolding outcomeOf entryOf outcomeAt

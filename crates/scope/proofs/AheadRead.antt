@@ -228,3 +228,20 @@ module _ (u v : List ℕ) where
   pub read-cut : (c : Context) (at : ℕ) → at ≤ length u → CutRead (operatorAt c u at) (operatorAt c w at)
   unfolding operatorAt
   read-cut c at h = scanned-cut c (scan-cut u v (c .high) at h)
+
+  -- an operator that is read in u is read in u with anything behind it
+  pub read-longer : (c : Context) (at : ℕ) (o : Operator) → at ≤ length u → operatorAt c u at ≡ Read.operator o → (operatorAt c w at ≡ Read.operator o) × OpIn o
+  read-longer c at o h e = by (subst (λ x. CutRead x (operatorAt c w at)) e (read-cut c at h))
+    where
+      by : {y : Read} → CutRead (Read.operator o) y → (y ≡ Read.operator o) × OpIn o
+      by (both i) = (refl, i)
+      by (lost a b) = absurd a
+
+  -- an operator that is read there and ends in u is read in u alone
+  pub read-shorter : (c : Context) (at : ℕ) (o : Operator) → at ≤ length u → operatorAt c w at ≡ Read.operator o → o .next ≤ length u
+      → (operatorAt c u at ≡ Read.operator o) × OpIn o
+  read-shorter c at o h e k = by (subst (CutRead (operatorAt c u at)) e (read-cut c at h))
+    where
+      by : {x : Read} → CutRead x (Read.operator o) → (x ≡ Read.operator o) × OpIn o
+      by (both i) = (refl, i)
+      by (lost a b) = absurd (omega arith)

@@ -1,32 +1,24 @@
 -- Two jobs beside each other, in states that are the same but for their places in the bytes and for what went before: of operators that say the same the rules say
--- the same, but for 26 and 28, and the states after them are the same in that sense. So a run of the one is a run of the other, where 26 and 28 hold by its numbers.
+-- the same, but for 26 and 28, and the states after them are the same in that sense.
 -- Assumes nothing.
-use Prim.Native.Nat.{ℕ, _+_, _-_, _*_, _≤_}
+use Prim.Native.Nat.{ℕ, _+_, _-_, _*_}
 use mathlib.Core.Path.{_≡_, refl, sym, ap, _∙_, subst, subst⁻¹}
 use mathlib.Core.Bool.{Bool, true, false, _&&_}
 use mathlib.Core.List.{List, [], _∷_}
 use native.Mathlib.Omega.{arith}
-use borrow.Author.Tests.{le-ltb}
 use lib.Dec.{ltb}
 use Rattle.scope.specs.Choice.{pick}
 use Rattle.scope.specs.Reading.{Operator, Read}
 use Rattle.scope.specs.Session.{Setting}
 use Rattle.scope.specs.Judge.{State, Case, Refusal, caseOf, rules, firstBroken, outer, countOver, roomOver, after}
 use Rattle.scope.specs.Claims.{limit}
-use Rattle.scope.specs.Runs.{readAt, caseAt, next, Runs, here, then, Pairwise}
-use Rattle.scope.proofs.Apart.{is-none}
-use Rattle.scope.proofs.Runs.{runs-grow, runs-up}
+use Rattle.scope.specs.Runs.{readAt, caseAt, next}
 use Rattle.scope.proofs.Says.{Says, LikePlace, same-place, session-same, uncounted, LikeCase, chain, limits, broken-is, Splits, silent, speaks, chain-splits, AlikeGiven, chain-like, case-like, place-like}
 
 -- the first is, one by one, a start of the second
 pub data Starts (Op : Operator → Operator → Type 0) : List Operator → List Operator → Type 0 where
   none : {m : List Operator} → Starts Op [] m
   more : {a b : Operator} {l m : List Operator} → Op a b → Starts Op l m → Starts Op (a ∷ l) (b ∷ m)
-
--- one at least
-abbrev pub Started : List Operator → Type 0
-Started [] = ⊥
-Started (o ∷ os) = Unit {0}
 
 -- two refusals that agree; or they differ, and one of them is 26 or 28
 pub data Both : Refusal → Refusal → Type 0 where
@@ -70,24 +62,6 @@ module _ (given other : ℕ → Bool) (alike : AlikeGiven given other) where
           subst⁻¹ (λ f. Both f (chain other d (limits other space d))) (e (limits given room c))
           (subst⁻¹ (λ g. Both (Refusal.refused code inner) g) (sym (chain-like given other alike h (limits other space d)) ∙ e (limits other space d)) agree)
 
-  and-false : (a b : Bool) → (a ≡ true → b ≡ false) → (a && b) ≡ false
-  and-false true b h = h refl
-  and-false false b h = refl
-
-  -- what one job does not refuse the other does not, where its numbers hold
-  pub none-like : (room space : ℕ) {m n r q : ℕ} {c d : Case} → LikeCase m n r q c d → firstBroken given c (rules room) ≡ Refusal.none
-      → (other 26 ≡ true → d .seen .count ≤ 1_000_000) → (other 28 ≡ true → d .records * 16 ≤ space) → firstBroken other d (rules space) ≡ Refusal.none
-  unfolding limits countOver roomOver
-  none-like room space {c = c} {d = d} h e f g =
-      let k = and-false (other 26) (ltb 1_000_000 (d .seen .count)) (λ t. le-ltb 1_000_000 (d .seen .count) (f t)) in
-      let l = and-false (other 28) (ltb space (d .records * 16)) (λ t. le-ltb space (d .records * 16) (g t)) in
-      let quiet : limits other space d ≡ Refusal.none = rw (k, l) refl in
-      broken-is other space d ∙ ap (chain other d) quiet ∙ sym (chain-like given other alike h Refusal.none) ∙ by (chain-splits given c)
-    where
-      by : Splits (chain given c) → chain given c Refusal.none ≡ Refusal.none
-      by (silent s) = s Refusal.none
-      by (speaks code inner s) = absurd (is-none (sym (s (limits given room c)) ∙ sym (broken-is given room c) ∙ e))
-
   -- where the numbers before and the rooms are the same, the rules say the same
   pub equal-broken : (room space : ℕ) {m n r q : ℕ} {c d : Case} → LikeCase m n r q c d → ((k : ℕ) → given k ≡ other k) → m ≡ n → r ≡ q → room ≡ space
       → firstBroken given c (rules room) ≡ firstBroken other d (rules space)
@@ -109,12 +83,14 @@ module _ (given other : ℕ → Bool) (alike : AlikeGiven given other) (set turn
     pub performed : x .performed + n ≡ y .performed + m
     pub records : x .records + q ≡ y .records + r
 
+  -- the place after an operator is the same
   pub next-place : (x y : State) (a b : Operator) → LikeState x y → Says (set .high) (turned .high) s t a b → next set s x a .place ≡ next turned t y b .place
   unfolding after caseOf uncounted
   next-place x y a b l h =
       let c = case-like set turned same-gray s t a b h x y (session-same (l .place)) in
       place-like set turned same-gray s t a b h (caseAt set s x a .seen .page) (caseAt turned t y b .seen .page) (ap (λ w. w .page) (c .seen)) (l .place)
 
+  -- and so is the state, in that sense
   pub next-like : (x y : State) (a b : Operator) → LikeState x y → Says (set .high) (turned .high) s t a b → At (a .next) (b .next)
       → LikeState (next set s x a) (next turned t y b)
   unfolding after caseOf uncounted
@@ -131,39 +107,3 @@ module _ (given other : ℕ → Bool) (alike : AlikeGiven given other) (set turn
         performed = omega arith;
         records = omega arith;
       }
-
-  module _ (room space bound : ℕ) (Op : Operator → Operator → Type 0) (says : (a b : Operator) → Op a b → Says (set .high) (turned .high) s t a b)
-      (reads-like : (x y : State) → LikeState x y → (a : Operator) → readAt given set s x ≡ Read.operator a → a .next ≤ bound
-      → (b : Operator) × (readAt other turned t y ≡ Read.operator b) × Op a b × At (a .next) (b .next)) where
-    -- the other job's run, which follows the first one's; behind an operator at the latest the places are the same
-    pub record Follows (os : List Operator) (x end y : State) : Type 0 where
-      pub ops : List Operator
-      pub last : State
-      pub runs : Runs other turned t space y ops last
-      pub ops-like : Pairwise Op os ops
-      pub last-like : LikeState end last
-      pub kept : x .place ≡ y .place → end .place ≡ last .place
-      pub settled : Started os → end .place ≡ last .place
-
-    -- 26 and 28 still hold by their numbers
-    pub record Holds (end : State) : Type 0 where
-      pub count : other 26 ≡ true → end .performed + n ≤ 1_000_000 + m
-      pub fits : other 28 ≡ true → (end .records + q) * 16 ≤ space + r * 16
-
-    pub runs-like : {x end y : State} {os : List Operator} → Runs given set s room x os end → end .at ≤ bound → LikeState x y → Holds end → Follows os x end y
-    unfolding after caseOf
-    runs-like {y} here within l h = record { ops = []; last = y; runs = here; ops-like = Pairwise.none; last-like = l; kept = λ e. e; settled = λ z. absurd z }
-    runs-like {end = end} {y = y} (then {a = x} {o = a} p rest) within l h =
-        let up = runs-up given set s room rest in
-        let f = reads-like x y l a (p .reads) (omega arith) in
-        let b = f .0 in
-        let z = says a b (f .2) in
-        let c = case-like set turned same-gray s t a b z x y (session-same (l .place)) in
-        let g = runs-grow given set s room rest in
-        let l2 = next-like x y a b l z (f .3) in
-        let k : firstBroken other (caseAt turned t y b) (rules space) ≡ Refusal.none =
-        none-like given other alike room space c (p .kept) (λ u. let v = h .count u in let w = l2 .performed in omega (arith, g .0))
-        (λ u. let v = h .fits u in let w = l2 .records in omega (arith, g .1)) in
-        let e2 = next-place x y a b l z in
-        let j = runs-like rest within l2 h in
-        record { ops = b ∷ j .ops; last = j .last; runs = then (record { reads = f .1; kept = k }) (j .runs); ops-like = Pairwise.more (f .2) (j .ops-like); last-like = j .last-like; kept = λ _. j .kept e2; settled = λ _. j .kept e2 }

@@ -30,6 +30,7 @@ pub mod AheadItems
 pub mod AheadScan
 pub mod AheadRead
 pub mod Ahead
+pub mod White
 pub mod Known
 pub mod Parts
 pub mod JobsRead

@@ -16,7 +16,7 @@ use Rattle.scope.specs.Runs.{caseAt, next, Performs, Runs, here, then, C
 use Rattle.scope.specs.Claims.{Between}
 use Rattle.scope.proofs.Runs.{performs-may, runs-of, runs-append, runs-past, ends-state, onto-append, onto-onto, onto-back, Halves, runs-split}
 use Rattle.scope.proofs.Apart.{clash-of}
-use Rattle.scope.proofs.Sessions.{between-judged}
+use Rattle.scope.proofs.Sessions.{reached-judged}
 
 module _ (given : ℕ → Bool) (set : Setting) (s : List ℕ) (room : ℕ) where
   -- behind an EndSession the job stands outside a session
@@ -30,7 +30,7 @@ module _ (given : ℕ → Bool) (set : Setting) (s : List ℕ) (room : ℕ) wher
 
 -- before the first item of a job it stands outside a session
 pub between-start : (job : List ℕ) (room : ℕ) (high : Bool) (next : ℕ) → headerOf job ≡ Header.is high next → Between job room high (starting next)
-between-start job room high next e = record { next = next; header = e; before = []; runs = here; after-one = false; stands = refl }
+between-start job room high next e = record { there = record { next = next; header = e; before = []; runs = here }; after-one = false; stands = refl }
 
 -- behind each EndSession that a job performs it stands between two sessions
 module _ (job : List ℕ) (work room : ℕ) (high : Bool) (start : ℕ) (h : 16384 ≤ work) (k : length job ≤ 61440) (e : headerOf job ≡ Header.is high start) where
@@ -48,7 +48,7 @@ module _ (job : List ℕ) (work room : ℕ) (high : Bool) (start : ℕ) (h : 163
 
   past-ops : outcomeOf every job work room .state .past ≡ onto (all-ops .ops) []
   past-ops =
-      ap (λ z. z .state .past) (between-judged job work room high (starting start) h k (between-start job room high start e))
+      ap (λ z. z .state .past) (reached-judged job work room high (starting start) h k (between-start job room high start e .there))
       ∙ ap (λ z. z .past) (ends-state every set job room (all-ops .ends)) ∙ runs-past every set job room (all-ops .runs)
 
   pub ops-are : (ops : List Operator) → outcomeOf every job work room .state .past ≡ onto ops [] → all-ops .ops ≡ ops
@@ -63,10 +63,7 @@ module _ (job : List ℕ) (work room : ℕ) (high : Bool) (start : ℕ) (h : 163
           record {
             state = next set job w o;
             stands = record {
-              next = start;
-              header = e;
-              before = front ++ (o ∷ []);
-              runs = runs-append every set job room u (then p here);
+              there = record { next = start; header = e; before = front ++ (o ∷ []); runs = runs-append every set job room u (then p here) };
               after-one = true;
               stands = end-outside every set job room w o p f;
             };

@@ -113,7 +113,7 @@ behind-part part rest list m n e f g =
     ap (drop (m * 16)) (h ∙ e) ∙ drop-at part rest (m * 16) f
 
 between-long : (job : List ℕ) (room : ℕ) (high : Bool) (st : State) → Between job room high st → Long st
-between-long job room high st b = runs-long every (record { high = high; gray = startsGray }) job room (b .runs) (start-long (b .next))
+between-long job room high st b = runs-long every (record { high = high; gray = startsGray }) job room (b .there .runs) (start-long (b .there .next))
 
 pub same-list : SameList
 unfolding listOf verdictOf

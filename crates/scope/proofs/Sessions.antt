@@ -14,7 +14,7 @@ use Rattle.scope.specs.Session.{Setting, outside}
 use Rattle.scope.specs.Judge.{State, Outcome, contextOf, judgedFrom}
 use Rattle.scope.specs.Verdict.{startsGray, every, judgedAfter, entryOf, outcomeAt, outcomeOf}
 use Rattle.scope.specs.Runs.{readAt, ended, onto}
-use Rattle.scope.specs.Claims.{limit, OperatorsMoved, Between, SameFrom, Alike, Isolated}
+use Rattle.scope.specs.Claims.{Reached, limit, OperatorsMoved, SameFrom, Alike, Isolated}
 use Rattle.scope.proofs.Ends.{after-le}
 use Rattle.scope.proofs.Runs.{runs-of, runs-judged, runs-past, ends-state}
 use Rattle.scope.proofs.Says.{LikePlace, outsides}
@@ -71,33 +71,38 @@ module _ (s t : List ℕ) (a b : State) (hp : a .at ≤ length s) (hq : b .at �
         differs = λ n r z. d (λ _. refl) (sym n) (sym r) (sym z);
       })
 
-  -- from two states outside a session on
+  -- from two states on that are the same but for their places in the bytes and for what went before
+  pub alike-from : LikeState every every (λ k _. refl) set set refl s t (Far s t (a .at) (b .at) hp hq same-bytes) (a .performed) (b .performed) (a .records) (b .records) a b
+      → Alike a b room space (judgedFrom every set s room a) (judgedFrom every set t space b)
+  alike-from l =
+      alike-of (two-judged s t (a .at) (b .at) hp hq same-bytes every every (λ k _. refl) set (a .performed) (b .performed) (a .records) (b .records) room space a b l)
+      (judged-past every set s room a) (judged-past every set t space b)
+
+  -- so from two states outside a session on
   judged-alike : (v w : Bool) → a .place ≡ outside v → b .place ≡ outside w → blackAfter s (a .at) < length s
       → Alike a b room space (judgedFrom every set s room a) (judgedFrom every set t space b)
   judged-alike v w ea eb goes =
       let more = readAt every set s a ≡ Read.ended → ⊥ in
-      let l : LikeState every every (λ k _. refl) set set refl s t (Far s t (a .at) (b .at) hp hq same-bytes) (a .performed) (b .performed) (a .records) (b .records) a b =
-      record {
+      alike-from
+      (record {
         at = far-start s t (a .at) (b .at) hp hq same-bytes;
         place = subst₂ (LikePlace more) (sym ea) (sym eb) (outsides (read-goes (contextOf every (set .high) (a .place)) s (a .at) goes));
         performed = omega arith;
         records = omega arith;
-      } in
-      alike-of (two-judged s t (a .at) (b .at) hp hq same-bytes every every (λ k _. refl) set (a .performed) (b .performed) (a .records) (b .records) room space a b l)
-      (judged-past every set s room a) (judged-past every set t space b)
+      })
 
 -- the outcome of a job is that of the state which it comes to
-pub between-judged : (job : List ℕ) (work room : ℕ) (high : Bool) (st : State) → 16384 ≤ work → length job ≤ 61440 → Between job room high st
+pub reached-judged : (job : List ℕ) (work room : ℕ) (high : Bool) (st : State) → 16384 ≤ work → length job ≤ 61440 → Reached job room high st
     → outcomeOf every job work room ≡ judgedFrom every (record { high = high; gray = startsGray }) job room st
 unfolding outcomeOf outcomeAt judgedAfter entryOf
-between-judged job work room high st h k b =
+reached-judged job work room high st h k b =
     rw (le-ltb work 16384 h, le-ltb 61440 (length job) k, b .header) (runs-judged every (record { high = high; gray = startsGray }) job room (b .runs))
 
 pub isolated : Isolated
 isolated job other work work′ room space high a b h k l m x y same-bytes goes =
     let i = after-le high job (a .at) in
     let d : length job - a .at ≡ length other - b .at = sym (length-drop (a .at) job) ∙ ap length same-bytes ∙ length-drop (b .at) other in
-    subst₂ (Alike a b room space) (sym (between-judged job work room high a h l x)) (sym (between-judged other work′ space high b k m y))
+    subst₂ (Alike a b room space) (sym (reached-judged job work room high a h l (x .there))) (sym (reached-judged other work′ space high b k m (y .there)))
     (judged-alike job other a b (omega arith) (omega arith) same-bytes (record { high = high; gray = startsGray }) room space (x .after-one) (y .after-one) (x .stands) (y .stands) goes)
 
 -- where neither is 26 or 28, the same from there on

@@ -64,7 +64,7 @@ computed = (refl, refl, refl, refl, refl)
 second-there : Between behind 65536 false there
 second-there =
     let r = steps-reach Verd.every low behind 65536 7 (Judge.starting 16) there (computed .0) in
-    record { next = 16; header = computed .1; before = r .ops; runs = r .runs; after-one = true; stands = refl }
+    record { there = record { next = 16; header = computed .1; before = r .ops; runs = r .runs }; after-one = true; stands = refl }
 
 first-there : Between alone 65536 false (Judge.starting 16)
 first-there = between-start alone 65536 false 16 (computed .2)

@@ -26,7 +26,7 @@ use Rattle.scope.proofs.Placed.{motif-placed}
 use Rattle.scope.proofs.Codes.{header-good}
 use Rattle.scope.proofs.Buffers.{Entered, short-work, long-job, entered, late-code, header-late}
 use Rattle.scope.proofs.Runs.{runs-of}
-use Rattle.scope.proofs.Sessions.{between-judged}
+use Rattle.scope.proofs.Sessions.{reached-judged}
 use Rattle.scope.proofs.Places.{between-start}
 
 code-low : (k : ℕ) → ZeroOr k → k ≤ 29
@@ -173,7 +173,7 @@ breaks-none c (motifs-own ∷ rs) e = by (c .made) refl e (breaks-none c rs)
 pub first-fault : FirstFault
 first-fault job work room high next h k e =
     let set : Setting = record { high = high; gray = startsGray } in (
-      subst⁻¹ (Comes every set job room (starting next)) (between-judged job work room high (starting next) h k (between-start job room high next e))
+      subst⁻¹ (Comes every set job room (starting next)) (reached-judged job work room high (starting next) h k (between-start job room high next e .there))
           (runs-of every set job room (starting next)),
       λ st o p. breaks-none (caseAt set job st o) (rules room) (p .kept),
     )

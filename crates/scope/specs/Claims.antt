@@ -8,7 +8,7 @@ use lib.ListN.{length, take, drop, getD}
 use lib.Dec.{eqb}
 use Rattle.scope.specs.Choice.{among}
 use Rattle.scope.specs.Header.{Header, headerOf}
-use Rattle.scope.specs.Item.{Attribute, after}
+use Rattle.scope.specs.Item.{Attribute, spaces, after}
 use Rattle.scope.specs.Reading.{Operator}
 use Rattle.scope.specs.Attributes.{bytesIn}
 use Rattle.scope.specs.Arm.{Stroke}
@@ -132,12 +132,16 @@ pub data OperatorsMoved (p q : ℕ) (before other : List Operator) : List Operat
   start : OperatorsMoved p q before other before other
   more : {a b : Operator} {l m : List Operator} → OperatorMoved p q a b → OperatorsMoved p q before other l m → OperatorsMoved p q before other (a ∷ l) (b ∷ m)
 
--- judging stands outside a session, between two or before the first: from the end of the header on it has performed some operators, none refused
-pub record Between (job : List ℕ) (room : ℕ) (high : Bool) (st : State) : Type 0 where
+-- judging comes to a state: from the end of the header on it has performed some operators, none refused
+pub record Reached (job : List ℕ) (room : ℕ) (high : Bool) (st : State) : Type 0 where
   pub next : ℕ
   pub header : headerOf job ≡ Header.is high next
   pub before : List Operator
   pub runs : Runs every (record { high = high; gray = startsGray }) job room (starting next) before st
+
+-- judging stands outside a session, between two or before the first
+pub record Between (job : List ℕ) (room : ℕ) (high : Bool) (st : State) : Type 0 where
+  pub there : Reached job room high st
   pub after-one : Bool
   pub stands : st .place ≡ outside after-one
 
@@ -199,6 +203,21 @@ SameList =
     → SameFrom a b (outcomeOf every job work room) (outcomeOf every other work′ space)
     → RecordsMoved (a .at) (b .at) (recordsFrom (a .records) (verdictOf job work room .records) (listOf job work room))
     (recordsFrom (b .records) (verdictOf other work′ space .records) (listOf other work′ space))
+
+-- the same state, so many bytes further on
+abbrev pub moveBy : ℕ → State → State
+moveBy k st = record { at = st .at + k; place = st .place; performed = st .performed; records = st .records; past = st .past }
+
+-- a job with some bytes put in at a place
+abbrev pub putIn : (at : ℕ) → (bytes job : List ℕ) → List ℕ
+putIn at bytes job = take at job ++ (bytes ++ drop at job)
+
+-- white space between operators plays no part: where judging stands, a job with white bytes and the job without them get the same code and inner place, perform
+-- and list the same; positions and places behind the white bytes move along
+abbrev pub WhiteBetween : Type 0
+WhiteBetween =
+    (job blank : List ℕ) (work room : ℕ) (high : Bool) (st : State) → 16384 ≤ work → length (putIn (st .at) blank job) ≤ 61440 → spaces blank ≡ length blank
+    → Reached job room high st → SameFrom st (moveBy (length blank) st) (outcomeOf every job work room) (outcomeOf every (putIn (st .at) blank job) work room)
 
 -- the operators performed since the last BeginSession; as everywhere, the last one stands first
 unfoldable pub ofSession : List Operator → List Operator
