@@ -1,3 +1,4 @@
+-- Document 01 as definitions, in the order in which it is read; docs/TRACE.md goes through it sentence by sentence.
 pub mod Choice
 pub mod Iterate
 pub mod Number
