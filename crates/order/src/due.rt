@@ -7,6 +7,11 @@ ghost use Rattle.scope.specs.Data.{bitsOf, rowOf, pointBytes, dueOf};
 ghost use Rattle.scope.specs.Order.{rowsFit};
 ghost use Rattle.order.specs.Views.{dueAs, imageAs, pointsDue};
 use crate::order::Image;
+use names::attributes::BLOCK_HEIGHT;
+use names::attributes::NUMBER_OF_POINTS;
+use names::attributes::POINT_TYPE;
+use names::attributes::START_LINE;
+use names::attributes::STREAM_DATA_LENGTH;
 use names::operators::LINE_PATH;
 use names::operators::LINE_REL_PATH;
 use names::operators::READ_IMAGE;
@@ -51,11 +56,11 @@ fn point_bytes(kind: u32, n: u32) -> usize
 fn points_due(s: &[u8], high: bool, attrs: &[usize; 80], n: usize) -> Due
     ensures { λ r. ⌜ (Sized (now (attrs .entry)) n → dueAs r ≡ pointsDue high (now (s .entry)) (rowsOf (now (attrs .entry)) n)) ⌝ }
 {
-    if !rules::has(attrs, n, 77) {
+    if !rules::has(attrs, n, NUMBER_OF_POINTS) {
         return Due::Nothing;
     }
-    let kind = rules::value_in(s, high, attrs, n, 80);
-    let many = rules::value_in(s, high, attrs, n, 77);
+    let kind = rules::value_in(s, high, attrs, n, POINT_TYPE);
+    let many = rules::value_in(s, high, attrs, n, NUMBER_OF_POINTS);
     Due::Reads(point_bytes(kind, many))
 }
 
@@ -64,10 +69,10 @@ pub fn due_of(s: &[u8], high: bool, image: Image, tag: u8, attrs: &[usize; 80], 
     ensures { λ r. ⌜ (Sized (now (attrs .entry)) n → dueAs r ≡ dueOf high (now (s .entry)) (imageAs image) tag (rowsOf (now (attrs .entry)) n)) ⌝ }
 {
     if tag == READ_STREAM {
-        return Due::Reads(rules::value_in(s, high, attrs, n, 140) as usize);
+        return Due::Reads(rules::value_in(s, high, attrs, n, STREAM_DATA_LENGTH) as usize);
     }
     if tag == READ_IMAGE {
-        let rows = rules::value_in(s, high, attrs, n, 99) as usize;
+        let rows = rules::value_in(s, high, attrs, n, BLOCK_HEIGHT) as usize;
         return Due::Reads(rows * row_of(image.width, image.depth));
     }
     if tag != LINE_PATH {
@@ -85,12 +90,12 @@ pub fn rows_fit(s: &[u8], high: bool, image: Image, tag: u8, attrs: &[usize; 80]
     if tag != READ_IMAGE {
         return true;
     }
-    let start = rules::value_in(s, high, attrs, n, 109);
+    let start = rules::value_in(s, high, attrs, n, START_LINE);
     let rows = image.rows;
     if start != rows {
         return false;
     }
-    let block = rules::value_in(s, high, attrs, n, 99);
+    let block = rules::value_in(s, high, attrs, n, BLOCK_HEIGHT);
     let height = image.height as usize;
     rows as usize + block as usize <= height
 }

@@ -43,47 +43,47 @@ fn values(kind: Kind, low: usize, high: usize) {
 
 // The values that an attribute takes.
 pub fn takes(n: usize) {
-    let rule = rules::rule_of(n);
-    let kind = rule.0;
+    let rule = rules::rule_of((n % 256) as u8);
+    let kind = rule.kind;
     attribute(n);
-    values(kind, rule.1, rule.2);
+    values(kind, rule.low, rule.high);
 }
 
-// Says an attribute that must be there, behind a comma if it is not the first; the answer is whether one was said.
-fn said(n: u8, before: bool) -> bool {
+// Says an attribute that must be there, behind a comma if it is not the first.
+fn said(n: u8, before: bool) {
     if before {
         say(b",");
     }
     say(b" ");
     attribute(n as usize);
-    true
 }
 
-// Says an attribute of a line, if there is one and it must be there.
-fn must(n: u8, before: bool) -> bool {
-    if n == rules::NO {
-        return before;
+// Says attribute i of a line, if it is one of the first so many, which must be there.
+fn must(many: usize, i: usize, n: u8) {
+    if i < many {
+        said(n, 0 < i);
     }
-    let rule = rules::rule_of(n as usize);
-    if rule.3 { said(n, before) } else { before }
 }
 
-fn each(numbers: [u8; 5]) {
+fn each(many: usize, numbers: [u8; 8]) {
     say(b"it needs");
-    let a = must(numbers[0], false);
-    let b = must(numbers[1], a);
-    let c = must(numbers[2], b);
-    let d = must(numbers[3], c);
-    must(numbers[4], d);
+    must(many, 0, numbers[0]);
+    must(many, 1, numbers[1]);
+    must(many, 2, numbers[2]);
+    must(many, 3, numbers[3]);
+    must(many, 4, numbers[4]);
+    must(many, 5, numbers[5]);
+    must(many, 6, numbers[6]);
+    must(many, 7, numbers[7]);
 }
 
 // Says the attributes that an operator must have.
 pub fn needs(tag: u8) {
     let row = rules::row_of(tag);
-    let form = row.0;
-    let numbers = row.1;
+    let form = row.form;
+    let numbers = row.numbers;
     match form {
-        Form::Each(_) => each(numbers),
+        Form::Each(many) => each(many, numbers),
         Form::One => choice(tag),
         Form::Line => choice(tag),
         Form::Unknown => say(b"take it out"),

@@ -87,18 +87,19 @@ fn data_at(c: Context, s: &[u8], at: usize, due: usize) -> Found
     block_at(s, c.high, at, due, p)
 }
 
-// What is wrong with an operator, before rows and data: 9, 10, then the attributes.
+// What is wrong with an operator, before rows and data: 9, 10, then the attributes. The table is asked for a tag that may not come.
 fn line_at(c: Context, s: &[u8], tag: u8, at: usize, attrs: &[usize; 80], n: usize) -> Fault
     ensures { λ r. ⌜ (Sized (now (attrs .entry)) n → faultAs r ≡ lineAt (contextAs c) (now (s .entry)) tag at (rowsOf (now (attrs .entry)) n) (lineIn table tag)) ⌝ }
 {
-    if !rules::is_operator(tag) {
-        return Fault::Bad(9, at);
-    }
     let phase = c.phase;
-    if !may_come(phase, c.opened, tag) {
-        return Fault::Bad(10, at);
+    if may_come(phase, c.opened, tag) {
+        return rules::line_fault(s, c.high, tag, at, attrs, n);
     }
-    rules::line_fault(s, c.high, tag, at, attrs, n)
+    if rules::is_operator(tag) {
+        Fault::Bad(10, at)
+    } else {
+        Fault::Bad(9, at)
+    }
 }
 
 // The next operator from `start` on; its attributes go to `attrs`.

@@ -29,8 +29,8 @@ shown-form Line ns = refl
 shown-form Unknown ns = refl
 
 -- the table has the line exactly if the code's form is known
-pub line-known : (r : Row) (l : scope.Line) → briefAs r ≡ briefOf l → isKnown (r .0) ≡ isLine l
-line-known r l e = sym (shown-form (r .0) (upToNo (r .1))) ∙ ap shown e ∙ shown-line l
+pub line-known : (r : Row) (l : scope.Line) → briefAs r ≡ briefOf l → isKnown (r .form) ≡ isLine l
+line-known r l e = sym (shown-form (r .form) (upToNo (r .numbers))) ∙ ap shown e ∙ shown-line l
 
 formIn : Brief → scope.Form
 formIn (known f k ns) = f
@@ -67,8 +67,8 @@ by-numbers Unknown ns k = absurd (false≢true k)
 
 -- a line of the code, against a line of the table
 pub data Stood (r : Row) : scope.Line → Type 0 where
-  stood-none : isKnown (r .0) ≡ false → Stood r scope.Line.none
-  stood-is : {x : scope.Row} → isKnown (r .0) ≡ true → formAs (r .0) ≡ x .form → Stands (r .1) (x .rules) → Led (mustAs (r .0)) (x .rules)
+  stood-none : isKnown (r .form) ≡ false → Stood r scope.Line.none
+  stood-is : {x : scope.Row} → isKnown (r .form) ≡ true → formAs (r .form) ≡ x .form → Stands (r .numbers) (x .rules) → Led (mustAs (r .form)) (x .rules)
       → Stood r (scope.Line.is x)
 
 stood-by : (r : Row) (tag : ℕ) (l : scope.Line) → scope.lineIn scope.table tag ≡ l → briefAs r ≡ briefOf l → Stood r l
@@ -76,9 +76,9 @@ unfolding formIn mustOf numbersOf
 stood-by r tag scope.Line.none q e = stood-none (line-known r scope.Line.none e)
 stood-by r tag (scope.Line.is x) q e =
     let k = line-known r (scope.Line.is x) e in
-    let f : formAs (r .0) ≡ x .form = sym (by-form (r .0) (upToNo (r .1))) ∙ ap formIn e in
-    let n : upToNo (r .1) ≡ numbersIn (x .rules) = sym (by-numbers (r .0) (upToNo (r .1)) k) ∙ ap numbersOf e in
-    let m : mustAs (r .0) ≡ mustIn (x .rules) = sym (by-must (r .0) (upToNo (r .1))) ∙ ap mustOf e in
+    let f : formAs (r .form) ≡ x .form = sym (by-form (r .form) (upToNo (r .numbers))) ∙ ap formIn e in
+    let n : upToNo (r .numbers) ≡ numbersIn (x .rules) = sym (by-numbers (r .form) (upToNo (r .numbers)) k) ∙ ap numbersOf e in
+    let m : mustAs (r .form) ≡ mustIn (x .rules) = sym (by-must (r .form) (upToNo (r .numbers))) ∙ ap mustOf e in
     stood-is k f (record { numbers = n; agreed = row-agreed tag x q }) (rw m (row-led tag x q))
 
 pub stood : (r : Row) (tag : ℕ) → briefAs r ≡ briefOf (scope.lineIn scope.table tag) → Stood r (scope.lineIn scope.table tag)

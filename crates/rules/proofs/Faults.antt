@@ -99,20 +99,20 @@ module _ (high : Bool) (s : List ℕ) (rules : List scope.Rule) (a : List ℕ) (
 
 -- the whole line
 module _ (high : Bool) (s : List ℕ) (at : ℕ) (l : List Attribute) (r : Row) where
-  pub fault-9 : (x : scope.Line) → Stood r x → isKnown (r .0) ≡ false → bad 9 at ≡ lineFault high s at l x
+  pub fault-9 : (x : scope.Line) → Stood r x → isKnown (r .form) ≡ false → bad 9 at ≡ lineFault high s at l x
   unfolding lineFault
   fault-9 scope.Line.none (stood-none e) k = refl
   fault-9 (scope.Line.is x) (stood-is known f st led) k = absurd (false≢true (sym k ∙ known))
 
-  pub fault-one : (x : scope.Line) → Stood r x → isKnown (r .0) ≡ true → (c p : ℕ)
-      → ((rules : List scope.Rule) → Stands (r .1) rules → bad c p ≡ oneByOne high s rules [] l) → bad c p ≡ lineFault high s at l x
+  pub fault-one : (x : scope.Line) → Stood r x → isKnown (r .form) ≡ true → (c p : ℕ)
+      → ((rules : List scope.Rule) → Stands (r .numbers) rules → bad c p ≡ oneByOne high s rules [] l) → bad c p ≡ lineFault high s at l x
   unfolding lineFault thenWhole
   fault-one scope.Line.none (stood-none e) k c p h = absurd (false≢true (sym e ∙ k))
   fault-one (scope.Line.is x) (stood-is known f st led) k c p h = rw (← h (x .rules) st)
 
-  pub fault-whole : (x : scope.Line) → Stood r x → isKnown (r .0) ≡ true → (k : ℕ)
-      → ((rules : List scope.Rule) → Stands (r .1) rules → fine ≡ oneByOne high s rules [] l)
-      → ((rules : List scope.Rule) → Stands (r .1) rules → Led (mustAs (r .0)) rules → k ≡ formCode l rules (formAs (r .0)))
+  pub fault-whole : (x : scope.Line) → Stood r x → isKnown (r .form) ≡ true → (k : ℕ)
+      → ((rules : List scope.Rule) → Stands (r .numbers) rules → fine ≡ oneByOne high s rules [] l)
+      → ((rules : List scope.Rule) → Stands (r .numbers) rules → Led (mustAs (r .form)) rules → k ≡ formCode l rules (formAs (r .form)))
       → pick (eqb k 0) fine (bad k at) ≡ lineFault high s at l x
   unfolding lineFault thenWhole
   fault-whole scope.Line.none (stood-none e) t k h g = absurd (false≢true (sym e ∙ t))

@@ -113,3 +113,30 @@ pub many-by : (l : List Attribute) (rules : List scope.Rule) → howMany l rules
 unfolding howMany manyIn numbersIn
 many-by l [] = refl
 many-by l (r ∷ rs) = rw (many-by l rs)
+
+-- what `listed` answers: no line has the number 0
+none-zero : (ns : List ℕ) → among (upToNo ns) 0 ≡ false
+unfolding upToNo among
+none-zero [] = refl
+none-zero (n ∷ ns) = step (eqb n 0) refl (none-zero ns)
+  where
+    step : (b : Bool) → eqb n 0 ≡ b → among (upToNo ns) 0 ≡ false → among (pick b [] (n ∷ upToNo ns)) 0 ≡ false
+    step true e q = refl
+    step false e q = rw (ne-eqb 0 n (λ h. eqb-false n 0 e (sym h))) q
+
+module _ (ns : List ℕ) (n k : ℕ) (answer : k ≡ pick (among (upToNo ns) n) n 0) where
+  pub listed-none : k ≡ 0 → among (upToNo ns) n ≡ false
+  listed-none z = step (among (upToNo ns) n) refl answer
+    where
+      step : (b : Bool) → among (upToNo ns) n ≡ b → k ≡ pick b n 0 → among (upToNo ns) n ≡ false
+      step true q e =
+          let o : n ≡ 0 = sym e ∙ z in
+          rw o (none-zero ns)
+      step false q e = q
+
+  pub listed-is : (k ≡ 0 → ⊥) → (among (upToNo ns) n ≡ true) × (k ≡ n)
+  listed-is z = step (among (upToNo ns) n) refl answer
+    where
+      step : (b : Bool) → among (upToNo ns) n ≡ b → k ≡ pick b n 0 → (among (upToNo ns) n ≡ true) × (k ≡ n)
+      step true q e = (q, e)
+      step false q e = absurd (z e)

@@ -1,8 +1,9 @@
 -- The code's lines and rules, as those of 01's table.
 -- Assumes nothing.
-use Prim.Native.Nat.{ℕ, suc}
+use Prim.Native.Nat.{ℕ, suc, _-_}
 use mathlib.Core.List.{List, [], _∷_, _++_}
 use mathlib.Core.Bool.{Bool, true, false}
+use lib.ListN.{length, replicate}
 use lib.Dec.{eqb}
 use Rattle.scope.specs.Choice.{pick}
 use Rattle.scope.specs.Table as scope
@@ -62,6 +63,10 @@ mustAs One = 0
 mustAs Line = 0
 mustAs Unknown = 0
 
+-- a line of the code: its form, and up to eight numbers
+abbrev pub rowWith : Form → List ℕ → Row
+rowWith f ns = record { form = f; numbers = ns ++ replicate (8 - length ns) 0 }
+
 -- the line without its rules that a line of the code stands for
 abbrev pub briefBy : Form → List ℕ → Brief
 briefBy (Each k) ns = known scope.each k ns
@@ -70,7 +75,7 @@ briefBy Line ns = known scope.line 0 ns
 briefBy Unknown ns = unknown
 
 abbrev pub briefAs : Row → Brief
-briefAs r = briefBy (r .0) (upToNo (r .1))
+briefAs r = briefBy (r .form) (upToNo (r .numbers))
 
 -- the rules of all lines
 unfoldable pub rulesIn : List scope.Row → List scope.Rule
@@ -96,6 +101,6 @@ takesAs A l h = scope.A l h
 takesAs D l h = scope.D l
 takesAs M l h = scope.M
 
--- the rule that a rule of the code stands for, of an attribute of this number
-abbrev pub ruleAs : ℕ → Rule → scope.Rule
-ruleAs n r = record { number = n; takes = takesAs (r .0) (r .1) (r .2); must = r .3 }
+-- the values that a rule of the code stands for
+abbrev pub takesOf : Rule → scope.Takes
+takesOf r = takesAs (r .kind) (r .low) (r .high)

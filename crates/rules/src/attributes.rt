@@ -42,10 +42,17 @@ pub fn place_of(attrs: &[usize; 80], n: usize, number: usize) -> usize
 }
 
 // An attribute of this number is there.
-pub fn has(attrs: &[usize; 80], n: usize, number: usize) -> bool
+pub fn is_given(attrs: &[usize; 80], n: usize, number: usize) -> bool
     ensures { λ r. ⌜ (Sized (now (attrs .entry)) n → r ≡ hasIn number (rowsOf (now (attrs .entry)) n)) ⌝ }
 {
     place_of(attrs, n, number) < 16
+}
+
+// This attribute is there.
+pub fn has(attrs: &[usize; 80], n: usize, number: u8) -> bool
+    ensures { λ r. ⌜ (Sized (now (attrs .entry)) n → r ≡ hasIn number (rowsOf (now (attrs .entry)) n)) ⌝ }
+{
+    is_given(attrs, n, number as usize)
 }
 
 // The first number of a value of ubytes or of uint16.
@@ -59,23 +66,23 @@ pub fn first_of(s: &[u8], high: bool, tag: usize, first: usize) -> u32
     number::number_at(s, first, Width::Two, high)
 }
 
-// The value of the attribute of this number; 0 where it is not there.
-pub fn value_in(s: &[u8], high: bool, attrs: &[usize; 80], n: usize, number: usize) -> u32
+// The value of this attribute; 0 where it is not there.
+pub fn value_in(s: &[u8], high: bool, attrs: &[usize; 80], n: usize, number: u8) -> u32
     ensures { λ r. ⌜ (Sized (now (attrs .entry)) n → r ≡ valueIn high (now (s .entry)) (rowsOf (now (attrs .entry)) n) number) ⌝ }
     ensures { λ r. ⌜ r < 65536 ⌝ }
 {
-    let i = place_of(attrs, n, number);
+    let i = place_of(attrs, n, number as usize);
     if i < 16 {
         return first_of(s, high, attrs[i * 5 + 1], attrs[i * 5 + 4]);
     }
     0
 }
 
-// Where the array of this number is; no bytes where it is not there.
-pub fn part_in(attrs: &[usize; 80], n: usize, number: usize) -> Part
+// Where the array of this attribute is; no bytes where it is not there.
+pub fn part_in(attrs: &[usize; 80], n: usize, number: u8) -> Part
     ensures { λ r. ⌜ (Sized (now (attrs .entry)) n → (s : List ℕ) → bytesIn s (rowsOf (now (attrs .entry)) n) number ≡ take (r .count) (drop (r .first) s)) ⌝ }
 {
-    let i = place_of(attrs, n, number);
+    let i = place_of(attrs, n, number as usize);
     if i < 16 {
         return Part {
             first: attrs[i * 5 + 4],

@@ -13,16 +13,21 @@ ghost use Rattle.rules.specs.Lines.{upToNo, isKnown, formAs, mustAs};
 ghost use Rattle.rules.specs.Judging.{attributeAs, ruledIn, Stands, Led, asUsual, faultAs, lineFault};
 use crate::attributes::at_most;
 use crate::attributes::has;
+use crate::attributes::is_given;
 use crate::line::all_there;
 use crate::line::how_many;
 use crate::line::listed;
 use crate::table::Form;
+use crate::table::NO;
 use crate::table::is_known;
 use crate::table::row_of;
 use crate::table::rule_of;
 use crate::value::Attribute;
 use crate::value::in_range;
 use crate::value::type_taken;
+use names::attributes::END_POINT;
+use names::attributes::NUMBER_OF_POINTS;
+use names::attributes::POINT_TYPE;
 
 // A fault has a code and a place.
 pub enum Fault {
@@ -45,23 +50,24 @@ fn attribute_at(attrs: &[usize; 80], i: usize) -> Attribute
 }
 
 // The code of attribute i, given those before it; 0 is none.
-fn attribute_code(s: &[u8], high: bool, numbers: [u8; 5], attrs: &[usize; 80], i: usize) -> u32
+fn attribute_code(s: &[u8], high: bool, numbers: [u8; 8], attrs: &[usize; 80], i: usize) -> u32
     requires { ⌜ i < 16 ⌝ }
     ensures { λ r. ⌜ (Sized (now (attrs .entry)) i → r ≡ attributeCode high (now (s .entry)) (rowsOf (now (attrs .entry)) i) (rowAt (now (attrs .entry)) i) (ruledIn (upToNo numbers) (rowAt (now (attrs .entry)) i .number))) ⌝ }
 {
     let a = attribute_at(attrs, i);
-    if !listed(numbers, a.number) {
+    let number = listed(numbers, a.number);
+    if number == NO {
         return 11;
     }
-    if has(attrs, i, a.number) {
+    if is_given(attrs, i, a.number) {
         return 12;
     }
-    let rule = rule_of(a.number);
-    let kind = rule.0;
+    let rule = rule_of(number);
+    let kind = rule.kind;
     if !type_taken(kind, a.tag) {
         return 15;
     }
-    if in_range(s, high, kind, rule.1, rule.2, a) {
+    if in_range(s, high, kind, rule.low, rule.high, a) {
         0
     } else {
         16
@@ -69,7 +75,7 @@ fn attribute_code(s: &[u8], high: bool, numbers: [u8; 5], attrs: &[usize; 80], i
 }
 
 // Attribute by attribute.
-fn one_by_one(s: &[u8], high: bool, numbers: [u8; 5], attrs: &[usize; 80], n: usize) -> Fault
+fn one_by_one(s: &[u8], high: bool, numbers: [u8; 8], attrs: &[usize; 80], n: usize) -> Fault
     ensures { λ r. ⌜ ((rules : List RuleIn) → Stands numbers rules → Sized (now (attrs .entry)) n → faultAs r ≡ oneByOne high (now (s .entry)) rules [] (rowsOf (now (attrs .entry)) n)) ⌝ }
 {
     let end = at_most(n);
@@ -121,15 +127,15 @@ fn as_usual(attrs: &[usize; 80], n: usize) -> bool
     ensures { λ r. ⌜ r ≡ asUsual (rowsOf (now (attrs .entry)) n) ⌝ }
 {
     if n == 1 {
-        return attrs[0] == 69;
+        return attrs[0] == END_POINT as usize;
     }
     if n != 2 {
         return false;
     }
-    if attrs[0] != 77 {
+    if attrs[0] != NUMBER_OF_POINTS as usize {
         return false;
     }
-    attrs[5] == 80
+    attrs[5] == POINT_TYPE as usize
 }
 
 // 13 and 14 of a line; 0 is none. Most lines are as usual, and those are not searched.
@@ -139,11 +145,15 @@ fn line_code(attrs: &[usize; 80], n: usize) -> u32
     if as_usual(attrs, n) {
         return 0;
     }
-    pair_code(has(attrs, n, 69), has(attrs, n, 77), has(attrs, n, 80))
+    pair_code(
+        has(attrs, n, END_POINT),
+        has(attrs, n, NUMBER_OF_POINTS),
+        has(attrs, n, POINT_TYPE),
+    )
 }
 
 // 13 and 14, by the form of the line; 0 is none.
-fn form_code(form: Form, numbers: [u8; 5], attrs: &[usize; 80], n: usize) -> u32
+fn form_code(form: Form, numbers: [u8; 8], attrs: &[usize; 80], n: usize) -> u32
     ensures { λ r. ⌜ (isKnown form ≡ true → (rules : List RuleIn) → Stands numbers rules → Led (mustAs form) rules → Sized (now (attrs .entry)) n → r ≡ formCode (rowsOf (now (attrs .entry)) n) rules (formAs form)) ⌝ }
 {
     match form {
@@ -175,8 +185,8 @@ pub fn line_fault(s: &[u8], high: bool, tag: u8, at: usize, attrs: &[usize; 80],
     ensures { λ r. ⌜ (Sized (now (attrs .entry)) n → faultAs r ≡ lineFault high (now (s .entry)) at (rowsOf (now (attrs .entry)) n) (lineIn table tag)) ⌝ }
 {
     let row = row_of(tag);
-    let form = row.0;
-    let numbers = row.1;
+    let form = row.form;
+    let numbers = row.numbers;
     if !is_known(form) {
         return Fault::Bad(9, at);
     }

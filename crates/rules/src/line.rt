@@ -7,7 +7,7 @@ ghost use Rattle.scope.specs.Attributes.{has as hasIn};
 ghost use Rattle.items.specs.Rows.{rowsOf, Sized};
 ghost use Rattle.rules.specs.Lines.{upToNo};
 ghost use Rattle.rules.specs.Judging.{allIn, manyIn};
-use crate::attributes::has;
+use crate::attributes::is_given;
 use crate::table::NO;
 
 fn wide(n: u8) -> usize
@@ -23,22 +23,22 @@ fn one_if(there: bool) -> usize
     if there { 1 } else { 0 }
 }
 
-// The line has this number.
-pub fn listed(numbers: [u8; 5], number: usize) -> bool
-    ensures { λ r. ⌜ r ≡ among (upToNo numbers) number ⌝ }
+// The line's attribute of this number; NO if it has none.
+pub fn listed(numbers: [u8; 8], number: usize) -> u8
+    ensures { λ r. ⌜ r ≡ pick (among (upToNo numbers) number) number 0 ⌝ }
 {
     let mut i: usize = 0;
-    while i < 5 {
+    while i < 8 {
         let k = numbers[i];
         if k == NO {
-            return false;
+            return NO;
         }
         if wide(k) == number {
-            return true;
+            return k;
         }
         i += 1;
     }
-    false
+    NO
 }
 
 // An attribute of this number is there; mostly it is attribute i.
@@ -51,15 +51,15 @@ fn there(attrs: &[usize; 80], n: usize, i: usize, number: usize) -> bool
             return true;
         }
     }
-    has(attrs, n, number)
+    is_given(attrs, n, number)
 }
 
 // The first so many numbers of the line are there.
-pub fn all_there(must: usize, numbers: [u8; 5], attrs: &[usize; 80], n: usize) -> bool
+pub fn all_there(must: usize, numbers: [u8; 8], attrs: &[usize; 80], n: usize) -> bool
     ensures { λ r. ⌜ (Sized (now (attrs .entry)) n → r ≡ allIn (rowsOf (now (attrs .entry)) n) (take must numbers)) ⌝ }
 {
     let mut i: usize = 0;
-    while i < 5 {
+    while i < 8 {
         if i == must {
             return true;
         }
@@ -72,17 +72,17 @@ pub fn all_there(must: usize, numbers: [u8; 5], attrs: &[usize; 80], n: usize) -
 }
 
 // How many attributes of the line are there.
-pub fn how_many(numbers: [u8; 5], attrs: &[usize; 80], n: usize) -> usize
+pub fn how_many(numbers: [u8; 8], attrs: &[usize; 80], n: usize) -> usize
     ensures { λ r. ⌜ (Sized (now (attrs .entry)) n → r ≡ manyIn (rowsOf (now (attrs .entry)) n) (upToNo numbers)) ⌝ }
 {
     let mut many: usize = 0;
     let mut i: usize = 0;
-    while i < 5 {
+    while i < 8 {
         let k = numbers[i];
         if k == NO {
             return many;
         }
-        many += one_if(has(attrs, n, wide(k)));
+        many += one_if(is_given(attrs, n, wide(k)));
         i += 1;
     }
     many

@@ -1,7 +1,13 @@
-// 01's table of operators: a line of code for a line of the table, and a line for each attribute.
+// The operator table: a line for an operator, in the order of Appendix C of 000, and a line for each attribute.
 ghost use mathlib.Core.Path.{_≡_};
+ghost use mathlib.Core.List.{_∷_, []};
 ghost use Rattle.scope.specs.Table.{table, lineIn};
-ghost use Rattle.rules.specs.Lines.{isLine, isKnown, briefAs, briefOf, ruleAs, ruleOf};
+ghost use Rattle.rules.specs.Lines.{isLine, isKnown, rowWith, briefAs, briefOf, takesOf, ruleOf};
+ghost use Rattle.rules.specs.declared.table.Form.the-variants.{Each, One, Line, Unknown};
+use names::attributes::SOURCE_HEIGHT as HEIGHT;
+use names::attributes::SOURCE_WIDTH as WIDTH;
+use names::attributes::*;
+use names::operators::*;
 
 // How an operator's attributes belong together: each by itself, of which the first so many must be there; exactly one
 // of them; or the first alone or both others.
@@ -12,8 +18,11 @@ pub enum Form {
     Unknown,
 }
 
-// An operator's form and the numbers of its attributes.
-pub struct Row(pub Form, pub [u8; 5]);
+// An operator's line: how its attributes belong together, and their numbers.
+pub struct Row {
+    pub form: Form,
+    pub numbers: [u8; 8],
+}
 
 // No attribute.
 pub const NO: u8 = 0;
@@ -30,83 +39,193 @@ pub enum Kind {
     M,
 }
 
-// An attribute's values, the lowest, the highest, and whether it must be there.
-pub struct Rule(pub Kind, pub usize, pub usize, pub bool);
+// An attribute's values, the lowest and the highest.
+pub struct Rule {
+    pub kind: Kind,
+    pub low: usize,
+    pub high: usize,
+}
 
-// The line of an operator.
+// Takes no attribute.
+fn nothing() -> Row
+    ensures { λ r. ⌜ r ≡ rowWith (Each 0) [] ⌝ }
+{
+    Row {
+        form: Form::Each(0),
+        numbers: [NO, NO, NO, NO, NO, NO, NO, NO],
+    }
+}
+
+// Takes one, which must be there.
+fn needs(a: u8) -> Row
+    ensures { λ r. ⌜ r ≡ rowWith (Each 1) (a ∷ []) ⌝ }
+{
+    Row {
+        form: Form::Each(1),
+        numbers: [a, NO, NO, NO, NO, NO, NO, NO],
+    }
+}
+
+// Takes one, which may be missing.
+fn may(a: u8) -> Row
+    ensures { λ r. ⌜ r ≡ rowWith (Each 0) (a ∷ []) ⌝ }
+{
+    Row {
+        form: Form::Each(0),
+        numbers: [a, NO, NO, NO, NO, NO, NO, NO],
+    }
+}
+
+// Takes two, which must be there.
+fn needs_two(a: u8, b: u8) -> Row
+    ensures { λ r. ⌜ r ≡ rowWith (Each 2) (a ∷ b ∷ []) ⌝ }
+{
+    Row {
+        form: Form::Each(2),
+        numbers: [a, b, NO, NO, NO, NO, NO, NO],
+    }
+}
+
+// Takes two, which must be there, and one that may be missing.
+fn needs_two_may(a: u8, b: u8, c: u8) -> Row
+    ensures { λ r. ⌜ r ≡ rowWith (Each 2) (a ∷ b ∷ c ∷ []) ⌝ }
+{
+    Row {
+        form: Form::Each(2),
+        numbers: [a, b, c, NO, NO, NO, NO, NO],
+    }
+}
+
+// Takes three, which must be there.
+fn needs_three(a: u8, b: u8, c: u8) -> Row
+    ensures { λ r. ⌜ r ≡ rowWith (Each 3) (a ∷ b ∷ c ∷ []) ⌝ }
+{
+    Row {
+        form: Form::Each(3),
+        numbers: [a, b, c, NO, NO, NO, NO, NO],
+    }
+}
+
+// Takes five, which must be there.
+fn needs_five(a: u8, b: u8, c: u8, d: u8, e: u8) -> Row
+    ensures { λ r. ⌜ r ≡ rowWith (Each 5) (a ∷ b ∷ c ∷ d ∷ e ∷ []) ⌝ }
+{
+    Row {
+        form: Form::Each(5),
+        numbers: [a, b, c, d, e, NO, NO, NO],
+    }
+}
+
+// Takes exactly one of three.
+fn one_of(a: u8, b: u8, c: u8) -> Row
+    ensures { λ r. ⌜ r ≡ rowWith One (a ∷ b ∷ c ∷ []) ⌝ }
+{
+    Row {
+        form: Form::One,
+        numbers: [a, b, c, NO, NO, NO, NO, NO],
+    }
+}
+
+// Takes the first alone, or both others.
+fn one_or_both(a: u8, b: u8, c: u8) -> Row
+    ensures { λ r. ⌜ r ≡ rowWith Line (a ∷ b ∷ c ∷ []) ⌝ }
+{
+    Row {
+        form: Form::Line,
+        numbers: [a, b, c, NO, NO, NO, NO, NO],
+    }
+}
+
+// No operator of the table.
+fn unknown() -> Row
+    ensures { λ r. ⌜ r ≡ rowWith Unknown [] ⌝ }
+{
+    Row {
+        form: Form::Unknown,
+        numbers: [NO, NO, NO, NO, NO, NO, NO, NO],
+    }
+}
+
+// What attributes an operator takes: one line for one operator.
 pub fn row_of(tag: u8) -> Row
     ensures { λ r. ⌜ briefAs r ≡ briefOf (lineIn table tag) ⌝ }
 {
     match tag {
-        0x41 => Row(Form::Each(2), [134, 137, 143, NO, NO]),
-        0x42 => Row(Form::Each(0), [NO, NO, NO, NO, NO]),
-        0x43 => Row(Form::Each(2), [40, 37, 38, NO, NO]),
-        0x44 => Row(Form::Each(0), [49, NO, NO, NO, NO]),
-        0x47 => Row(Form::Each(0), [129, NO, NO, NO, NO]),
-        0x48 => Row(Form::Each(2), [136, 130, NO, NO, NO]),
-        0x49 => Row(Form::Each(0), [NO, NO, NO, NO, NO]),
-        0x5b => Row(Form::Each(1), [139, NO, NO, NO, NO]),
-        0x5c => Row(Form::Each(1), [140, NO, NO, NO, NO]),
-        0x5d => Row(Form::Each(0), [NO, NO, NO, NO, NO]),
-        0x5e => Row(Form::Each(1), [139, NO, NO, NO, NO]),
-        0x60 => Row(Form::Each(0), [NO, NO, NO, NO, NO]),
-        0x61 => Row(Form::Each(0), [NO, NO, NO, NO, NO]),
-        0x63 => Row(Form::One, [11, 9, 4, NO, NO]),
-        0x6a => Row(Form::Each(1), [3, NO, NO, NO, NO]),
-        0x6b => Row(Form::Each(1), [76, NO, NO, NO, NO]),
-        0x6c => Row(Form::Each(1), [76, NO, NO, NO, NO]),
-        0x79 => Row(Form::One, [11, 9, 5, NO, NO]),
-        0x7a => Row(Form::Each(1), [75, NO, NO, NO, NO]),
-        0x84 => Row(Form::Each(0), [NO, NO, NO, NO, NO]),
-        0x85 => Row(Form::Each(0), [NO, NO, NO, NO, NO]),
-        0x86 => Row(Form::Each(0), [NO, NO, NO, NO, NO]),
-        0x9b => Row(Form::Line, [69, 77, 80, NO, NO]),
-        0x9d => Row(Form::Line, [69, 77, 80, NO, NO]),
-        0xa0 => Row(Form::Each(1), [66, NO, NO, NO, NO]),
-        0xb0 => Row(Form::Each(5), [100, 98, 108, 107, 103]),
-        0xb1 => Row(Form::Each(3), [109, 99, 101, NO, NO]),
-        0xb2 => Row(Form::Each(0), [NO, NO, NO, NO, NO]),
-        _ => Row(Form::Unknown, [NO, NO, NO, NO, NO]),
+        BEGIN_IMAGE => needs_five(COLOR_MAPPING, COLOR_DEPTH, WIDTH, HEIGHT, DESTINATION_SIZE),
+        BEGIN_PAGE => needs_two_may(ORIENTATION, MEDIA_SIZE, MEDIA_SOURCE),
+        BEGIN_SESSION => needs_two_may(MEASURE, UNITS_PER_MEASURE, ERROR_REPORT),
+        BEGIN_STREAM => needs(STREAM_NAME),
+        CLOSE_DATA_SOURCE => nothing(),
+        CLOSE_SUB_PATH => nothing(),
+        COMMENT => may(COMMENT_DATA),
+        END_IMAGE => nothing(),
+        END_PAGE => may(PAGE_COPIES),
+        END_SESSION => nothing(),
+        END_STREAM => nothing(),
+        EXEC_STREAM => needs(STREAM_NAME),
+        LINE_PATH => one_or_both(END_POINT, NUMBER_OF_POINTS, POINT_TYPE),
+        LINE_REL_PATH => one_or_both(END_POINT, NUMBER_OF_POINTS, POINT_TYPE),
+        NEW_PATH => nothing(),
+        OPEN_DATA_SOURCE => needs_two(SOURCE_TYPE, DATA_ORG),
+        PAINT_PATH => nothing(),
+        POP_GS => nothing(),
+        PUSH_GS => nothing(),
+        READ_IMAGE => needs_three(START_LINE, BLOCK_HEIGHT, COMPRESS_MODE),
+        READ_STREAM => needs(STREAM_DATA_LENGTH),
+        RECTANGLE => needs(BOUNDING_BOX),
+        SET_BRUSH_SOURCE => one_of(RGB_COLOR, GRAY_LEVEL, NULL_BRUSH),
+        SET_COLOR_SPACE => needs(COLOR_SPACE),
+        SET_CURSOR => needs(POINT),
+        SET_CURSOR_REL => needs(POINT),
+        SET_PEN_SOURCE => one_of(RGB_COLOR, GRAY_LEVEL, NULL_PEN),
+        SET_PEN_WIDTH => needs(PEN_WIDTH),
+        _ => unknown(),
     }
 }
 
-// The rule of an attribute by its number, which is the same in every line that has it.
-pub fn rule_of(number: usize) -> Rule
-    ensures { λ r. ⌜ ruleAs number r ≡ ruleOf number ⌝ }
+fn takes(kind: Kind, low: usize, high: usize) -> Rule
+    ensures { λ r. ⌜ r ≡ record { kind = kind; low = low; high = high } ⌝ }
+{
+    Rule { kind, low, high }
+}
+
+// The values that an attribute takes, which are the same in every line that has it.
+pub fn rule_of(number: u8) -> Rule
+    ensures { λ r. ⌜ takesOf r ≡ ruleOf number .takes ⌝ }
 {
     match number {
-        3 => Rule(Kind::E, 1, 2, true),
-        4 => Rule(Kind::E, 0, 0, false),
-        5 => Rule(Kind::E, 0, 0, false),
-        9 => Rule(Kind::E, 0, 255, false),
-        11 => Rule(Kind::A, 3, 3, false),
-        37 => Rule(Kind::M, 0, 0, true),
-        38 => Rule(Kind::E, 0, 6, false),
-        40 => Rule(Kind::E, 0, 3, true),
-        49 => Rule(Kind::N, 1, 1, false),
-        66 => Rule(Kind::B, 0, 0, true),
-        69 => Rule(Kind::P, 0, 0, false),
-        75 => Rule(Kind::N, 0, 65535, true),
-        76 => Rule(Kind::P, 0, 0, true),
-        77 => Rule(Kind::N, 1, 65535, false),
-        80 => Rule(Kind::E, 0, 3, false),
-        98 => Rule(Kind::E, 0, 2, true),
-        99 => Rule(Kind::N, 1, 65535, true),
-        100 => Rule(Kind::E, 0, 0, true),
-        101 => Rule(Kind::E, 0, 0, true),
-        103 => Rule(Kind::D, 1, 0, true),
-        107 => Rule(Kind::N, 1, 65535, true),
-        108 => Rule(Kind::N, 1, 65535, true),
-        109 => Rule(Kind::N, 0, 65535, true),
-        129 => Rule(Kind::A, 0, 1024, false),
-        130 => Rule(Kind::E, 0, 1, true),
-        134 => Rule(Kind::E, 0, 2, true),
-        136 => Rule(Kind::E, 0, 0, true),
-        137 => Rule(Kind::D, 1, 0, true),
-        139 => Rule(Kind::A, 1, 16, true),
-        140 => Rule(Kind::N, 1, 65535, true),
-        143 => Rule(Kind::E, 0, 3, false),
-        _ => Rule(Kind::E, 1, 0, false),
+        COLOR_SPACE => takes(Kind::E, 1, 2),
+        NULL_BRUSH => takes(Kind::E, 0, 0),
+        NULL_PEN => takes(Kind::E, 0, 0),
+        GRAY_LEVEL => takes(Kind::E, 0, 255),
+        RGB_COLOR => takes(Kind::A, 3, 3),
+        MEDIA_SIZE => takes(Kind::M, 0, 0),
+        MEDIA_SOURCE => takes(Kind::E, 0, 6),
+        ORIENTATION => takes(Kind::E, 0, 3),
+        PAGE_COPIES => takes(Kind::N, 1, 1),
+        BOUNDING_BOX => takes(Kind::B, 0, 0),
+        END_POINT => takes(Kind::P, 0, 0),
+        PEN_WIDTH => takes(Kind::N, 0, 65_535),
+        POINT => takes(Kind::P, 0, 0),
+        NUMBER_OF_POINTS => takes(Kind::N, 1, 65_535),
+        POINT_TYPE => takes(Kind::E, 0, 3),
+        COLOR_DEPTH => takes(Kind::E, 0, 2),
+        BLOCK_HEIGHT => takes(Kind::N, 1, 65_535),
+        COLOR_MAPPING => takes(Kind::E, 0, 0),
+        COMPRESS_MODE => takes(Kind::E, 0, 0),
+        DESTINATION_SIZE => takes(Kind::D, 1, 0),
+        HEIGHT => takes(Kind::N, 1, 65_535),
+        WIDTH => takes(Kind::N, 1, 65_535),
+        START_LINE => takes(Kind::N, 0, 65_535),
+        COMMENT_DATA => takes(Kind::A, 0, 1024),
+        DATA_ORG => takes(Kind::E, 0, 1),
+        MEASURE => takes(Kind::E, 0, 2),
+        SOURCE_TYPE => takes(Kind::E, 0, 0),
+        UNITS_PER_MEASURE => takes(Kind::D, 1, 0),
+        STREAM_NAME => takes(Kind::A, 1, 16),
+        STREAM_DATA_LENGTH => takes(Kind::N, 1, 65_535),
+        ERROR_REPORT => takes(Kind::E, 0, 3),
+        _ => takes(Kind::E, 1, 0),
     }
 }
 
@@ -122,39 +241,11 @@ pub fn is_known(form: Form) -> bool
     }
 }
 
-// The operator table has this tag. Asked of every operator, so it looks up no line.
+// The operator table has this tag.
 pub fn is_operator(tag: u8) -> bool
     ensures { λ r. ⌜ r ≡ isLine (lineIn table tag) ⌝ }
 {
-    match tag {
-        0x41 => true,
-        0x42 => true,
-        0x43 => true,
-        0x44 => true,
-        0x47 => true,
-        0x48 => true,
-        0x49 => true,
-        0x5b => true,
-        0x5c => true,
-        0x5d => true,
-        0x5e => true,
-        0x60 => true,
-        0x61 => true,
-        0x63 => true,
-        0x6a => true,
-        0x6b => true,
-        0x6c => true,
-        0x79 => true,
-        0x7a => true,
-        0x84 => true,
-        0x85 => true,
-        0x86 => true,
-        0x9b => true,
-        0x9d => true,
-        0xa0 => true,
-        0xb0 => true,
-        0xb1 => true,
-        0xb2 => true,
-        _ => false,
-    }
+    let row = row_of(tag);
+    let form = row.form;
+    is_known(form)
 }

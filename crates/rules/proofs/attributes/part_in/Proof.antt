@@ -14,29 +14,29 @@ use Rattle.rules.proofs.attributes.place_of.Reads as place-of-reads
 place-of-requires : tie.Need-place-of-requires
 place-of-requires c κs = search needs
 
-mul-t6 : tie.Need-mul-t6
-mul-t6 c = search needs
+mul-t7 : tie.Need-mul-t7
+mul-t7 c = search needs
 
-add-t7 : tie.Need-add-t7
-add-t7 c = search needs
+add-t8 : tie.Need-add-t8
+add-t8 c = search needs
 
-mul-t8 : tie.Need-mul-t8
-mul-t8 c = search needs
+mul-t9 : tie.Need-mul-t9
+mul-t9 c = search needs
 
-element-copy-out-t11 : tie.Need-element-copy-out-t11
-element-copy-out-t11 c = search needs
+element-copy-out-t12 : tie.Need-element-copy-out-t12
+element-copy-out-t12 c = search needs
 
-mul-t12 : tie.Need-mul-t12
-mul-t12 c = search needs
+mul-t13 : tie.Need-mul-t13
+mul-t13 c = search needs
 
-add-t13 : tie.Need-add-t13
-add-t13 c = search needs
+add-t14 : tie.Need-add-t14
+add-t14 c = search needs
 
-mul-t14 : tie.Need-mul-t14
-mul-t14 c = search needs
+mul-t15 : tie.Need-mul-t15
+mul-t15 c = search needs
 
-element-copy-out-t17 : tie.Need-element-copy-out-t17
-element-copy-out-t17 c = search needs
+element-copy-out-t18 : tie.Need-element-copy-out-t18
+element-copy-out-t18 c = search needs
 
 returns : tie.Need-returns
 unfolding rowAt
@@ -58,13 +58,13 @@ part-in-spec =
     tie.close
     (tie.spec
     place-of-requires
-    mul-t6
-    add-t7
-    mul-t8
-    element-copy-out-t11
-    mul-t12
-    add-t13
-    mul-t14
-    element-copy-out-t17
+    mul-t7
+    add-t8
+    mul-t9
+    element-copy-out-t12
+    mul-t13
+    add-t14
+    mul-t15
+    element-copy-out-t18
     returns
     returns-2)

@@ -12,6 +12,9 @@ use Rattle.rules.proofs.judge.as_usual.Lts as lts
 element-copy-out-result : tie.Need-element-copy-out-result
 element-copy-out-result c = search needs
 
+cast-result : tie.Need-cast-result
+cast-result c = search needs
+
 returns : tie.Need-returns
 returns c = rw (c .before .if1 .taken) (sym (usual-one (c .before .before .args .attrs .now)))
 
@@ -23,6 +26,9 @@ returns-2 c =
 element-copy-out-if3 : tie.Need-element-copy-out-if3
 element-copy-out-if3 c = search needs
 
+cast-if3 : tie.Need-cast-if3
+cast-if3 c = search needs
+
 returns-3 : tie.Need-returns-3
 returns-3 c =
     let e = c .before .before in
@@ -31,6 +37,9 @@ returns-3 c =
 
 element-copy-out-result-2 : tie.Need-element-copy-out-result-2
 element-copy-out-result-2 c = search needs
+
+cast-result-2 : tie.Need-cast-result-2
+cast-result-2 c = search needs
 
 returns-4 : tie.Need-returns-4
 returns-4 c =
@@ -43,9 +52,12 @@ as-usual-spec =
     tie.close
     (tie.spec
     element-copy-out-result
+    cast-result
     returns
     returns-2
     element-copy-out-if3
+    cast-if3
     returns-3
     element-copy-out-result-2
+    cast-result-2
     returns-4)

@@ -1,19 +1,21 @@
 -- `rules::judge::attribute_code` meets its contract: 11, 12, 15, 16 in this order.
 -- Assumes nothing.
+use Prim.Native.Nat.{ℕ}
 use mathlib.Core.Path.{_≡_, refl, sym, ap, _∙_}
 use mathlib.Core.Bool.{true, false}
 use borrow.Author.Tests.{not-true, not-false}
-use Rattle.scope.specs.Table.{Rule}
+use Rattle.scope.specs.Choice.{among}
 use Rattle.items.specs.Rows.{rowAt, rowsOf}
-use Rattle.rules.specs.Lines.{upToNo, takesAs}
+use Rattle.rules.specs.Lines.{upToNo, takesOf, ruleOf}
 use Rattle.rules.specs.Judging.{attributeAs}
+use Rattle.rules.proofs.Numbered.{listed-none, listed-is}
 use Rattle.rules.proofs.Faults.{code-11, code-12, code-15, code-16}
 use borrow.Author.Needs.{needs}
 use Rattle.rules.proofs.judge.attribute_code.Statement.{statement}
 use Rattle.rules.proofs.judge.attribute_code.Tie as tie
 use Rattle.rules.proofs.judge.attribute_code.Reads as reads
 use Rattle.rules.proofs.judge.attribute_code.Lts as lts
-use Rattle.rules.proofs.attributes.has.Reads as has-reads
+use Rattle.rules.proofs.attributes.is_given.Reads as is-given-reads
 use Rattle.rules.proofs.judge.attribute_at.Reads as attribute-at-reads
 use Rattle.rules.proofs.line.listed.Reads as listed-reads
 use Rattle.rules.proofs.table.rule_of.Reads as rule-of-reads
@@ -31,18 +33,26 @@ returns c =
     let e = c .before .before in
     let a = e .before .before .args in
     λ z. rw (← e .attribute-at .ensures) (sym (code-11 (a .high) (a .s .now) (rowsOf (a .attrs .now) (a .i)) (attributeAs (e .attribute-at .result)) (upToNo (a .numbers))
-    (sym (c .before .listed .ensures) ∙ not-true _ (c .if1 .taken))))
+    (listed-none (a .numbers) (e .attribute-at .result .number) (c .before .listed .result) (c .before .listed .ensures) (c .if1 .taken))))
 
-has-requires : tie.Need-has-requires
-has-requires c κs = search needs
+-- the line has the attribute's number, and that is what `listed` answered
+there : (c : tie.Else1)
+    → let e = c .before .before in
+    (among (upToNo (e .before .before .args .numbers)) (e .attribute-at .result .number) ≡ true) × (c .before .listed .result ≡ e .attribute-at .result .number)
+there c =
+    let e = c .before .before in
+    listed-is (e .before .before .args .numbers) (e .attribute-at .result .number) (c .before .listed .result) (c .before .listed .ensures) (c .if1 .left)
+
+is-given-requires : tie.Need-is-given-requires
+is-given-requires c κs = search needs
 
 returns-2 : tie.Need-returns-2
 returns-2 c =
     let e = c .before .before .before .before in
     let a = e .before .before .args in
     λ z. rw (← e .attribute-at .ensures) (sym (code-12 (a .high) (a .s .now) (rowsOf (a .attrs .now) (a .i)) (attributeAs (e .attribute-at .result)) (upToNo (a .numbers))
-    (sym (c .before .before .before .listed .ensures) ∙ not-false _ (c .before .before .if1 .left))
-    (sym (c .before .has .ensures z) ∙ c .if2 .taken)))
+    (there (c .before .before) .0)
+    (sym (c .before .is-given .ensures z) ∙ c .if2 .taken)))
 
 rule-of-requires : tie.Need-rule-of-requires
 rule-of-requires c κs = search needs
@@ -58,10 +68,10 @@ returns-3 c =
     let a = e .before .before .args in
     let r = u .rule-of .result in
     λ z. rw (← e .attribute-at .ensures) (sym (code-15 (a .high) (a .s .now) (rowsOf (a .attrs .now) (a .i)) (attributeAs (e .attribute-at .result)) (upToNo (a .numbers))
-    (sym (h .before .before .listed .ensures) ∙ not-false _ (h .before .if1 .left))
-    (sym (h .has .ensures z) ∙ u .before .if2 .left)
-    (takesAs (r .0) (r .1) (r .2)) (ap (λ (x : Rule). x .takes) (u .rule-of .ensures))
-    (sym (c .before .type-taken .ensures (r .1) (r .2)) ∙ not-true _ (c .if3 .taken))))
+    (there (h .before) .0)
+    (sym (h .is-given .ensures z) ∙ u .before .if2 .left)
+    (takesOf r) (u .rule-of .ensures ∙ ap (λ (k : ℕ). ruleOf k .takes) (there (h .before) .1))
+    (sym (c .before .type-taken .ensures (r .low) (r .high)) ∙ not-true _ (c .if3 .taken))))
 
 in-range-requires : tie.Need-in-range-requires
 in-range-requires c κs = search needs
@@ -75,10 +85,10 @@ returns-4 c =
     let a = e .before .before .args in
     let r = u .rule-of .result in
     λ z. rw (← e .attribute-at .ensures) (sym (code-16 (a .high) (a .s .now) (rowsOf (a .attrs .now) (a .i)) (attributeAs (e .attribute-at .result)) (upToNo (a .numbers))
-    (sym (h .before .before .listed .ensures) ∙ not-false _ (h .before .if1 .left))
-    (sym (h .has .ensures z) ∙ u .before .if2 .left)
-    (takesAs (r .0) (r .1) (r .2)) (ap (λ (x : Rule). x .takes) (u .rule-of .ensures))
-    (sym (v .before .type-taken .ensures (r .1) (r .2)) ∙ not-false _ (v .if3 .left))
+    (there (h .before) .0)
+    (sym (h .is-given .ensures z) ∙ u .before .if2 .left)
+    (takesOf r) (u .rule-of .ensures ∙ ap (λ (k : ℕ). ruleOf k .takes) (there (h .before) .1))
+    (sym (v .before .type-taken .ensures (r .low) (r .high)) ∙ not-false _ (v .if3 .left))
     true (sym (c .before .in-range .ensures) ∙ c .if4 .taken)))
 
 returns-5 : tie.Need-returns-5
@@ -90,10 +100,10 @@ returns-5 c =
     let a = e .before .before .args in
     let r = u .rule-of .result in
     λ z. rw (← e .attribute-at .ensures) (sym (code-16 (a .high) (a .s .now) (rowsOf (a .attrs .now) (a .i)) (attributeAs (e .attribute-at .result)) (upToNo (a .numbers))
-    (sym (h .before .before .listed .ensures) ∙ not-false _ (h .before .if1 .left))
-    (sym (h .has .ensures z) ∙ u .before .if2 .left)
-    (takesAs (r .0) (r .1) (r .2)) (ap (λ (x : Rule). x .takes) (u .rule-of .ensures))
-    (sym (v .before .type-taken .ensures (r .1) (r .2)) ∙ not-false _ (v .if3 .left))
+    (there (h .before) .0)
+    (sym (h .is-given .ensures z) ∙ u .before .if2 .left)
+    (takesOf r) (u .rule-of .ensures ∙ ap (λ (k : ℕ). ruleOf k .takes) (there (h .before) .1))
+    (sym (v .before .type-taken .ensures (r .low) (r .high)) ∙ not-false _ (v .if3 .left))
     false (sym (c .before .in-range .ensures) ∙ c .if4 .left)))
 
 pub attribute-code-spec : {M : Type 1} → statement M
@@ -103,7 +113,7 @@ attribute-code-spec =
     attribute-at-requires
     listed-requires
     returns
-    has-requires
+    is-given-requires
     returns-2
     rule-of-requires
     type-taken-requires

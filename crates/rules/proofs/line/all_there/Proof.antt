@@ -20,10 +20,10 @@ use Rattle.rules.proofs.line.wide.Reads as wide-reads
 
 abbrev Inv-loop : tie.InvT-loop
 Inv-loop must attrs n numbers i₀ i =
-    (i ≤ 5) × (i ≤ must) × (Sized attrs n → allIn (rowsOf attrs n) (drop i (take must numbers)) ≡ allIn (rowsOf attrs n) (take must numbers))
+    (i ≤ 8) × (i ≤ must) × (Sized attrs n → allIn (rowsOf attrs n) (drop i (take must numbers)) ≡ allIn (rowsOf attrs n) (take must numbers))
 
 abbrev μ-loop : tie.MeasureT-loop
-μ-loop must attrs n numbers i₀ i = 5 - i
+μ-loop must attrs n numbers i₀ i = 8 - i
 
 loop-holds : tie.Need-loop-holds Inv-loop μ-loop
 loop-holds c = search needs
@@ -54,7 +54,7 @@ looked c b h z =
     let e = c .before .before .before .before in
     let a = e .before .args in
     let w = c .before .wide in
-    let f : length (a .t2) ≡ 5 = search needs in
+    let f : length (a .t2) ≡ 8 = search needs in
     sym (all-step (rowsOf (a .attrs .now) (a .n)) (a .must) (a .t2) (e .loop .i) (omega arith) (omega arith) (w .result) (w .ensures) b (sym h ∙ c .there .ensures z)) ∙ e .loop .inv .2 z
 
 returns-2 : tie.Need-returns-2 Inv-loop μ-loop
@@ -73,7 +73,7 @@ returns-3 : tie.Need-returns-3 Inv-loop μ-loop
 returns-3 c =
     let e = c .before in
     let a = e .before .args in
-    let f : length (a .t2) ≡ 5 = search needs in
+    let f : length (a .t2) ≡ 8 = search needs in
     λ z. sym (sym (e .loop .inv .2 z) ∙ all-end (rowsOf (a .attrs .now) (a .n)) (a .must) (a .t2) (e .loop .i) (omega arith))
 
 pub all-there-spec : {M : Type 1} → statement M

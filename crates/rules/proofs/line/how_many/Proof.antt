@@ -17,17 +17,17 @@ use Rattle.rules.proofs.line.how_many.Statement.{statement}
 use Rattle.rules.proofs.line.how_many.Tie as tie
 use Rattle.rules.proofs.line.how_many.Reads as reads
 use Rattle.rules.proofs.line.how_many.Lts as lts
-use Rattle.rules.proofs.attributes.has.Reads as has-reads
+use Rattle.rules.proofs.attributes.is_given.Reads as is-given-reads
 use Rattle.rules.proofs.line.one_if.Reads as one-if-reads
 use Rattle.rules.proofs.line.wide.Reads as wide-reads
 
 abbrev Inv-loop : tie.InvT-loop
 Inv-loop attrs n numbers many₀ i₀ many i =
-    (i ≤ 5) × (many ≤ i)
+    (i ≤ 8) × (many ≤ i)
     × (Sized attrs n → many + manyIn (rowsOf attrs n) (upToNo (drop i numbers)) ≡ manyIn (rowsOf attrs n) (upToNo numbers))
 
 abbrev μ-loop : tie.MeasureT-loop
-μ-loop attrs n numbers many₀ i₀ many i = 5 - i
+μ-loop attrs n numbers many₀ i₀ many i = 8 - i
 
 loop-holds : tie.Need-loop-holds Inv-loop μ-loop
 loop-holds c = (omega arith, omega arith, λ z. zero-add _)
@@ -40,15 +40,15 @@ unfolding manyIn
 returns c =
     let e = c .before .before in
     let a = e .before .args in
-    let f : length (a .t1) ≡ 5 = search needs in
+    let f : length (a .t1) ≡ 8 = search needs in
     λ z. sym (sym (e .loop .inv .2 z)
     ∙ ap (λ l. e .loop .many + manyIn (rowsOf (a .attrs .now) (a .n)) l) (numbers-no (a .t1) (e .loop .i) (omega arith) (c .if1 .taken)) ∙ add-zero (e .loop .many))
 
 wide-requires : tie.Need-wide-requires Inv-loop μ-loop
 wide-requires c κs = search needs
 
-has-requires : tie.Need-has-requires Inv-loop μ-loop
-has-requires c κs = search needs
+is-given-requires : tie.Need-is-given-requires Inv-loop μ-loop
+is-given-requires c κs = search needs
 
 one-if-requires : tie.Need-one-if-requires Inv-loop μ-loop
 one-if-requires c κs = search needs
@@ -68,12 +68,12 @@ loop-again c =
     let a = e .before .args in
     let l = rowsOf (a .attrs .now) (a .n) in
     let w = c .before .before .wide in
-    let f : length (a .t1) ≡ 5 = search needs in (
+    let f : length (a .t1) ≡ 8 = search needs in (
       omega arith,
       omega arith,
-      λ z. many-on (e .loop .many) (c .one-if .result) (pick (c .before .has .result) 1 0) (manyIn l (upToNo (drop (e .loop .i) (a .t1))))
+      λ z. many-on (e .loop .many) (c .one-if .result) (pick (c .before .is-given .result) 1 0) (manyIn l (upToNo (drop (e .loop .i) (a .t1))))
           (manyIn l (upToNo (drop (e .loop .i + 1) (a .t1)))) (manyIn l (upToNo (a .t1))) (e .loop .inv .2 z)
-          (many-step (a .t1) (e .loop .i) (w .result) (omega arith) (c .before .before .before .if1 .left) (w .ensures) l (c .before .has .result) (c .before .has .ensures z))
+          (many-step (a .t1) (e .loop .i) (w .result) (omega arith) (c .before .before .before .if1 .left) (w .ensures) l (c .before .is-given .result) (c .before .is-given .ensures z))
           (c .one-if .ensures .0),
     )
 
@@ -82,7 +82,7 @@ unfolding manyIn
 returns-2 c =
     let e = c .before in
     let a = e .before .args in
-    let f : length (a .t1) ≡ 5 = search needs in
+    let f : length (a .t1) ≡ 8 = search needs in
     λ z. sym (sym (e .loop .inv .2 z)
     ∙ ap (λ l. e .loop .many + manyIn (rowsOf (a .attrs .now) (a .n)) l) (numbers-end (a .t1) (e .loop .i) (omega arith)) ∙ add-zero (e .loop .many))
 
@@ -96,7 +96,7 @@ how-many-spec =
     array-read-k
     returns
     wide-requires
-    has-requires
+    is-given-requires
     one-if-requires
     add-many
     add-i

@@ -1,8 +1,9 @@
--- `rules::line::listed` meets its contract: the loop goes number by number.
+-- `rules::line::listed` meets its contract: the loop goes number by number, up to the one that is equal.
 -- Assumes nothing.
 use Prim.Native.Nat.{ℕ, _+_, _-_, _≤_, _<_}
 use mathlib.Core.Path.{_≡_, refl, sym, ap, _∙_}
 use mathlib.Core.List.{List}
+use mathlib.Core.Bool.{true, false}
 use native.Mathlib.Omega.{arith}
 use lib.ListN.{length, drop}
 use borrow.Author.Tests.{eq-eqb, ne-eqb}
@@ -17,10 +18,10 @@ use Rattle.rules.proofs.line.listed.Lts as lts
 use Rattle.rules.proofs.line.wide.Reads as wide-reads
 
 abbrev Inv-loop : tie.InvT-loop
-Inv-loop number numbers i₀ i = (i ≤ 5) × (among (upToNo (drop i numbers)) number ≡ among (upToNo numbers) number)
+Inv-loop number numbers i₀ i = (i ≤ 8) × (among (upToNo (drop i numbers)) number ≡ among (upToNo numbers) number)
 
 abbrev μ-loop : tie.MeasureT-loop
-μ-loop number numbers i₀ i = 5 - i
+μ-loop number numbers i₀ i = 8 - i
 
 loop-holds : tie.Need-loop-holds Inv-loop μ-loop
 loop-holds c = search needs
@@ -33,8 +34,9 @@ unfolding among
 returns c =
     let e = c .before .before in
     let a = e .before .args in
-    let f : length (a .t1) ≡ 5 = search needs in
-    sym (sym (e .loop .inv .1) ∙ ap (λ l. among l (a .number)) (numbers-no (a .t1) (e .loop .i) (omega arith) (c .if1 .taken)))
+    let f : length (a .t1) ≡ 8 = search needs in
+    let p : among (upToNo (a .t1)) (a .number) ≡ false = sym (e .loop .inv .1) ∙ ap (λ l. among l (a .number)) (numbers-no (a .t1) (e .loop .i) (omega arith) (c .if1 .taken)) in
+    rw p
 
 wide-requires : tie.Need-wide-requires Inv-loop μ-loop
 wide-requires c κs = search needs
@@ -43,9 +45,11 @@ returns-2 : tie.Need-returns-2 Inv-loop μ-loop
 returns-2 c =
     let e = c .before .before .before .before in
     let a = e .before .args in
-    let f : length (a .t1) ≡ 5 = search needs in
-    sym (sym (e .loop .inv .1) ∙ among-step (a .t1) (e .loop .i) (c .before .wide .result) (omega arith) (c .before .before .if1 .left) (c .before .wide .ensures) (a .number)
-    ∙ rw (eq-eqb _ _ (c .if2 .taken)))
+    let f : length (a .t1) ≡ 8 = search needs in
+    let p : among (upToNo (a .t1)) (a .number) ≡ true = sym (e .loop .inv .1)
+    ∙ among-step (a .t1) (e .loop .i) (c .before .wide .result) (omega arith) (c .before .before .if1 .left) (c .before .wide .ensures) (a .number)
+    ∙ rw (eq-eqb _ _ (c .if2 .taken)) in
+    rw p (sym (c .before .wide .ensures) ∙ c .if2 .taken)
 
 add-i : tie.Need-add-i Inv-loop μ-loop
 add-i c = search needs
@@ -57,7 +61,7 @@ loop-again : tie.Need-loop-again Inv-loop μ-loop
 loop-again c =
     let e = c .before .before .before .before in
     let a = e .before .args in
-    let f : length (a .t1) ≡ 5 = search needs in (
+    let f : length (a .t1) ≡ 8 = search needs in (
       omega arith,
       sym (among-step (a .t1) (e .loop .i) (c .before .wide .result) (omega arith) (c .before .before .if1 .left) (c .before .wide .ensures) (a .number)
           ∙ rw (ne-eqb _ _ (c .if2 .left))) ∙ e .loop .inv .1,
@@ -68,8 +72,9 @@ unfolding among
 returns-3 c =
     let e = c .before in
     let a = e .before .args in
-    let f : length (a .t1) ≡ 5 = search needs in
-    sym (sym (e .loop .inv .1) ∙ ap (λ l. among l (a .number)) (numbers-end (a .t1) (e .loop .i) (omega arith)))
+    let f : length (a .t1) ≡ 8 = search needs in
+    let p : among (upToNo (a .t1)) (a .number) ≡ false = sym (e .loop .inv .1) ∙ ap (λ l. among l (a .number)) (numbers-end (a .t1) (e .loop .i) (omega arith)) in
+    rw p
 
 pub listed-spec : {M : Type 1} → statement M
 listed-spec =

@@ -7,7 +7,7 @@ use Rattle.rules.proofs.line.there.Statement.{statement}
 use Rattle.rules.proofs.line.there.Tie as tie
 use Rattle.rules.proofs.line.there.Reads as reads
 use Rattle.rules.proofs.line.there.Lts as lts
-use Rattle.rules.proofs.attributes.has.Reads as has-reads
+use Rattle.rules.proofs.attributes.is_given.Reads as is-given-reads
 
 mul-if2 : tie.Need-mul-if2
 mul-if2 c = search needs
@@ -24,12 +24,12 @@ returns c =
     let a = k .before .args in
     λ z. sym (row-there (a .attrs .now) (a .n) (a .i) (a .number) (k .if1 .taken) (c .if2 .taken))
 
-has-requires : tie.Need-has-requires
-has-requires c κs = search needs
+is-given-requires : tie.Need-is-given-requires
+is-given-requires c κs = search needs
 
 returns-2 : tie.Need-returns-2
 returns-2 c = search needs
 
 pub there-spec : {M : Type 1} → statement M
 there-spec =
-    tie.close (tie.spec mul-if2 mul-if2-2 element-copy-out-if2 returns has-requires returns-2)
+    tie.close (tie.spec mul-if2 mul-if2-2 element-copy-out-if2 returns is-given-requires returns-2)

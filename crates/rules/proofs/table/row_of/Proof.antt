@@ -1,165 +1,90 @@
--- `rules::table::row_of` meets its contract: each arm is its line of the table, by computing.
+-- `row_of`: each line of the code is the line of the table with its operator, by computing; a tag that no line has is none of the table's.
 -- Assumes nothing.
 use Prim.Native.Nat.{ℕ}
 use mathlib.Core.Path.{refl}
 use mathlib.Core.List.{List, [], _∷_}
 use Rattle.scope.specs.Choice.{among}
-use Rattle.scope.specs.Table.{table, lineIn, ruleIn}
-use Rattle.rules.specs.Lines.{mustIn, numbersIn, upToNo, rulesIn, ruleOf}
-use Rattle.rules.proofs.Keys.{within, opsIn, no-line, no-rule}
+use Rattle.scope.specs.Table.{table, lineIn}
+use Rattle.rules.specs.Lines.{mustIn, numbersIn, upToNo}
+use Rattle.rules.proofs.Keys.{within, opsIn, no-line}
+use borrow.Author.Needs.{needs}
 use Rattle.rules.proofs.table.row_of.Statement.{statement}
 use Rattle.rules.proofs.table.row_of.Tie as tie
-
-returns : tie.Need-returns
-unfolding table lineIn mustIn numbersIn upToNo
-returns c = rw (c .match .keys1)
-
-returns-2 : tie.Need-returns-2
-unfolding table lineIn mustIn numbersIn upToNo
-returns-2 c = rw (c .match .keys2)
-
-returns-3 : tie.Need-returns-3
-unfolding table lineIn mustIn numbersIn upToNo
-returns-3 c = rw (c .match .keys3)
-
-returns-4 : tie.Need-returns-4
-unfolding table lineIn mustIn numbersIn upToNo
-returns-4 c = rw (c .match .keys4)
-
-returns-5 : tie.Need-returns-5
-unfolding table lineIn mustIn numbersIn upToNo
-returns-5 c = rw (c .match .keys5)
-
-returns-6 : tie.Need-returns-6
-unfolding table lineIn mustIn numbersIn upToNo
-returns-6 c = rw (c .match .keys6)
-
-returns-7 : tie.Need-returns-7
-unfolding table lineIn mustIn numbersIn upToNo
-returns-7 c = rw (c .match .keys7)
-
-returns-8 : tie.Need-returns-8
-unfolding table lineIn mustIn numbersIn upToNo
-returns-8 c = rw (c .match .keys8)
-
-returns-9 : tie.Need-returns-9
-unfolding table lineIn mustIn numbersIn upToNo
-returns-9 c = rw (c .match .keys9)
-
-returns-10 : tie.Need-returns-10
-unfolding table lineIn mustIn numbersIn upToNo
-returns-10 c = rw (c .match .keys10)
-
-returns-11 : tie.Need-returns-11
-unfolding table lineIn mustIn numbersIn upToNo
-returns-11 c = rw (c .match .keys11)
-
-returns-12 : tie.Need-returns-12
-unfolding table lineIn mustIn numbersIn upToNo
-returns-12 c = rw (c .match .keys12)
-
-returns-13 : tie.Need-returns-13
-unfolding table lineIn mustIn numbersIn upToNo
-returns-13 c = rw (c .match .keys13)
-
-returns-14 : tie.Need-returns-14
-unfolding table lineIn mustIn numbersIn upToNo
-returns-14 c = rw (c .match .keys14)
-
-returns-15 : tie.Need-returns-15
-unfolding table lineIn mustIn numbersIn upToNo
-returns-15 c = rw (c .match .keys15)
-
-returns-16 : tie.Need-returns-16
-unfolding table lineIn mustIn numbersIn upToNo
-returns-16 c = rw (c .match .keys16)
-
-returns-17 : tie.Need-returns-17
-unfolding table lineIn mustIn numbersIn upToNo
-returns-17 c = rw (c .match .keys17)
-
-returns-18 : tie.Need-returns-18
-unfolding table lineIn mustIn numbersIn upToNo
-returns-18 c = rw (c .match .keys18)
-
-returns-19 : tie.Need-returns-19
-unfolding table lineIn mustIn numbersIn upToNo
-returns-19 c = rw (c .match .keys19)
-
-returns-20 : tie.Need-returns-20
-unfolding table lineIn mustIn numbersIn upToNo
-returns-20 c = rw (c .match .keys20)
-
-returns-21 : tie.Need-returns-21
-unfolding table lineIn mustIn numbersIn upToNo
-returns-21 c = rw (c .match .keys21)
-
-returns-22 : tie.Need-returns-22
-unfolding table lineIn mustIn numbersIn upToNo
-returns-22 c = rw (c .match .keys22)
-
-returns-23 : tie.Need-returns-23
-unfolding table lineIn mustIn numbersIn upToNo
-returns-23 c = rw (c .match .keys23)
-
-returns-24 : tie.Need-returns-24
-unfolding table lineIn mustIn numbersIn upToNo
-returns-24 c = rw (c .match .keys24)
-
-returns-25 : tie.Need-returns-25
-unfolding table lineIn mustIn numbersIn upToNo
-returns-25 c = rw (c .match .keys25)
-
-returns-26 : tie.Need-returns-26
-unfolding table lineIn mustIn numbersIn upToNo
-returns-26 c = rw (c .match .keys26)
-
-returns-27 : tie.Need-returns-27
-unfolding table lineIn mustIn numbersIn upToNo
-returns-27 c = rw (c .match .keys27)
-
-returns-28 : tie.Need-returns-28
-unfolding table lineIn mustIn numbersIn upToNo
-returns-28 c = rw (c .match .keys28)
+use Rattle.rules.proofs.table.may.Reads as may-reads
+use Rattle.rules.proofs.table.needs.Reads as needs-reads
+use Rattle.rules.proofs.table.needs_five.Reads as needs-five-reads
+use Rattle.rules.proofs.table.needs_three.Reads as needs-three-reads
+use Rattle.rules.proofs.table.needs_two.Reads as needs-two-reads
+use Rattle.rules.proofs.table.needs_two_may.Reads as needs-two-may-reads
+use Rattle.rules.proofs.table.nothing.Reads as nothing-reads
+use Rattle.rules.proofs.table.one_of.Reads as one-of-reads
+use Rattle.rules.proofs.table.one_or_both.Reads as one-or-both-reads
+use Rattle.rules.proofs.table.unknown.Reads as unknown-reads
 
 -- the keys of the arms, the last one first
 keys : List ℕ
-keys = 0xb2 ∷ 0xb1 ∷ 0xb0 ∷ 0xa0 ∷ 0x9d ∷ 0x9b ∷ 0x86 ∷ 0x85 ∷ 0x84 ∷ 0x7a ∷ 0x79 ∷ 0x6c ∷ 0x6b ∷ 0x6a ∷ 0x63 ∷ 0x61 ∷ 0x60 ∷ 0x5e ∷ 0x5d ∷ 0x5c ∷ 0x5b ∷ 0x49 ∷ 0x48 ∷ 0x47 ∷ 0x44 ∷ 0x43 ∷ 0x42 ∷ 0x41 ∷ []
-
-returns-29 : tie.Need-returns-29
-unfolding keys table lineIn mustIn numbersIn upToNo within opsIn among
-returns-29 c = rw (no-line _ keys (c .match .rest) table refl)
+keys = 0x7a ∷ 0x79 ∷ 0x6c ∷ 0x6b ∷ 0x6a ∷ 0x63 ∷ 0xa0 ∷ 0x5c ∷ 0xb1 ∷ 0x61 ∷ 0x60 ∷ 0x86 ∷ 0x48 ∷ 0x85 ∷ 0x9d ∷ 0x9b ∷ 0x5e ∷ 0x5d ∷ 0x42 ∷ 0x44 ∷ 0xb2 ∷ 0x47 ∷ 0x84 ∷ 0x49 ∷ 0x5b ∷ 0x41 ∷ 0x43 ∷ 0xb0 ∷ []
 
 pub row-of-spec : {M : Type 1} → statement M
+unfolding keys table lineIn mustIn numbersIn upToNo within opsIn among
 row-of-spec =
     tie.close
     (tie.spec
-    returns
-    returns-2
-    returns-3
-    returns-4
-    returns-5
-    returns-6
-    returns-7
-    returns-8
-    returns-9
-    returns-10
-    returns-11
-    returns-12
-    returns-13
-    returns-14
-    returns-15
-    returns-16
-    returns-17
-    returns-18
-    returns-19
-    returns-20
-    returns-21
-    returns-22
-    returns-23
-    returns-24
-    returns-25
-    returns-26
-    returns-27
-    returns-28
-    returns-29)
+    (λ c κs. search needs)
+    (λ c κs. search needs)
+    (λ c κs. search needs)
+    (λ c κs. search needs)
+    (λ c κs. search needs)
+    (λ c κs. search needs)
+    (λ c κs. search needs)
+    (λ c κs. search needs)
+    (λ c κs. search needs)
+    (λ c κs. search needs)
+    (λ c κs. search needs)
+    (λ c κs. search needs)
+    (λ c κs. search needs)
+    (λ c κs. search needs)
+    (λ c κs. search needs)
+    (λ c κs. search needs)
+    (λ c κs. search needs)
+    (λ c κs. search needs)
+    (λ c κs. search needs)
+    (λ c κs. search needs)
+    (λ c κs. search needs)
+    (λ c κs. search needs)
+    (λ c κs. search needs)
+    (λ c κs. search needs)
+    (λ c κs. search needs)
+    (λ c κs. search needs)
+    (λ c κs. search needs)
+    (λ c κs. search needs)
+    (λ c κs. search needs)
+    (λ c. rw (c .before .match .keys1, c .needs-five .ensures))
+    (λ c. rw (c .before .match .keys2, c .needs-two-may .ensures))
+    (λ c. rw (c .before .match .keys3, c .needs-two-may2 .ensures))
+    (λ c. rw (c .before .match .keys4, c .needs .ensures))
+    (λ c. rw (c .before .match .keys5, c .nothing .ensures))
+    (λ c. rw (c .before .match .keys6, c .nothing2 .ensures))
+    (λ c. rw (c .before .match .keys7, c .may .ensures))
+    (λ c. rw (c .before .match .keys8, c .nothing3 .ensures))
+    (λ c. rw (c .before .match .keys9, c .may2 .ensures))
+    (λ c. rw (c .before .match .keys10, c .nothing4 .ensures))
+    (λ c. rw (c .before .match .keys11, c .nothing5 .ensures))
+    (λ c. rw (c .before .match .keys12, c .needs2 .ensures))
+    (λ c. rw (c .before .match .keys13, c .one-or-both .ensures))
+    (λ c. rw (c .before .match .keys14, c .one-or-both2 .ensures))
+    (λ c. rw (c .before .match .keys15, c .nothing6 .ensures))
+    (λ c. rw (c .before .match .keys16, c .needs-two .ensures))
+    (λ c. rw (c .before .match .keys17, c .nothing7 .ensures))
+    (λ c. rw (c .before .match .keys18, c .nothing8 .ensures))
+    (λ c. rw (c .before .match .keys19, c .nothing9 .ensures))
+    (λ c. rw (c .before .match .keys20, c .needs-three .ensures))
+    (λ c. rw (c .before .match .keys21, c .needs3 .ensures))
+    (λ c. rw (c .before .match .keys22, c .needs4 .ensures))
+    (λ c. rw (c .before .match .keys23, c .one-of .ensures))
+    (λ c. rw (c .before .match .keys24, c .needs5 .ensures))
+    (λ c. rw (c .before .match .keys25, c .needs6 .ensures))
+    (λ c. rw (c .before .match .keys26, c .needs7 .ensures))
+    (λ c. rw (c .before .match .keys27, c .one-of2 .ensures))
+    (λ c. rw (c .before .match .keys28, c .needs8 .ensures))
+    (λ c. rw (no-line _ keys (c .before .match .rest) table refl, c .unknown .ensures)))

@@ -1,180 +1,87 @@
--- `rules::table::rule_of` meets its contract: each arm is the rule of the table, by computing.
+-- `rule_of`: each line of the code has the values that the table gives this attribute, by computing; a number that no line has takes nothing.
 -- Assumes nothing.
 use Prim.Native.Nat.{ℕ}
 use mathlib.Core.Path.{refl}
 use mathlib.Core.List.{List, [], _∷_}
 use Rattle.scope.specs.Choice.{among}
-use Rattle.scope.specs.Table.{table, lineIn, ruleIn}
-use Rattle.rules.specs.Lines.{numbersIn, upToNo, rulesIn, ruleOf}
-use Rattle.rules.proofs.Keys.{within, opsIn, no-line, no-rule}
+use Rattle.scope.specs.Table.{table, ruleIn}
+use Rattle.rules.specs.Lines.{numbersIn, rulesIn, ruleOf}
+use Rattle.rules.proofs.Keys.{within, no-rule}
+use borrow.Author.Needs.{needs}
 use Rattle.rules.proofs.table.rule_of.Statement.{statement}
 use Rattle.rules.proofs.table.rule_of.Tie as tie
-
-returns : tie.Need-returns
-unfolding table ruleIn rulesIn ruleOf
-returns c = rw (c .match .keys1)
-
-returns-2 : tie.Need-returns-2
-unfolding table ruleIn rulesIn ruleOf
-returns-2 c = rw (c .match .keys2)
-
-returns-3 : tie.Need-returns-3
-unfolding table ruleIn rulesIn ruleOf
-returns-3 c = rw (c .match .keys3)
-
-returns-4 : tie.Need-returns-4
-unfolding table ruleIn rulesIn ruleOf
-returns-4 c = rw (c .match .keys4)
-
-returns-5 : tie.Need-returns-5
-unfolding table ruleIn rulesIn ruleOf
-returns-5 c = rw (c .match .keys5)
-
-returns-6 : tie.Need-returns-6
-unfolding table ruleIn rulesIn ruleOf
-returns-6 c = rw (c .match .keys6)
-
-returns-7 : tie.Need-returns-7
-unfolding table ruleIn rulesIn ruleOf
-returns-7 c = rw (c .match .keys7)
-
-returns-8 : tie.Need-returns-8
-unfolding table ruleIn rulesIn ruleOf
-returns-8 c = rw (c .match .keys8)
-
-returns-9 : tie.Need-returns-9
-unfolding table ruleIn rulesIn ruleOf
-returns-9 c = rw (c .match .keys9)
-
-returns-10 : tie.Need-returns-10
-unfolding table ruleIn rulesIn ruleOf
-returns-10 c = rw (c .match .keys10)
-
-returns-11 : tie.Need-returns-11
-unfolding table ruleIn rulesIn ruleOf
-returns-11 c = rw (c .match .keys11)
-
-returns-12 : tie.Need-returns-12
-unfolding table ruleIn rulesIn ruleOf
-returns-12 c = rw (c .match .keys12)
-
-returns-13 : tie.Need-returns-13
-unfolding table ruleIn rulesIn ruleOf
-returns-13 c = rw (c .match .keys13)
-
-returns-14 : tie.Need-returns-14
-unfolding table ruleIn rulesIn ruleOf
-returns-14 c = rw (c .match .keys14)
-
-returns-15 : tie.Need-returns-15
-unfolding table ruleIn rulesIn ruleOf
-returns-15 c = rw (c .match .keys15)
-
-returns-16 : tie.Need-returns-16
-unfolding table ruleIn rulesIn ruleOf
-returns-16 c = rw (c .match .keys16)
-
-returns-17 : tie.Need-returns-17
-unfolding table ruleIn rulesIn ruleOf
-returns-17 c = rw (c .match .keys17)
-
-returns-18 : tie.Need-returns-18
-unfolding table ruleIn rulesIn ruleOf
-returns-18 c = rw (c .match .keys18)
-
-returns-19 : tie.Need-returns-19
-unfolding table ruleIn rulesIn ruleOf
-returns-19 c = rw (c .match .keys19)
-
-returns-20 : tie.Need-returns-20
-unfolding table ruleIn rulesIn ruleOf
-returns-20 c = rw (c .match .keys20)
-
-returns-21 : tie.Need-returns-21
-unfolding table ruleIn rulesIn ruleOf
-returns-21 c = rw (c .match .keys21)
-
-returns-22 : tie.Need-returns-22
-unfolding table ruleIn rulesIn ruleOf
-returns-22 c = rw (c .match .keys22)
-
-returns-23 : tie.Need-returns-23
-unfolding table ruleIn rulesIn ruleOf
-returns-23 c = rw (c .match .keys23)
-
-returns-24 : tie.Need-returns-24
-unfolding table ruleIn rulesIn ruleOf
-returns-24 c = rw (c .match .keys24)
-
-returns-25 : tie.Need-returns-25
-unfolding table ruleIn rulesIn ruleOf
-returns-25 c = rw (c .match .keys25)
-
-returns-26 : tie.Need-returns-26
-unfolding table ruleIn rulesIn ruleOf
-returns-26 c = rw (c .match .keys26)
-
-returns-27 : tie.Need-returns-27
-unfolding table ruleIn rulesIn ruleOf
-returns-27 c = rw (c .match .keys27)
-
-returns-28 : tie.Need-returns-28
-unfolding table ruleIn rulesIn ruleOf
-returns-28 c = rw (c .match .keys28)
-
-returns-29 : tie.Need-returns-29
-unfolding table ruleIn rulesIn ruleOf
-returns-29 c = rw (c .match .keys29)
-
-returns-30 : tie.Need-returns-30
-unfolding table ruleIn rulesIn ruleOf
-returns-30 c = rw (c .match .keys30)
-
-returns-31 : tie.Need-returns-31
-unfolding table ruleIn rulesIn ruleOf
-returns-31 c = rw (c .match .keys31)
+use Rattle.rules.proofs.table.takes.Reads as takes-reads
 
 -- the keys of the arms, the last one first
 keys : List ℕ
 keys = 143 ∷ 140 ∷ 139 ∷ 137 ∷ 136 ∷ 134 ∷ 130 ∷ 129 ∷ 109 ∷ 108 ∷ 107 ∷ 103 ∷ 101 ∷ 100 ∷ 99 ∷ 98 ∷ 80 ∷ 77 ∷ 76 ∷ 75 ∷ 69 ∷ 66 ∷ 49 ∷ 40 ∷ 38 ∷ 37 ∷ 11 ∷ 9 ∷ 5 ∷ 4 ∷ 3 ∷ []
 
-returns-32 : tie.Need-returns-32
-unfolding keys table ruleIn rulesIn ruleOf within numbersIn among
-returns-32 c = rw (no-rule _ keys (c .match .rest) (rulesIn table) refl)
-
 pub rule-of-spec : {M : Type 1} → statement M
+unfolding keys table ruleIn rulesIn ruleOf within numbersIn among
 rule-of-spec =
     tie.close
     (tie.spec
-    returns
-    returns-2
-    returns-3
-    returns-4
-    returns-5
-    returns-6
-    returns-7
-    returns-8
-    returns-9
-    returns-10
-    returns-11
-    returns-12
-    returns-13
-    returns-14
-    returns-15
-    returns-16
-    returns-17
-    returns-18
-    returns-19
-    returns-20
-    returns-21
-    returns-22
-    returns-23
-    returns-24
-    returns-25
-    returns-26
-    returns-27
-    returns-28
-    returns-29
-    returns-30
-    returns-31
-    returns-32)
+    (λ c κs. search needs)
+    (λ c κs. search needs)
+    (λ c κs. search needs)
+    (λ c κs. search needs)
+    (λ c κs. search needs)
+    (λ c κs. search needs)
+    (λ c κs. search needs)
+    (λ c κs. search needs)
+    (λ c κs. search needs)
+    (λ c κs. search needs)
+    (λ c κs. search needs)
+    (λ c κs. search needs)
+    (λ c κs. search needs)
+    (λ c κs. search needs)
+    (λ c κs. search needs)
+    (λ c κs. search needs)
+    (λ c κs. search needs)
+    (λ c κs. search needs)
+    (λ c κs. search needs)
+    (λ c κs. search needs)
+    (λ c κs. search needs)
+    (λ c κs. search needs)
+    (λ c κs. search needs)
+    (λ c κs. search needs)
+    (λ c κs. search needs)
+    (λ c κs. search needs)
+    (λ c κs. search needs)
+    (λ c κs. search needs)
+    (λ c κs. search needs)
+    (λ c κs. search needs)
+    (λ c κs. search needs)
+    (λ c κs. search needs)
+    (λ c. rw (c .before .match .keys1, c .takes .ensures))
+    (λ c. rw (c .before .match .keys2, c .takes2 .ensures))
+    (λ c. rw (c .before .match .keys3, c .takes3 .ensures))
+    (λ c. rw (c .before .match .keys4, c .takes4 .ensures))
+    (λ c. rw (c .before .match .keys5, c .takes5 .ensures))
+    (λ c. rw (c .before .match .keys6, c .takes6 .ensures))
+    (λ c. rw (c .before .match .keys7, c .takes7 .ensures))
+    (λ c. rw (c .before .match .keys8, c .takes8 .ensures))
+    (λ c. rw (c .before .match .keys9, c .takes9 .ensures))
+    (λ c. rw (c .before .match .keys10, c .takes10 .ensures))
+    (λ c. rw (c .before .match .keys11, c .takes11 .ensures))
+    (λ c. rw (c .before .match .keys12, c .takes12 .ensures))
+    (λ c. rw (c .before .match .keys13, c .takes13 .ensures))
+    (λ c. rw (c .before .match .keys14, c .takes14 .ensures))
+    (λ c. rw (c .before .match .keys15, c .takes15 .ensures))
+    (λ c. rw (c .before .match .keys16, c .takes16 .ensures))
+    (λ c. rw (c .before .match .keys17, c .takes17 .ensures))
+    (λ c. rw (c .before .match .keys18, c .takes18 .ensures))
+    (λ c. rw (c .before .match .keys19, c .takes19 .ensures))
+    (λ c. rw (c .before .match .keys20, c .takes20 .ensures))
+    (λ c. rw (c .before .match .keys21, c .takes21 .ensures))
+    (λ c. rw (c .before .match .keys22, c .takes22 .ensures))
+    (λ c. rw (c .before .match .keys23, c .takes23 .ensures))
+    (λ c. rw (c .before .match .keys24, c .takes24 .ensures))
+    (λ c. rw (c .before .match .keys25, c .takes25 .ensures))
+    (λ c. rw (c .before .match .keys26, c .takes26 .ensures))
+    (λ c. rw (c .before .match .keys27, c .takes27 .ensures))
+    (λ c. rw (c .before .match .keys28, c .takes28 .ensures))
+    (λ c. rw (c .before .match .keys29, c .takes29 .ensures))
+    (λ c. rw (c .before .match .keys30, c .takes30 .ensures))
+    (λ c. rw (c .before .match .keys31, c .takes31 .ensures))
+    (λ c. rw (no-rule _ keys (c .before .match .rest) (rulesIn table) refl, c .takes32 .ensures)))

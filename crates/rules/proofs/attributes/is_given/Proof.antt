@@ -1,12 +1,12 @@
--- `rules::attributes::has` meets its contract: by the place of the first.
+-- `rules::attributes::is_given` meets its contract: by the place of the first.
 -- Assumes nothing.
 use mathlib.Core.Path.{_≡_, sym}
 use Rattle.rules.proofs.Rowed.{has-at}
 use borrow.Author.Needs.{needs}
-use Rattle.rules.proofs.attributes.has.Statement.{statement}
-use Rattle.rules.proofs.attributes.has.Tie as tie
-use Rattle.rules.proofs.attributes.has.Reads as reads
-use Rattle.rules.proofs.attributes.has.Lts as lts
+use Rattle.rules.proofs.attributes.is_given.Statement.{statement}
+use Rattle.rules.proofs.attributes.is_given.Tie as tie
+use Rattle.rules.proofs.attributes.is_given.Reads as reads
+use Rattle.rules.proofs.attributes.is_given.Lts as lts
 use Rattle.rules.proofs.attributes.place_of.Reads as place-of-reads
 
 place-of-requires : tie.Need-place-of-requires
@@ -17,5 +17,5 @@ returns c =
     let a = c .before .args in
     λ z. sym (has-at (a .number) (a .attrs .now) (a .n) (c .place-of .result) (z .few) (c .place-of .ensures .1 z))
 
-pub has-spec : {M : Type 1} → statement M
-has-spec = tie.close (tie.spec place-of-requires returns)
+pub is-given-spec : {M : Type 1} → statement M
+is-given-spec = tie.close (tie.spec place-of-requires returns)
