@@ -1,6 +1,6 @@
 /* Dieuvakhop: judges one job for the pen arm before the pen moves.
  *
- * Link with libchecker.a (x86-64), made by `rt staticlib checker`.
+ * Link with libdieuvakhop.a (x86-64), made by `examples/library`.
  * The promise below is proved of the function in crates/checker/src/entry.rt,
  * for every content and every length of the three buffers.
  */
@@ -14,6 +14,9 @@
 extern "C" {
 #endif
 
+/* The version of the library. */
+#define DIEUVAKHOP_VERSION "1.0"
+
 /* The longest job that is judged, in bytes. A longer one gets code 1. */
 #define DIEUVAKHOP_JOB_MOST 61440u
 
@@ -23,11 +26,87 @@ extern "C" {
 /* Bytes of one record of the list. */
 #define DIEUVAKHOP_RECORD 16u
 
+/* The list that takes the records of every job, in bytes: 16 for each byte of
+ * the longest. For one job 16 times its length always suffices. With such a
+ * list code 28 never comes. */
+#define DIEUVAKHOP_LIST_ENOUGH 983040u
+
 /* The inner position where there is none. */
 #define DIEUVAKHOP_NO_INNER 4294967295u
 
+/* The codes of a verdict; README.md has the causes and cures. */
+enum dieuvakhop_code {
+    DIEUVAKHOP_PASS = 0,
+    DIEUVAKHOP_TOO_LONG = 1,
+    DIEUVAKHOP_HEADER = 2,
+    DIEUVAKHOP_ASCII = 3,
+    DIEUVAKHOP_CLASS = 4,
+    DIEUVAKHOP_CUT = 5,
+    DIEUVAKHOP_NO_ITEM = 6,
+    DIEUVAKHOP_SEVENTEENTH = 7,
+    DIEUVAKHOP_LONG_ARRAY = 8,
+    DIEUVAKHOP_NO_OPERATOR = 9,
+    DIEUVAKHOP_ORDER = 10,
+    DIEUVAKHOP_NO_ATTRIBUTE = 11,
+    DIEUVAKHOP_TWICE = 12,
+    DIEUVAKHOP_MISSING = 13,
+    DIEUVAKHOP_CLASH = 14,
+    DIEUVAKHOP_TYPE = 15,
+    DIEUVAKHOP_RANGE = 16,
+    DIEUVAKHOP_SOURCE = 17,
+    DIEUVAKHOP_DATA = 18,
+    DIEUVAKHOP_NO_ROOM = 19,
+    DIEUVAKHOP_HELD = 20,
+    DIEUVAKHOP_NOT_HELD = 21,
+    DIEUVAKHOP_DEEP = 22,
+    DIEUVAKHOP_SAVED = 23,
+    DIEUVAKHOP_CURSOR = 24,
+    DIEUVAKHOP_COLOUR = 25,
+    DIEUVAKHOP_TOO_MANY = 26,
+    DIEUVAKHOP_NOT_ENDED = 27,
+    DIEUVAKHOP_LIST_FULL = 28,
+    DIEUVAKHOP_WORK_SHORT = 29
+};
+
+/* What a code means, in a few words. */
+static inline const char *dieuvakhop_text(uint32_t code) {
+    static const char *const text[] = {
+        "passes",
+        "longer than 61,440 bytes",
+        "header malformed",
+        "written in the ASCII form",
+        "of another class than PCL XL 1;1",
+        "ends inside an item",
+        "no item that may come here",
+        "a 17th attribute",
+        "over 1,024 elements in an array",
+        "no operator of the arm",
+        "out of order",
+        "no attribute of this operator",
+        "an attribute comes twice",
+        "an attribute is missing",
+        "attributes or rows that do not go together",
+        "a type that the attribute does not take",
+        "a value out of range",
+        "data source not open",
+        "data absent or of another length",
+        "no room for more motifs",
+        "a motif of this name is held already",
+        "no motif of this name is held",
+        "calls over 32 deep",
+        "over 24 saved states",
+        "cursor not set",
+        "wrong colour space",
+        "over 1,000,000 operators performed",
+        "ends with something still open",
+        "list too short",
+        "work buffer too short",
+    };
+    return code < sizeof text / sizeof text[0] ? text[code] : "unknown code";
+}
+
 struct dieuvakhop_verdict {
-    /* 0: the job passes. 1 to 29: what is wrong; README.md has the table. */
+    /* An enum dieuvakhop_code. 0: the job passes. */
     uint32_t code;
     /* A byte of the job, counted from 0; with code 0 and 27 the job's length,
      * with code 1 always 61440. Code 2 may be at the length too. Of a faulty
@@ -77,6 +156,15 @@ struct dieuvakhop_verdict {
  *
  * The same job with buffers of the same lengths gets the same verdict and the
  * same records. Nothing is kept from one call to the next.
+ *
+ * What it takes of the machine (`examples/measure` measures it):
+ *   - stack: 4,641 bytes at most over the jobs of crates/explain/data; there is
+ *     no recursion, and no memory but what is lent;
+ *   - code and constants: 22,773 bytes; no data that is written;
+ *   - alignment: none, each buffer may begin at any address;
+ *   - re-entrant: it may run in several threads at once, or be interrupted by
+ *     another call, as long as no two calls share `work` or `list`;
+ *   - from the C library `memset` only.
  */
 struct dieuvakhop_verdict dieuvakhop_check(
     const uint8_t *job, size_t job_len,

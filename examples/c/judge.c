@@ -1,8 +1,10 @@
 /* Judges the job on standard input, prints the verdict, then the list.
  *
- *   rt staticlib checker
- *   cc -Iinclude examples/c/judge.c target/staticlib/libchecker.a -o judge
- *   ./judge < job.pxl
+ *   examples/library
+ *   cc -Iinclude examples/c/judge.c target/staticlib/libdieuvakhop.a -o judge-c
+ *   ./judge-c < job.pxl
+ *
+ * Status 0: the job passes; 1: it is refused; 2: it could not be read.
  */
 #include <inttypes.h>
 #include <stdio.h>
@@ -12,7 +14,7 @@
 /* One byte more than the longest job, so that a longer one still gets code 1. */
 static uint8_t job[DIEUVAKHOP_JOB_MOST + 1];
 static uint8_t work[DIEUVAKHOP_WORK_LEAST];
-static uint8_t list[65536];
+static uint8_t list[DIEUVAKHOP_LIST_ENOUGH];
 
 /* A number of four bytes, low byte first. */
 static uint32_t four(const uint8_t *at) {
@@ -28,6 +30,8 @@ int main(void) {
     struct dieuvakhop_verdict v = dieuvakhop_check(job, length, work, sizeof work, list, sizeof list);
     printf("%" PRIu32 " %" PRIu32 " %" PRIu32 " %" PRIu32 " %" PRIu32 "\n",
            v.code, v.position, v.inner, v.records, v.performed);
+    if (v.code != DIEUVAKHOP_PASS)
+        fprintf(stderr, "refused at byte %" PRIu32 ": %s\n", v.position, dieuvakhop_text(v.code));
     for (uint32_t i = 0; i < v.records; i++) {
         const uint8_t *r = list + (size_t)i * DIEUVAKHOP_RECORD;
         if (r[0] == 1)
@@ -37,5 +41,5 @@ int main(void) {
             printf("operator %02x at %" PRIu32 ", %" PRIu32 " bytes of data from %" PRIu32 "\n",
                    r[1], four(r + 4), four(r + 8), four(r + 12));
     }
-    return v.code == 0 ? 0 : 1;
+    return v.code == DIEUVAKHOP_PASS ? 0 : 1;
 }

@@ -1,8 +1,10 @@
 //! Judges the job on standard input and prints the verdict.
 //!
-//!   rt staticlib checker
-//!   rustc examples/rust/judge.rs -L native=target/staticlib -l static=checker -o judge
-//!   ./judge < job.pxl
+//!   examples/library
+//!   rustc examples/rust/judge.rs -L native=target/staticlib -l static=dieuvakhop -o judge-rust
+//!   ./judge-rust < job.pxl
+//!
+//! Status 0: the job passes; 1: it is refused; 2: it could not be read.
 
 use std::io::Read;
 
@@ -43,12 +45,16 @@ fn check(job: &[u8], work: &mut [u8], list: &mut [u8]) -> Verdict {
     }
 }
 
-fn main() -> std::io::Result<()> {
+fn main() {
     let mut job = Vec::new();
     // One byte more than the longest job, so that a longer one still gets code 1.
-    std::io::stdin().take(61_441).read_to_end(&mut job)?;
+    if std::io::stdin().take(61_441).read_to_end(&mut job).is_err() {
+        eprintln!("cannot read standard input");
+        std::process::exit(2);
+    }
     let mut work = vec![0; 16_384];
-    let mut list = vec![0; 65_536];
+    // 16 bytes for each byte of the job always suffice, and one that is too long has no records.
+    let mut list = vec![0; 16 * job.len()];
     let v = check(&job, &mut work, &mut list);
     println!("{} {} {} {} {}", v.code, v.position, v.inner, v.records, v.performed);
     std::process::exit(if v.code == 0 { 0 } else { 1 });
