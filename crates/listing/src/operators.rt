@@ -87,7 +87,7 @@ fn data(length: u32) {
 fn operator(job: &[u8], list: &[u8], i: usize, tag: u8) {
     phrase::operator(tag);
     say(b" at byte ");
-    number(field_four(list, i, 4));
+    text::plain(field_four(list, i, 4));
     attributes(job, list, i, field(list, i, 2) as usize);
     data(field_four(list, i, 8));
     say(b"\n");

@@ -1,6 +1,6 @@
 // What the table asks of an operator's attributes, in words.
 use crate::called::attribute;
-use rules::Form;
+use crate::called::operator;
 use rules::Kind;
 use text::number;
 use text::say;
@@ -21,6 +21,15 @@ fn from_to(low: usize, high: usize) {
     number((high % 65_536) as u32);
 }
 
+// A whole number; where it can be 1 alone it is the number of copies.
+fn whole(low: usize, high: usize) {
+    if high == 1 {
+        say(b" takes 1 only, as the arm draws one sheet: take it out, or send 1");
+        return;
+    }
+    from(b" takes a ubyte or uint16", low);
+}
+
 fn from(text: &[u8], low: usize) {
     say(text);
     if low == 1 {
@@ -32,7 +41,7 @@ fn from(text: &[u8], low: usize) {
 fn values(kind: Kind, low: usize, high: usize) {
     match kind {
         Kind::E => ubyte(low, high),
-        Kind::N => from(b" takes a ubyte or uint16", low),
+        Kind::N => whole(low, high),
         Kind::P => say(b" takes two ubyte, uint16 or sint16"),
         Kind::B => say(b" takes four ubyte, uint16 or sint16"),
         Kind::A => array(low, high),
@@ -49,44 +58,33 @@ pub fn takes(n: usize) {
     values(kind, rule.low, rule.high);
 }
 
-// Says an attribute that must be there, behind a comma if it is not the first.
-fn said(n: u8, before: bool) {
+// Says an attribute of a line, if there is one, behind a comma if it is not the first; the answer is whether one was said.
+fn one(n: u8, before: bool) -> bool {
+    if n == rules::NO {
+        return before;
+    }
     if before {
-        say(b",");
+        say(b", ");
     }
-    say(b" ");
     attribute(n as usize);
+    true
 }
 
-// Says attribute i of a line, if it is one of the first so many, which must be there.
-fn must(many: usize, i: usize, n: u8) {
-    if i < many {
-        said(n, 0 < i);
-    }
-}
-
-fn each(many: usize, numbers: [u8; 8]) {
-    say(b"it needs");
-    must(many, 0, numbers[0]);
-    must(many, 1, numbers[1]);
-    must(many, 2, numbers[2]);
-    must(many, 3, numbers[3]);
-    must(many, 4, numbers[4]);
-    must(many, 5, numbers[5]);
-    must(many, 6, numbers[6]);
-    must(many, 7, numbers[7]);
-}
-
-// Says the attributes that an operator must have.
-pub fn needs(tag: u8) {
+// Says the attributes that an operator takes.
+pub fn all_of(tag: u8) {
     let row = rules::row_of(tag);
-    let form = row.form;
     let numbers = row.numbers;
-    match form {
-        Form::Each(many) => each(many, numbers),
-        Form::One => choice(tag),
-        Form::Line => choice(tag),
-        Form::Unknown => say(b"take it out"),
+    operator(tag);
+    say(b" takes ");
+    let a = one(numbers[0], false);
+    let b = one(numbers[1], a);
+    let c = one(numbers[2], b);
+    let d = one(numbers[3], c);
+    let e = one(numbers[4], d);
+    let f = one(numbers[5], e);
+    let g = one(numbers[6], f);
+    if !one(numbers[7], g) {
+        say(b"no attribute");
     }
 }
 

@@ -4,8 +4,8 @@ mod kinds;
 mod called;
 mod values;
 
+pub use asked::all_of;
 pub use asked::choice;
-pub use asked::needs;
 pub use asked::takes;
 pub use kinds::kind;
 pub use called::attribute;

@@ -1,40 +1,82 @@
 // What a refusal is about.
-use items::Scan;
+use crate::missing::missing;
+use trail::COUNT;
+use trail::HEIGHT;
+use trail::ROWS;
+use trail::SAVED;
+use trail::TAG;
 use number::byte_at;
 
-// The byte at the place; of a value there the attribute's number, type, count of numbers and place of the first; the tag of the operator.
+// The place and its byte; of the value there its attribute's number, count of numbers and place of the first; the operator's tag, the
+// attribute that it lacks, the data that it asks for and that is told; the name that it gives; states saved, rows read and all rows.
 pub struct Facts {
+    pub at: u32,
     pub byte: u8,
     pub number: usize,
     pub count: u32,
     pub first: usize,
     pub tag: u8,
+    pub missing: usize,
+    pub asked: u32,
+    pub told: u32,
+    pub name: usize,
+    pub letters: usize,
+    pub saved: u32,
+    pub rows: u32,
+    pub height: u32,
 }
 
-// The facts where no value stands.
-fn of_byte(b: u8) -> Facts {
+fn small(n: usize) -> u32 {
+    (n % 4_294_967_296) as u32
+}
+
+// Which of n attributes has its value at a place; n if none has.
+fn index_of(attrs: &[usize; 80], n: usize, at: usize) -> usize {
+    let mut i: usize = 0;
+    while i < n {
+        if 16 <= i {
+            return 0;
+        }
+        if attrs[i * 5 + 2] == at {
+            return i;
+        }
+        i += 1;
+    }
+    0
+}
+
+// The facts of the operator that a walk has found, and of the value at a place before it.
+pub fn facts_in(s: &[u8], at: usize, attrs: &[usize; 80], st: &[usize; 16]) -> Facts {
+    let high = byte_at(s, 0) == 0x28;
+    let n = st[COUNT];
+    let tag = (st[TAG] % 256) as u8;
+    let i = index_of(attrs, n, at);
+    let part = rules::part_in(attrs, n, 139);
     Facts {
-        byte: b,
-        number: 0,
-        count: 0,
-        first: 0,
-        tag: b,
+        at: small(at),
+        byte: byte_at(s, at),
+        number: element(attrs, i, 0),
+        count: small(element(attrs, i, 3)),
+        first: element(attrs, i, 4),
+        tag,
+        missing: missing(tag, attrs, n),
+        asked: small(trail::asked(s, high, attrs, st)),
+        told: trail::told(s, high, st),
+        name: part.first,
+        letters: part.count,
+        saved: small(st[SAVED]),
+        rows: small(st[ROWS]),
+        height: small(st[HEIGHT]),
     }
 }
 
-// The facts at a place of a job or of a motif: it is read on from there.
-pub fn facts_at(s: &[u8], at: usize) -> Facts {
-    let mut attrs = [0usize; 80];
-    let b = byte_at(s, at);
-    match items::scan_at(s, at, byte_at(s, 0) == 0x28, &mut attrs) {
-        Scan::Tagged(tag, _, _) => Facts {
-            byte: b,
-            number: attrs[0],
-            count: (attrs[3] % 65_536) as u32,
-            first: attrs[4],
-            tag,
-        },
-        Scan::Ended => of_byte(b),
-        Scan::No(_, _) => of_byte(b),
+// Element k of attribute i.
+fn element(attrs: &[usize; 80], i: usize, k: usize) -> usize {
+    if 15 < i {
+        return 0;
     }
+    if 4 < k {
+        return 0;
+    }
+    attrs[i * 5 + k]
 }

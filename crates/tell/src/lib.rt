@@ -1,9 +1,12 @@
 // Why a job is refused, and what to change, as sentences with gaps that facts fill.
-mod codes;
 mod facts;
+mod kinds;
+mod lines;
+mod missing;
 mod sentence;
 
-pub use codes::cause;
-pub use codes::cure;
 pub use facts::Facts;
-pub use facts::facts_at;
+pub use facts::facts_in;
+pub use kinds::kind_line;
+pub use lines::cause;
+pub use lines::cure;

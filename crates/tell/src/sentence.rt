@@ -1,5 +1,6 @@
 // A sentence with gaps: a percent sign and a letter stand for a fact.
 use crate::facts::Facts;
+use text::number;
 
 // Says the fact of a letter.
 fn fact(s: &[u8], f: Facts, letter: u8) {
@@ -7,11 +8,20 @@ fn fact(s: &[u8], f: Facts, letter: u8) {
         b'a' => phrase::attribute(f.number),
         b'b' => text::byte(f.byte),
         b'c' => phrase::choice(f.tag),
-        b'n' => phrase::needs(f.tag),
+        b'h' => number(f.height),
+        b'k' => phrase::all_of(f.tag),
+        b'm' => phrase::attribute(f.missing),
         b'o' => phrase::operator(f.tag),
-        b't' => phrase::kind(f.byte),
+        b'p' => text::plain(f.at),
+        b'q' => phrase::takes(f.missing),
         b'r' => phrase::takes(f.number),
-        _ => phrase::value(s, f.byte, f.count, f.first),
+        b's' => number(f.saved),
+        b't' => phrase::kind(f.byte),
+        b'u' => text::part(s, f.letters, f.name),
+        b'v' => phrase::value(s, f.byte, f.count, f.first),
+        b'w' => number(f.rows),
+        b'x' => number(f.asked),
+        _ => number(f.told),
     }
 }
 
@@ -29,7 +39,7 @@ fn letter(s: &[u8], f: Facts, gap: bool, b: u8) -> bool {
     false
 }
 
-// Says line k of a text, its gaps filled with the facts; a value stands in s.
+// Says line k of a text, its gaps filled with the facts; names and values stand in s.
 pub fn sentence(lines: &[u8], k: usize, s: &[u8], f: Facts) {
     let mut gap = false;
     let mut at = text::start_of(lines, k);

@@ -1,0 +1,153 @@
+// What each line means, and what to change. The first lines are the codes'; those from 30 on say more where more is known.
+use crate::facts::Facts;
+use crate::sentence::sentence;
+
+// Says why a job or a motif is refused.
+pub fn cause(k: usize, s: &[u8], f: Facts) {
+    let lines = b"
+longer than 61,440 bytes
+header malformed
+written in the ASCII form
+of another class than PCL XL 1;1
+ends inside an item
+no item that may come here: %b
+%a is a 17th attribute of %o
+over 1,024 elements in an %t
+%o is no operator of the arm
+out of order: %o
+%a is no attribute of %o
+%a comes twice for %o
+attribute missing before %o
+attributes or rows that do not go together before %o
+%a does not take %t in %o
+%a %v is out of range in %o
+data source not open at %o
+data absent or of another length after %o
+no room for more motifs at %o
+a motif of the name %u is held already
+no motif of the name %u is held
+calls over 32 deep at %o of %u
+over 24 saved states at %o
+cursor not set before %o
+wrong colour space before %o
+over 1,000,000 operators performed at %o
+ends with something still open
+list of records full at %o
+work buffer too short
+no PCL XL file, but an empty one
+PJL commands stand before the job
+no PCL XL file, but a PDF
+no PCL XL file, but a PNG picture
+no PCL XL file, but a job's text
+a carriage return in the header
+no PCL XL file: it does not begin as one
+ends with no session
+ends in a session
+ends in a session with the data source open
+ends in the definition of a motif
+ends in a page
+ends in an image, with %w of %h rows read
+ends with a value or attributes that no operator follows
+ends with %s states saved
+out of order: PopGS with nothing saved
+out of order: EndPage with %s saved
+out of order: EndSession while the data source is open
+out of order: EndImage after %w of %h rows
+out of order: %o outside a page
+out of order: %o outside a session
+out of order: %o in a page
+out of order: %o in an image
+out of order: %o in the definition of a motif
+out of order: OpenDataSource while the source is open
+out of order: CloseDataSource while the source is closed
+out of order: %o with no image begun
+out of order: %o with no motif begun
+out of order: %o in a motif
+out of order: BeginSession in a session
+data source not open at ReadStream
+no data behind %o, which asks for %x bytes
+%o asks for %x bytes of data, and %y are told behind it
+%m missing before %o
+the motif %u was defined in an earlier session and ended with it
+over 24 saved states in the motif %u that is called, or in one that it calls
+cursor not set before an operator of the motif %u that is called, or of one that it calls
+wrong colour space before an operator of the motif %u that is called, or of one that it calls
+data source not open at an operator of the motif %u that is called, or of one that it calls
+";
+    sentence(lines, k, s, f);
+}
+
+// Says what to change.
+pub fn cure(k: usize, s: &[u8], f: Facts) {
+    let lines = b"
+make the job shorter, or split it in two
+begin the file with `) HP-PCL XL;1;1` and a line feed, nothing before it
+save the job in the binary form
+save the job as PCL XL 1;1
+the end is cut off: send the whole file again
+take this byte out, or mend the item before it
+give one operator at most 16 attributes
+make the array shorter
+take it out: the arm draws by LinePath, LineRelPath, Rectangle and images
+move it to where it may stand
+take it out: %k
+give it once
+%c
+%c
+%r
+%r
+put an OpenDataSource before the BeginPage
+put data of just the length asked for behind it
+define fewer or shorter motifs: 64, and 16,384 bytes in all
+give this one another name
+define it before the page, in this session
+let motifs call each other less deep
+put a PopGS before it, or leave it out
+put a SetCursor before it
+put a SetColorSpace before it: RGB for RGBColor, gray for GrayLevel and images
+call motifs fewer times
+close the motif, image, page or session, or send the whole file again
+lend a longer list
+lend a work buffer of 16,384 bytes
+save the job again, and send that file
+take out all bytes before `) HP-PCL XL`, and those behind the last EndSession
+print it to a file by a driver for PCL XL 1;1, and send that
+draw it in a job by BeginImage
+make bytes of it by `job assemble` (README, A job by hand)
+take byte %p out: the header ends by a line feed alone
+begin the file with `) HP-PCL XL;1;1` and a line feed, nothing before it
+put a session behind the header, from BeginSession to EndSession
+put an EndSession at the end
+put a CloseDataSource and an EndSession at the end
+put an EndStream at the end, then what ends the session
+put an EndPage at the end, then what ends the session
+send the other rows by ReadImage, then an EndImage and what must follow
+put the operator behind them, or take them out
+put as many PopGS at the end
+take it out, or put a PushGS before it
+put as many PopGS before it
+put a CloseDataSource before it
+send the other rows by ReadImage before it
+put a BeginPage before it
+put a BeginSession before it
+put an EndPage before it
+put an EndImage before it, once all rows are read
+put an EndStream before it, or the operator into the motif's own bytes
+take it out
+take it out
+put a BeginImage before it
+put a BeginStream before it
+take it out: a motif has operators of a page only
+put an EndSession before it
+put an OpenDataSource before the BeginStream
+put 0xfa, the length in four bytes, and the data behind it
+make the two lengths the same
+%q
+define it again in this session, before the page
+take a PushGS and its PopGS out of that motif
+in that motif, put a SetCursor before the first SetCursorRel, LinePath, LineRelPath or BeginImage that has none since the last NewPath or PopGS
+in that motif, put a SetColorSpace before each operator: RGB for RGBColor, gray for GrayLevel and BeginImage
+put an OpenDataSource before the BeginPage
+";
+    sentence(lines, k, s, f);
+}

@@ -1,0 +1,46 @@
+-- Nothing has to hold from turn to turn; each turn brings the end one nearer.
+-- Assumes nothing.
+use borrow.Author.Needs.{needs}
+use Rattle.trail.proofs.walk.all.Statement.{statement}
+use Rattle.trail.proofs.walk.all.Tie as tie
+
+abbrev Inv-loop : tie.InvT-loop
+Inv-loop s high from to attrs₀ st₀ at₀ turns₀ attrs st at turns = Unit {0}
+
+abbrev μ-loop : tie.MeasureT-loop
+μ-loop s high from to attrs₀ st₀ at₀ turns₀ attrs st at turns = turns
+
+loop-holds : tie.Need-loop-holds Inv-loop μ-loop
+loop-holds c = search needs
+
+sub-turns : tie.Need-sub-turns Inv-loop μ-loop
+sub-turns c = search needs
+
+one-requires : tie.Need-one-requires Inv-loop μ-loop
+one-requires c κs = search needs
+
+returns : tie.Need-returns Inv-loop μ-loop
+returns c = search needs
+
+loop-less : tie.Need-loop-less Inv-loop μ-loop
+loop-less c = search needs
+
+loop-again : tie.Need-loop-again Inv-loop μ-loop
+loop-again c = search needs
+
+returns-2 : tie.Need-returns-2 Inv-loop μ-loop
+returns-2 c = search needs
+
+pub all-spec : {M : Type 1} → statement M
+all-spec =
+    tie.close
+    (tie.spec
+    Inv-loop
+    μ-loop
+    loop-holds
+    sub-turns
+    one-requires
+    returns
+    loop-less
+    loop-again
+    returns-2)

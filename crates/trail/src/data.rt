@@ -1,0 +1,67 @@
+// The data that an operator asks for, and the length that stands behind it.
+use crate::step::DEPTH;
+use crate::step::WIDTH;
+use crate::walk::COUNT;
+use crate::walk::PLACE;
+use crate::walk::TAG;
+use crate::walk::on;
+use number::Width;
+use number::byte_at;
+use number::number_at;
+
+// Where the item behind the operator's tag stands.
+fn item(s: &[u8], st: &[usize; 16]) -> usize {
+    number::after_white(s, on(st[PLACE], 1))
+}
+
+// Data stands behind the operator.
+pub fn is_told(s: &[u8], st: &[usize; 16]) -> bool {
+    let b = byte_at(s, item(s, st));
+    if b == 0xfa {
+        return true;
+    }
+    b == 0xfb
+}
+
+// The length that the data behind the operator tells.
+pub fn told(s: &[u8], high: bool, st: &[usize; 16]) -> u32 {
+    let p = item(s, st);
+    if byte_at(s, p) == 0xfb {
+        return byte_at(s, on(p, 1)) as u32;
+    }
+    number_at(s, on(p, 1), Width::Four, high)
+}
+
+// A product, within what can be counted.
+fn times(n: usize, k: usize) -> usize {
+    if 65_535 < n {
+        return n;
+    }
+    if 65_536 < k {
+        return k;
+    }
+    n * k
+}
+
+// Of points: 2 bytes for each coordinate pair of bytes, else 4.
+fn points(kind: u32, many: usize) -> usize {
+    if kind <= 1 {
+        return times(many, 2);
+    }
+    times(many, 4)
+}
+
+// The length that the operator asks for.
+pub fn asked(s: &[u8], high: bool, attrs: &[usize; 80], st: &[usize; 16]) -> usize {
+    let n = st[COUNT];
+    if st[TAG] == 0x5c {
+        return rules::value_in(s, high, attrs, n, 140) as usize;
+    }
+    if st[TAG] == 0xb1 {
+        let rows = rules::value_in(s, high, attrs, n, 99) as usize;
+        let row = order::row_of((st[WIDTH] % 65_536) as u16, (st[DEPTH] % 65_536) as u16);
+        return times(rows, row);
+    }
+    let kind = rules::value_in(s, high, attrs, n, 80);
+    points(kind, rules::value_in(s, high, attrs, n, 77) as usize)
+}

@@ -1,0 +1,17 @@
+// The way through a job or a motif to a refused operator: where it begins, its attributes, and how matters stand before it.
+mod data;
+mod step;
+mod walk;
+mod why;
+
+pub use data::asked;
+pub use data::told;
+pub use step::HEIGHT;
+pub use step::ROWS;
+pub use step::SAVED;
+pub use walk::COUNT;
+pub use walk::PLACE;
+pub use walk::TAG;
+pub use walk::walk_job;
+pub use walk::walk_motif;
+pub use why::line_of;

@@ -1,0 +1,80 @@
+// How matters stand, as numbers in a row: where the job is, and what is open.
+
+// Between sessions, in a session, in a motif's definition, in a page, in an image.
+pub const PHASE: usize = 0;
+
+pub const BETWEEN: usize = 0;
+
+pub const SESSION: usize = 1;
+
+pub const STREAM: usize = 2;
+
+pub const PAGE: usize = 3;
+
+pub const IMAGE: usize = 4;
+
+// 1 if the data source is open.
+pub const OPENED: usize = 1;
+
+// The states saved.
+pub const SAVED: usize = 2;
+
+// Of an image: width, depth, height, and the rows read.
+pub const WIDTH: usize = 3;
+
+pub const DEPTH: usize = 4;
+
+pub const HEIGHT: usize = 5;
+
+pub const ROWS: usize = 6;
+
+// 1 in a motif.
+pub const MOTIF: usize = 7;
+
+fn value(s: &[u8], high: bool, attrs: &[usize; 80], n: usize, number: u8) -> usize {
+    rules::value_in(s, high, attrs, n, number) as usize
+}
+
+// BeginImage.
+fn begin_image(s: &[u8], high: bool, attrs: &[usize; 80], n: usize, st: &mut [usize; 16]) {
+    st[PHASE] = IMAGE;
+    st[WIDTH] = value(s, high, attrs, n, 108);
+    st[DEPTH] = value(s, high, attrs, n, 98);
+    st[HEIGHT] = value(s, high, attrs, n, 107);
+    st[ROWS] = 0;
+}
+
+// So many more, within what can be counted.
+fn more(n: usize, k: usize) -> usize {
+    if 1_000_000 < n {
+        return n;
+    }
+    if 1_000_000 < k {
+        return n;
+    }
+    n + k
+}
+
+fn less(n: usize) -> usize {
+    if n == 0 { 0 } else { n - 1 }
+}
+
+// What an operator changes.
+pub fn step(s: &[u8], high: bool, tag: u8, attrs: &[usize; 80], n: usize, st: &mut [usize; 16]) {
+    match tag {
+        0x41 => st[PHASE] = SESSION,
+        0x42 => st[PHASE] = BETWEEN,
+        0x43 => st[PHASE] = PAGE,
+        0x44 => st[PHASE] = SESSION,
+        0x48 => st[OPENED] = 1,
+        0x49 => st[OPENED] = 0,
+        0x5b => st[PHASE] = STREAM,
+        0x5d => st[PHASE] = SESSION,
+        0x60 => st[SAVED] = less(st[SAVED]),
+        0x61 => st[SAVED] = more(st[SAVED], 1),
+        0xb0 => begin_image(s, high, attrs, n, st),
+        0xb1 => st[ROWS] = more(st[ROWS], value(s, high, attrs, n, 99)),
+        0xb2 => st[PHASE] = PAGE,
+        _ => {}
+    }
+}

@@ -1,0 +1,200 @@
+// Which sentence says why: the line of the code itself, or a line further down that says more.
+use crate::data;
+use crate::step::BETWEEN;
+use crate::step::IMAGE;
+use crate::step::MOTIF;
+use crate::step::OPENED;
+use crate::step::PAGE;
+use crate::step::PHASE;
+use crate::step::SAVED;
+use crate::step::SESSION;
+use crate::step::STREAM;
+use crate::walk::START;
+use crate::walk::TAG;
+
+const NO_SESSION: usize = 37;
+
+const IN_SESSION: usize = 38;
+
+const SOURCE_OPEN: usize = 39;
+
+const IN_STREAM: usize = 40;
+
+const IN_PAGE: usize = 41;
+
+const IN_IMAGE: usize = 42;
+
+const WAITS: usize = 43;
+
+const STATES_SAVED: usize = 44;
+
+const NOTHING_SAVED: usize = 45;
+
+const STILL_SAVED: usize = 46;
+
+const STILL_OPEN: usize = 47;
+
+const ROWS_MISSING: usize = 48;
+
+const NO_PAGE: usize = 49;
+
+const NO_SESSION_YET: usize = 50;
+
+const IN_A_PAGE: usize = 51;
+
+const IN_AN_IMAGE: usize = 52;
+
+const IN_A_STREAM: usize = 53;
+
+const OPEN_TWICE: usize = 54;
+
+const CLOSE_TWICE: usize = 55;
+
+const NO_IMAGE: usize = 56;
+
+const NO_STREAM: usize = 57;
+
+const IN_A_MOTIF: usize = 58;
+
+const IN_A_SESSION: usize = 59;
+
+const READ_CLOSED: usize = 60;
+
+const NO_DATA: usize = 61;
+
+const OTHER_LENGTH: usize = 62;
+
+const CALL_SAVES: usize = 65;
+
+const CALL_LACKS_CURSOR: usize = 66;
+
+const CALL_LACKS_COLOUR: usize = 67;
+
+const CALL_READS: usize = 68;
+
+const EXEC_STREAM: usize = 0x5e;
+
+// Of 10 in a session.
+fn session_line(tag: usize) -> usize {
+    match tag {
+        0x41 => IN_A_SESSION,
+        0x42 => STILL_OPEN,
+        0x48 => OPEN_TWICE,
+        0x49 => CLOSE_TWICE,
+        0x5c => NO_STREAM,
+        0x5d => NO_STREAM,
+        _ => NO_PAGE,
+    }
+}
+
+// Of 10 in a page, or in a motif.
+fn page_line(tag: usize, motif: usize) -> usize {
+    if tag == 0x60 {
+        return NOTHING_SAVED;
+    }
+    if 0xb0 < tag {
+        return NO_IMAGE;
+    }
+    if motif == 1 {
+        return IN_A_MOTIF;
+    }
+    if tag == 0x44 {
+        return STILL_SAVED;
+    }
+    IN_A_PAGE
+}
+
+// Of 10.
+fn order_line(st: &[usize; 16]) -> usize {
+    let tag = st[TAG];
+    let phase = st[PHASE];
+    if phase == BETWEEN {
+        return NO_SESSION_YET;
+    }
+    if phase == SESSION {
+        return session_line(tag);
+    }
+    if phase == STREAM {
+        return IN_A_STREAM;
+    }
+    if phase == PAGE {
+        return page_line(tag, st[MOTIF]);
+    }
+    if tag == 0xb2 {
+        return ROWS_MISSING;
+    }
+    IN_AN_IMAGE
+}
+
+// Of 27 in a session, by the source.
+fn ended_line(opened: usize) -> usize {
+    if opened == 1 { SOURCE_OPEN } else { IN_SESSION }
+}
+
+// Of 27: what is open at the end.
+fn open_line(s: &[u8], st: &[usize; 16]) -> usize {
+    if number::after_white(s, st[START]) < s.len() {
+        return WAITS;
+    }
+    let phase = st[PHASE];
+    if phase == BETWEEN {
+        return NO_SESSION;
+    }
+    if phase == SESSION {
+        return ended_line(st[OPENED]);
+    }
+    if phase == STREAM {
+        return IN_STREAM;
+    }
+    if phase == IMAGE {
+        return IN_IMAGE;
+    }
+    if st[MOTIF] == 1 {
+        STATES_SAVED
+    } else {
+        IN_PAGE
+    }
+}
+
+// Of 17.
+fn source_line(tag: usize) -> usize {
+    if tag == EXEC_STREAM {
+        return CALL_READS;
+    }
+    if tag == 0x5c { READ_CLOSED } else { 17 }
+}
+
+// Of 23 to 25: a line for a call, since its cure lies in the motif.
+fn call_line(code: usize, tag: usize) -> usize {
+    if tag != EXEC_STREAM {
+        return code;
+    }
+    match code {
+        23 => CALL_SAVES,
+        24 => CALL_LACKS_CURSOR,
+        _ => CALL_LACKS_COLOUR,
+    }
+}
+
+// Of 18.
+fn data_line(s: &[u8], st: &[usize; 16]) -> usize {
+    if data::is_told(s, st) {
+        OTHER_LENGTH
+    } else {
+        NO_DATA
+    }
+}
+
+// The line of a code.
+pub fn line_of(code: u32, s: &[u8], st: &[usize; 16]) -> usize {
+    match code {
+        10 => order_line(st),
+        17 => source_line(st[TAG]),
+        18 => data_line(s, st),
+        23 => call_line(23, st[TAG]),
+        24 => call_line(24, st[TAG]),
+        25 => call_line(25, st[TAG]),
+        27 => open_line(s, st),
+        _ => code as usize,
+    }
+}
