@@ -1,5 +1,4 @@
 // What the checker says of a job, in a line, and the job's operators.
-mod inside;
 mod judging;
 
 pub use judging::judged;

@@ -2,8 +2,8 @@
 -- Assumes nothing.
 use Prim.Native.Nat.{_-_}
 use borrow.Author.Needs.{needs}
-use Rattle.report.proofs.inside.say_name.Statement.{statement}
-use Rattle.report.proofs.inside.say_name.Tie as tie
+use Rattle.listing.proofs.inside.say_name.Statement.{statement}
+use Rattle.listing.proofs.inside.say_name.Tie as tie
 
 abbrev Inv-loop : tie.InvT-loop
 Inv-loop job list records last₀ i₀ last i = Unit {0}

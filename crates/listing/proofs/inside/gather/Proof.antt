@@ -4,8 +4,8 @@ use Prim.Native.Nat.{_-_}
 use mathlib.Core.Path.{_≡_}
 use lib.ListN.{length}
 use borrow.Author.Needs.{needs}
-use Rattle.report.proofs.inside.gather.Statement.{statement}
-use Rattle.report.proofs.inside.gather.Tie as tie
+use Rattle.listing.proofs.inside.gather.Statement.{statement}
+use Rattle.listing.proofs.inside.gather.Tie as tie
 
 abbrev Inv-loop : tie.InvT-loop
 Inv-loop job list records motif₀ used₀ i₀ motif used i = length motif ≡ length motif₀

@@ -1,8 +1,8 @@
 // The motif that was defined last, by the records of the list: its bytes and its name.
 ghost use mathlib.Core.Path.{_≡_};
 ghost use lib.ListN.{length};
-use listing::field;
-use listing::field_four;
+use crate::records::field;
+use crate::records::field_four;
 use phrase::after;
 
 // A block of a motif is joined to the bytes before it; the answer is how many bytes that makes.

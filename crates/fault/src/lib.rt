@@ -1,0 +1,113 @@
+// A fault of a job or of a motif: its cause and its cure.
+use alike::Other;
+use tell::Facts;
+use text::number;
+use text::say;
+
+// Lines of sentences: of an attribute that is missing, and of a motif of an earlier session.
+const MISSING: usize = 63;
+
+const EARLIER: usize = 64;
+
+// The line of the sentence for a code, once its operator is known.
+fn line_of(code: u32, s: &[u8], at: usize, st: &[usize; 16], f: Facts) -> usize {
+    if code == 2 {
+        return tell::kind_line(s, at);
+    }
+    if code == 13 {
+        if f.missing != 0 {
+            return MISSING;
+        }
+    }
+    trail::line_of(code, s, st)
+}
+
+// The code and the cure.
+fn ending(s: &[u8], k: usize, code: u32, f: Facts) {
+    say(b" (code ");
+    number(code);
+    say(b") -- ");
+    tell::cure(k, s, f);
+}
+
+// Says the name of record i.
+fn other_name(job: &[u8], list: &[u8], i: usize) {
+    say(b"; there is ");
+    text::part(
+        job,
+        listing::field_four(list, i, 8) as usize,
+        listing::field_four(list, i, 12) as usize,
+    );
+}
+
+// Of 21: what stands in the job in place of the name, which is count bytes of s from first on.
+fn searched(job: &[u8], list: &[u8], records: usize, s: &[u8], f: Facts) -> Other {
+    let first = f.name;
+    let count = f.letters;
+    if s.len() < first {
+        return Other::Nobody;
+    }
+    if s.len() - first < count {
+        return Other::Nobody;
+    }
+    alike::look_for(job, list, records, &s[first..first + count])
+}
+
+// The cause of 21, and the line of its cure.
+fn unheld(job: &[u8], list: &[u8], records: usize, s: &[u8], f: Facts) -> usize {
+    match searched(job, list, records, s, f) {
+        Other::Earlier => {
+            tell::cause(EARLIER, s, f);
+            EARLIER
+        }
+        Other::Like(i) => {
+            tell::cause(21, s, f);
+            other_name(job, list, i);
+            21
+        }
+        Other::Nobody => {
+            tell::cause(21, s, f);
+            21
+        }
+    }
+}
+
+// The cause of a refusal, and the line of its cure.
+fn caused(job: &[u8], list: &[u8], records: usize, s: &[u8], k: usize, f: Facts) -> usize {
+    if k == 21 {
+        return unheld(job, list, records, s, f);
+    }
+    tell::cause(k, s, f);
+    k
+}
+
+// Says what is wrong at a place of the job, and the cure.
+pub fn of_job(job: &[u8], list: &[u8], records: usize, code: u32, at: usize) {
+    let mut attrs = [0usize; 80];
+    let mut st = [0usize; 16];
+    trail::walk_job(job, at, &mut attrs, &mut st);
+    let f = tell::facts_in(job, at, &attrs, &st);
+    let k = caused(job, list, records, job, line_of(code, job, at, &st, f), f);
+    ending(job, k, code, f);
+}
+
+// Says what is wrong at a place of the motif that was defined last, of which these are the bytes, and the cure.
+pub fn of_motif(job: &[u8], list: &[u8], records: usize, motif: &[u8], code: u32, at: usize) {
+    let mut attrs = [0usize; 80];
+    let mut st = [0usize; 16];
+    trail::walk_motif(motif, at, &mut attrs, &mut st);
+    let f = tell::facts_in(motif, at, &attrs, &st);
+    let k = caused(
+        job,
+        list,
+        records,
+        motif,
+        line_of(code, motif, at, &st, f),
+        f,
+    );
+    say(b", in the motif ");
+    listing::say_name(job, list, records);
+    say(b" at its byte ");
+    text::plain(f.at);
+    ending(motif, k, code, f);
+}
