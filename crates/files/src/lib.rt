@@ -1,6 +1,5 @@
 // The files that the arguments name, judged one after the other.
 mod named;
-mod tally;
 mod unread;
 
 pub use named::judge;

@@ -1,11 +1,11 @@
 // The words of the command: names of files, `-` for standard input, and `list`, behind which the operators of each job are said too.
-use crate::tally::Outcome;
-use crate::tally::Tally;
-use crate::tally::are_several;
-use crate::tally::status;
-use crate::tally::total;
-use crate::tally::with;
 use crate::unread::unread;
+use tally::Outcome;
+use tally::Tally;
+use tally::are_several;
+use tally::status;
+use tally::total;
+use tally::with;
 
 // The job that an open file holds.
 fn source(fd: i32, path: &[u8], listed: bool) -> Outcome {

@@ -1,6 +1,6 @@
 // The line of a job.
-use state::Verdict;
 use listing::gather;
+use state::Verdict;
 use text::number;
 use text::say;
 
