@@ -1,6 +1,6 @@
 //! What a run of cases has reached: codes outside and inside motifs, and attribute rules broken.
 
-use crate::generate::{all_rules, shapes_of, Broken, Need};
+use crate::generate::{all_rules, class_of, shapes_of, Broken, Class, Need, Size, CLASSES};
 use crate::plain::{Verdict, NO_INNER};
 use crate::text::{attribute_name, operator_name, read_header, read_statement, Piece, Statement};
 use std::collections::BTreeMap;
@@ -19,6 +19,20 @@ pub struct Coverage {
     pub rules: BTreeMap<Broken, [u64; 2]>,
     /// What passed jobs have, outside and in motifs.
     pub shown: BTreeMap<&'static str, [u64; 2]>,
+    /// Attributes with a class of real, low and high byte first: taken in a passed job, or the cause of a 16.
+    pub reals: BTreeMap<(u16, Class), [u64; 2]>,
+}
+
+/// The attributes that take reals; the first two take any that is finite, the others only those above zero.
+const REALS: [u16; 4] = [76, 69, 103, 137];
+
+fn takes_real(number: u16, class: Class) -> bool {
+    let Class(size, negative) = class;
+    match size {
+        Size::Infinite | Size::NotANumber => false,
+        Size::Zero => REALS[..2].contains(&number),
+        Size::Denormal | Size::Normal => !negative || REALS[..2].contains(&number),
+    }
 }
 
 /// What some passed job must have, and some motif of one.
@@ -68,6 +82,19 @@ fn shown_by(all: &[Statement]) -> Vec<&'static str> {
         shown.push(SHOWN[0]);
     }
     shown
+}
+
+/// Attributes and classes of the reals of an operator, those of the value at `only` if that is given.
+fn reals_of(s: &Statement, only: Option<usize>) -> Vec<(u16, Class)> {
+    let mut found = Vec::new();
+    for pair in s.pieces.windows(2) {
+        if let [(at, Piece::Value(value)), (_, Piece::Number { number, .. })] = pair {
+            if value.kind == 0xd5 && only.is_none_or(|only| *at == only) {
+                found.extend(value.numbers.iter().map(|&bits| (*number, class_of(bits))));
+            }
+        }
+    }
+    found
 }
 
 /// The rules a refusal of 11 to 16 shows broken.
@@ -129,13 +156,19 @@ impl Coverage {
             self.show(job);
         }
         if (11..=16).contains(&v.code) {
-            let broken = if inside {
-                rules_of(&motif_at(job, v.position as usize), v.code, v.inner as usize)
+            let motif;
+            let (bytes, at) = if inside {
+                motif = motif_at(job, v.position as usize);
+                (&motif[..], v.inner as usize)
             } else {
-                rules_of(job, v.code, v.position as usize)
+                (job, v.position as usize)
             };
-            for rule in broken {
+            for rule in rules_of(bytes, v.code, at) {
                 self.rules.entry(rule).or_default()[usize::from(inside)] += 1;
+            }
+            if v.code == 16 {
+                let found = statements(bytes).iter().flat_map(|s| reals_of(s, Some(at))).collect();
+                self.count_reals(bytes, found, false);
             }
         }
     }
@@ -143,10 +176,23 @@ impl Coverage {
     /// Takes down what a passed job has.
     fn show(&mut self, job: &[u8]) {
         let all = statements(job);
-        let inside = motifs(&all).into_iter().flat_map(|m| statements(&m)).collect();
-        for (place, all) in [all, inside].iter().enumerate() {
-            for what in shown_by(all) {
+        let inside = motifs(&all);
+        let parts = [(0, job)].into_iter().chain(inside.iter().map(|m| (1, &m[..])));
+        for (place, bytes) in parts {
+            let all = statements(bytes);
+            for what in shown_by(&all) {
                 self.shown.entry(what).or_default()[place] += 1;
+            }
+            self.count_reals(bytes, all.iter().flat_map(|s| reals_of(s, None)).collect(), true);
+        }
+    }
+
+    /// Counts reals of a job or motif that are taken, or that are not.
+    fn count_reals(&mut self, bytes: &[u8], found: Vec<(u16, Class)>, taken: bool) {
+        let high = usize::from(bytes.first() == Some(&0x28));
+        for (number, class) in found {
+            if takes_real(number, class) == taken {
+                self.reals.entry((number, class)).or_default()[high] += 1;
             }
         }
     }
@@ -166,6 +212,11 @@ impl Coverage {
             let counts = self.rules.get(&rule).copied().unwrap_or_default();
             if counts[0] + counts[1] == 0 {
                 gaps.push(rule_name(&rule));
+            }
+        }
+        for (number, class) in REALS.into_iter().flat_map(|n| CLASSES.map(|c| (n, c))) {
+            if self.reals.get(&(number, class)).is_none_or(|orders| orders.contains(&0)) {
+                gaps.push(format!("{} {class:?}", attribute_name(number)));
             }
         }
         for what in SHOWN {
@@ -196,7 +247,13 @@ impl Coverage {
             let [o, i] = self.rules.get(&rule).copied().unwrap_or_default();
             let _ = writeln!(out, "{:<36} {o:>8} {i:>8}", rule_name(&rule));
         }
-        out.push_str("passed jobs with\n");
+        out.push_str("reals taken or refused           low byte first, high byte first\n");
+        for ((number, class), [low, high]) in &self.reals {
+            let sign = if class.1 { '-' } else { '+' };
+            let name = format!("{} {sign}{:?}", attribute_name(*number), class.0);
+            let _ = writeln!(out, "{name:<36} {low:>8} {high:>8}");
+        }
+        out.push_str("passed jobs with                      outside, in a motif\n");
         for (what, [o, i]) in &self.shown {
             let _ = writeln!(out, "{what:<36} {o:>8} {i:>8}");
         }

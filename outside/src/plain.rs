@@ -303,9 +303,9 @@ enum Rule {
     MediaSize,
     /// One ubyte or uint16 from..=to.
     Number(u32, u32),
-    /// Two uint16, both at least 1.
+    /// Two uint16, both at least 1, or two real32 above zero.
     Sizes,
-    /// Two ubyte, uint16 or sint16.
+    /// Two ubyte, uint16, sint16 or real32.
     Point,
     /// Four ubyte, uint16 or sint16.
     Box,
@@ -350,13 +350,26 @@ fn rule(tag: u8, number: u16) -> Option<Rule> {
     })
 }
 
+/// Two real32.
+const REALS: u8 = 0xd5;
+
+/// Whether 32 bits are a real that is neither infinite nor not a number: not all eight exponent bits are ones.
+fn is_finite(bits: u32) -> bool {
+    bits >> 23 & 0xff != 0xff
+}
+
+/// Whether 32 bits are a real above zero: no sign bit, and not all bits zero.
+fn is_above_zero(bits: u32) -> bool {
+    bits >> 31 == 0 && bits != 0
+}
+
 impl Rule {
     fn takes_type(self, kind: u8) -> bool {
         match self {
             Rule::Enumeration(..) | Rule::MediaSize => kind == 0xc0,
             Rule::Number(..) => matches!(kind, 0xc0 | 0xc1),
-            Rule::Sizes => kind == 0xd1,
-            Rule::Point => matches!(kind, 0xd0 | 0xd1 | 0xd3),
+            Rule::Sizes => matches!(kind, 0xd1 | REALS),
+            Rule::Point => matches!(kind, 0xd0 | 0xd1 | 0xd3 | REALS),
             Rule::Box => matches!(kind, 0xe0 | 0xe1 | 0xe3),
             Rule::Array(..) => kind == 0xc8,
         }
@@ -366,7 +379,12 @@ impl Rule {
         match self {
             Rule::Enumeration(from, to) | Rule::Number(from, to) => (from..=to).contains(&reader.element(a, 0)),
             Rule::MediaSize => matches!(reader.element(a, 0), 0..=12 | 14..=16),
+            Rule::Sizes if a.kind == REALS => [0, 1].iter().all(|&i| {
+                let bits = reader.element(a, i);
+                is_finite(bits) && is_above_zero(bits)
+            }),
             Rule::Sizes => reader.element(a, 0) >= 1 && reader.element(a, 1) >= 1,
+            Rule::Point if a.kind == REALS => is_finite(reader.element(a, 0)) && is_finite(reader.element(a, 1)),
             Rule::Point | Rule::Box => true,
             Rule::Array(from, to) => (from..=to).contains(&a.count),
         }
@@ -987,6 +1005,16 @@ mod tests {
     fn rows_are_filled_to_four_bytes() {
         assert_eq!([row_bytes(32, 0), row_bytes(33, 0), row_bytes(33, 1), row_bytes(33, 2)], [4, 8, 20, 36]);
         assert_eq!([row_bytes(1, 0), row_bytes(8, 1), row_bytes(65_535, 2)], [4, 4, 65_536]);
+    }
+
+    #[test]
+    fn reals_by_their_bits_are_those_of_the_machine() {
+        let edges = [0, 1, 0x7f_ffff, 0x80_0000, 0x3f80_0000, 0x7f7f_ffff, 0x7f80_0000, 0x7f80_0001, 0x7fff_ffff];
+        for bits in edges.into_iter().flat_map(|b: u32| [b, b | 1 << 31]) {
+            let real = f32::from_bits(bits);
+            assert_eq!(is_finite(bits), real.is_finite(), "{bits:x}");
+            assert_eq!(is_finite(bits) && is_above_zero(bits), real.is_finite() && real > 0.0, "{bits:x}");
+        }
     }
 
     #[test]

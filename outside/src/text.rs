@@ -5,7 +5,8 @@
 //! - `header low` or `header high`, with a class other than 1.1 as `2.1` and text after `;` in quotes.
 //! - `BeginPage Orientation=0 MediaSize=3`: an operator, its attributes in order, `data=0102` last.
 //!   Values: `5`, `(x,y)`, `(x1,y1,x2,y2)`, `"bytes"`, `[1,2,0*8]`, each with `:type` where not the default and,
-//!   for an array, `:wide` for a length in two bytes. `Name/2=` gives the attribute number two bytes.
+//!   for an array, `:wide` for a length in two bytes. With a point or an exponent, as `(1.5,-2e3)`, or as `inf`, a number is
+//!   a real32, and so are those beside it; `0x` and digits give the bits of one. `Name/2=` gives the attribute number two bytes.
 //!   `data/4=` gives the data a length of four bytes where one would do.
 //!   `=5` is a value alone, `@Name` a number alone, `~20` white space, `|` the place of the tag.
 //! - `items Measure=0`: attributes without an operator. `hex c0 00 f8 00*16`: bytes as they are.
@@ -278,6 +279,26 @@ fn meaning(kind: u8, bits: u32) -> i64 {
     }
 }
 
+/// Whether a number is written as a real: with a point, an exponent, or as infinite.
+fn is_real(number: &str) -> bool {
+    !number.starts_with("0x") && number.contains(['.', 'e', 'i', 'N'])
+}
+
+/// Whether any of some numbers parted by commas is written as a real.
+fn has_real(text: &str) -> bool {
+    text.split(',').any(|part| is_real(part.trim()))
+}
+
+/// A real as a decimal that reads back to the same bits; one that is not a number as its bits.
+fn show_real(bits: u32) -> String {
+    let real = f32::from_bits(bits);
+    if real.is_nan() {
+        format!("0x{bits:08x}")
+    } else {
+        format!("{real:?}")
+    }
+}
+
 /// One number, or `n*k` of them, in front of `)`, `]` or the end.
 fn parse_numbers(text: &str, kind: Option<u8>) -> Result<Vec<i64>, String> {
     let mut all = Vec::new();
@@ -351,6 +372,9 @@ fn parse_value(text: &str, attribute: Option<u16>) -> Result<Value, String> {
             None => return Err(format!("no type: {suffix}")),
         }
     }
+    if kind.is_none() && !body.starts_with('"') && has_real(body.trim_matches(['(', ')', '[', ']'])) {
+        kind = Some(5);
+    }
     let inner = |open: char, shut: char| body.strip_prefix(open).and_then(|b| b.strip_suffix(shut));
     let (family, numbers) = if body.starts_with('"') {
         (0xc8, unquote(body)?.into_iter().map(i64::from).collect())
@@ -384,7 +408,7 @@ fn show_value(value: &Value, attribute: Option<u16>) -> String {
     let meant: Vec<i64> = value.numbers.iter().map(|&n| meaning(value.kind, n)).collect();
     let kind = value.kind & 7;
     let each: Vec<String> = if kind == 5 {
-        value.numbers.iter().map(|n| format!("0x{n:08x}")).collect()
+        value.numbers.iter().map(|&n| show_real(n)).collect()
     } else {
         meant.iter().map(|n| n.to_string()).collect()
     };
@@ -398,6 +422,7 @@ fn show_value(value: &Value, attribute: Option<u16>) -> String {
             (text, 0)
         }
     };
+    let default = if kind == 5 && each.iter().any(|n| is_real(n)) { 5 } else { default };
     if kind != default {
         text.push(':');
         text.push_str(TYPES[usize::from(kind)]);
@@ -964,6 +989,27 @@ mod tests {
              SetCursor Point=(1,2) Point=(1,2):sint16 Point=(-1,2) Point=(1.5,2):real32 Point=(1,70000)\n\
              op:45 a200=5:uint32 a9999=-5:sint32 a7=[1,2,0*9]:uint16 =7 ~20 @Measure\n\
              Rectangle BoundingBox=(1,2,3,-4)\n~20*9\n",
+        );
+    }
+
+    #[test]
+    fn reals_read_back_to_the_same_bits() {
+        let edges = [0, 1, 0x7f_ffff, 0x80_0000, 0x3f80_0000, 0x3fc0_0000, 0x4b80_0001, 0x7f7f_ffff, 0x7f80_0000];
+        let not_numbers = [0x7f80_0001, 0x7fc0_0000, 0x7fff_ffff];
+        let spread = (0..4000u32).map(|i| i.wrapping_mul(0x9e37_79b9));
+        for bits in edges.into_iter().chain(not_numbers).flat_map(|b| [b, b | 1 << 31]).chain(spread) {
+            for (kind, count) in [(0xc5, 1), (0xcd, 3), (0xd5, 2), (0xe5, 4)] {
+                for other in [bits, 0x7fc0_0001] {
+                    let numbers = [bits, other, other, bits][..count].to_vec();
+                    let value = Value { kind, numbers, wide: false };
+                    let text = show_value(&value, Some(76));
+                    assert_eq!(parse_value(&text, Some(76)), Ok(value), "{text}");
+                }
+            }
+        }
+        assert_eq!(
+            show_value(&Value { kind: 0xd5, numbers: vec![0x3fc0_0000, 0xbf80_0000], wide: false }, None),
+            "(1.5,-1.0)"
         );
     }
 

@@ -28,6 +28,7 @@ fn kinds(length: usize) -> Vec<(&'static str, Vec<Vec<u8>>)> {
     vec![
         ("one-byte operators", vec![filled(length, &page, "PaintPath", ended)]),
         ("lines by end point", vec![filled(length, &cursor, "LinePath EndPoint=(-1,300)", ended)]),
+        ("lines by real end point", vec![filled(length, &cursor, "LinePath EndPoint=(-1.5,300.25)", ended)]),
         ("lines apart", vec![filled(length, &cursor, "LinePath EndPoint=(-1,300); hex 20", ended)]),
         ("lines with point data", vec![filled(length, &cursor, points, ended)]),
         ("white space", vec![filled(length, &page, "hex 20", ended)]),

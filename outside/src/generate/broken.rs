@@ -50,6 +50,11 @@ fn page_tag(tag: u8) -> bool {
 
 /// A job that breaks one rule first, in the job or, where it may stand in one, in a motif.
 pub fn broken(rng: &mut Rng, rule: Broken, inside: bool) -> Job {
+    ending_in(rng, rule, inside, |rng, made| break_op(rng, made, rule))
+}
+
+/// A job that ends in the operator of a rule, in the job or in a motif, right but for one change.
+pub(super) fn ending_in(rng: &mut Rng, rule: Broken, inside: bool, change: impl Fn(&mut Rng, &mut Op)) -> Job {
     let inside = inside && page_tag(rule.tag);
     let mut m = Maker::new(rng.clone());
     rng.draw();
@@ -71,7 +76,7 @@ pub fn broken(rng: &mut Rng, rule: Broken, inside: bool) -> Job {
             made = last;
         }
     }
-    break_op(&mut m.rng, &mut made, rule);
+    change(&mut m.rng, &mut made);
     before.push(made.node());
     if inside {
         let split = if m.rng.one_in(2) { vec![7] } else { vec![] };

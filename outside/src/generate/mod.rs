@@ -1,4 +1,5 @@
-//! Jobs made from a seed: valid ones, edges of every limit, broken rules, mutants, rich states, padded ones, tags, truncations.
+//! Jobs made from a seed: valid ones, edges of every limit, broken rules, mutants, rich states, padded ones, reals, tags,
+//! truncations.
 //!
 //! `case(seed, index)` is the same for the same numbers, so a difference can be made again.
 
@@ -9,6 +10,7 @@ mod limits;
 mod maker;
 mod mutant;
 mod padding;
+mod reals;
 mod rng;
 mod runs;
 mod shapes;
@@ -20,9 +22,10 @@ pub use limits::limit;
 pub use maker::{rich, valid};
 pub use mutant::mutant;
 pub use padding::padded;
+pub use reals::reals;
 pub use rng::Rng;
 pub use runs::runs;
-pub use shapes::{shapes_of, Need, TAGS};
+pub use shapes::{class_of, shapes_of, Class, Need, Size, CLASSES, TAGS};
 pub use tags::tags;
 
 use crate::plain;
@@ -43,36 +46,40 @@ pub struct Case {
 /// Bytes of the jobs whose truncations are taken one after the other.
 const CUT: u64 = 512;
 
-/// Case `index` of a seed.
+/// Case `index` of a seed; kinds take turns, and each counts its own.
 pub fn case(seed: u64, index: u64) -> Case {
     let mut rng = Rng::new(seed, index);
-    let turn = index / 8;
-    let (kind, job) = match index % 8 {
-        0 => ("valid", write(&valid(&mut rng))),
-        1 => {
+    let (eighth, sixteenth) = (index / 8, index / 16);
+    let (kind, job) = match index % 16 {
+        0 | 8 => ("valid", write(&valid(&mut rng))),
+        1 | 9 => {
             let rules = all_rules();
-            let rule = rules[(turn / 2) as usize % rules.len()];
-            ("broken rule", write(&broken(&mut rng, rule, turn % 2 == 1)))
+            let rule = rules[(eighth / 2) as usize % rules.len()];
+            ("broken rule", write(&broken(&mut rng, rule, eighth % 2 == 1)))
         }
-        2 | 3 => ("mutant", mutant(&mut rng)),
-        4 | 5 => ("rich", write(&rich(&mut rng))),
+        2 | 3 | 10 | 13 => ("mutant", mutant(&mut rng)),
+        4 | 5 | 12 => ("rich", write(&rich(&mut rng))),
         // The longer limit jobs come less often.
-        6 if turn.is_multiple_of(4) => ("limit", limit(&mut rng, (turn / 4) as usize)),
-        6 if turn % 4 == 1 => ("runs", runs(&mut rng)),
-        6 if turn % 4 == 2 => ("padded", padded(&mut rng)),
-        6 => ("tags", tags(&mut rng)),
-        _ => {
-            let mut base = Rng::new(seed, turn / CUT);
-            let mut job = write(&valid(&mut base));
-            while !(60..CUT as usize).contains(&job.len()) {
-                job = write(&valid(&mut base));
-            }
-            job.truncate((turn % CUT) as usize);
-            ("truncation", job)
-        }
+        6 if sixteenth.is_multiple_of(2) => ("limit", limit(&mut rng, (sixteenth / 2) as usize)),
+        6 => ("runs", runs(&mut rng)),
+        11 => ("reals", write(&reals(&mut rng, sixteenth as usize))),
+        14 if sixteenth.is_multiple_of(2) => ("padded", padded(&mut rng)),
+        14 => ("tags", tags(&mut rng)),
+        _ => ("truncation", truncation(seed, eighth)),
     };
     let (work, list) = buffers(&mut rng, &job);
     Case { kind, job, work, list }
+}
+
+/// A job that passes cut off after so many bytes, one byte later from turn to turn.
+fn truncation(seed: u64, turn: u64) -> Vec<u8> {
+    let mut base = Rng::new(seed, turn / CUT);
+    let mut job = write(&valid(&mut base));
+    while !(60..CUT as usize).contains(&job.len()) {
+        job = write(&valid(&mut base));
+    }
+    job.truncate((turn % CUT) as usize);
+    job
 }
 
 /// Buffers of varying length and content for a job.

@@ -3,12 +3,13 @@
 use super::bricks::{begin_page, begin_session, call_of, ends, motif_of, open_source, page_start, point, times};
 use super::job::{op, spoil, write, Job, Node};
 use super::rng::Rng;
+use crate::text::number_width;
 
 /// The bytes of a line by its end point.
 fn line(rng: &mut Rng) -> Vec<u8> {
-    let kind = rng.pick(&[0xd0, 0xd1, 0xd3]);
+    let kind = rng.pick(&[0xd0, 0xd1, 0xd3, 0xd5]);
     let mut out = vec![kind];
-    out.extend(rng.bytes(if kind == 0xd0 { 2 } else { 4 }));
+    out.extend(rng.bytes(2 * number_width(kind)));
     out.extend([0xf8, 69, rng.pick(&[0x9b, 0x9d])]);
     out
 }
@@ -61,7 +62,7 @@ mod tests {
             seen.insert(verdict.code);
             far = far.max(verdict.performed);
         }
-        assert!([0, 5, 6, 10, 15, 24, 26].iter().all(|code| seen.contains(code)), "{seen:?}");
+        assert!([0, 5, 6, 10, 15, 16, 24, 26].iter().all(|code| seen.contains(code)), "{seen:?}");
         assert_eq!(far, 1_000_000);
     }
 }

@@ -10,10 +10,12 @@ pub enum Shape {
     E(u8, u8, u8, u8),
     /// ubyte or uint16 from..=to.
     N(u32, u32),
-    /// uint16 pair, both at least 1.
+    /// uint16 pair, both at least 1, or real32 pair above zero.
     Sizes,
-    /// Two or four ubyte, uint16 or sint16.
-    Several(u8),
+    /// Two ubyte, uint16, sint16 or finite real32.
+    Point,
+    /// Four ubyte, uint16 or sint16.
+    Box,
     /// ubyte array of from..=to.
     A(usize, usize),
 }
@@ -27,7 +29,7 @@ pub enum Need {
 }
 
 use Need::{Choice, May, Must};
-use Shape::{Several, Sizes, A, E, N};
+use Shape::{Box, Point, Sizes, A, E, N};
 
 /// Every attribute of every operator that has any.
 pub const SHAPES: [(u8, u16, Shape, Need); 38] = [
@@ -48,19 +50,19 @@ pub const SHAPES: [(u8, u16, Shape, Need); 38] = [
     (0x63, 9, E(0, 255, 0, 255), Choice),
     (0x63, 4, E(0, 0, 0, 0), Choice),
     (0x6a, 3, E(1, 2, 1, 2), Must),
-    (0x6b, 76, Several(0xd0), Must),
-    (0x6c, 76, Several(0xd0), Must),
+    (0x6b, 76, Point, Must),
+    (0x6c, 76, Point, Must),
     (0x79, 11, A(3, 3), Choice),
     (0x79, 9, E(0, 255, 0, 255), Choice),
     (0x79, 5, E(0, 0, 0, 0), Choice),
     (0x7a, 75, N(0, 0xffff), Must),
-    (0x9b, 69, Several(0xd0), Choice),
+    (0x9b, 69, Point, Choice),
     (0x9b, 77, N(1, 0xffff), Choice),
     (0x9b, 80, E(0, 3, 0, 3), Choice),
-    (0x9d, 69, Several(0xd0), Choice),
+    (0x9d, 69, Point, Choice),
     (0x9d, 77, N(1, 0xffff), Choice),
     (0x9d, 80, E(0, 3, 0, 3), Choice),
-    (0xa0, 66, Several(0xe0), Must),
+    (0xa0, 66, Box, Must),
     (0xb0, 100, E(0, 0, 0, 0), Must),
     (0xb0, 98, E(0, 2, 0, 2), Must),
     (0xb0, 108, N(1, 0xffff), Must),
@@ -108,13 +110,15 @@ pub(super) fn good_value(rng: &mut Rng, shape: Shape) -> Value {
             let n = if rng.one_in(5) { from } else { rng.pick(&edges) };
             number(kind, n.clamp(from, to))
         }
+        Sizes if rng.one_in(2) => real_pair(rng, &ABOVE_ZERO),
         Sizes => {
             let numbers = vec![rng.pick(&[1, 256, 600, 65535]), rng.pick(&[1, 256, 600, 65535])];
             Value { kind: 0xd1, numbers, wide: false }
         }
-        Several(family) => {
+        Point if rng.one_in(3) => real_pair(rng, &FINITE),
+        Point | Box => {
+            let (family, count) = if shape == Point { (0xd0, 2) } else { (0xe0, 4) };
             let kind = family + rng.pick(&[0u8, 1, 3]);
-            let count = if family == 0xd0 { 2 } else { 4 };
             let numbers = (0..count).map(|_| rng.draw() as u32).collect();
             Value { kind, numbers, wide: false }
         }
@@ -134,8 +138,9 @@ pub(super) fn takes_type(shape: Shape, kind: u8) -> bool {
     match shape {
         E(..) => kind == 0xc0,
         N(..) => kind == 0xc0 || kind == 0xc1,
-        Sizes => kind == 0xd1,
-        Several(family) => [family, family + 1, family + 3].contains(&kind),
+        Sizes => [0xd1, 0xd5].contains(&kind),
+        Point => [0xd0, 0xd1, 0xd3, 0xd5].contains(&kind),
+        Box => [0xe0, 0xe1, 0xe3].contains(&kind),
         A(..) => kind == 0xc8,
     }
 }
@@ -148,7 +153,16 @@ pub(super) fn any_value(rng: &mut Rng, kind: u8) -> Value {
         0xe0..=0xe5 => 4,
         _ => rng.pick(&[0, 1, 3, 4]),
     };
-    let numbers = (0..count).map(|_| if rng.one_in(2) { rng.below(4) as u32 } else { rng.draw() as u32 }).collect();
+    let numbers = (0..count)
+        .map(|_| match rng.below(4) {
+            0 | 1 => rng.below(4) as u32,
+            2 if kind & 7 == 5 => {
+                let class = rng.pick(&CLASSES);
+                real(rng, class)
+            }
+            _ => rng.draw() as u32,
+        })
+        .collect();
     Value { kind, numbers, wide: rng.one_in(3) }
 }
 
@@ -161,8 +175,8 @@ pub(super) fn bad_type(rng: &mut Rng, shape: Shape) -> Value {
     // Half of them of the right family, where a mistake is easiest.
     let family = match shape {
         E(..) | N(..) => 0xc0,
-        Sizes => 0xd0,
-        Several(family) => family,
+        Sizes | Point => 0xd0,
+        Box => 0xe0,
         A(..) => 0xc8,
     };
     loop {
@@ -176,7 +190,7 @@ pub(super) fn bad_type(rng: &mut Rng, shape: Shape) -> Value {
 /// A value of a right type but out of range, if there is any.
 pub(super) fn bad_range(rng: &mut Rng, shape: Shape) -> Option<Value> {
     Some(match shape {
-        E(0, 255, ..) | N(0, 0xffff) | Several(_) | A(0, _) => return None,
+        E(0, 255, ..) | N(0, 0xffff) | Box | A(0, _) => return None,
         E(a, b, c, d) => loop {
             let n = if rng.one_in(2) {
                 rng.pick(&[b.wrapping_add(1), b.wrapping_add(1), d.wrapping_add(1), a.wrapping_sub(1)])
@@ -194,6 +208,8 @@ pub(super) fn bad_range(rng: &mut Rng, shape: Shape) -> Option<Value> {
                 break number(kind, n);
             }
         },
+        Point => bad_real_pair(rng, &FINITE),
+        Sizes if rng.one_in(2) => bad_real_pair(rng, &ABOVE_ZERO),
         Sizes => {
             let numbers = rng.pick(&[[0, 1], [1, 0], [0, 0], [0, 600]]).to_vec();
             Value { kind: 0xd1, numbers, wide: false }
@@ -203,4 +219,100 @@ pub(super) fn bad_range(rng: &mut Rng, shape: Shape) -> Option<Value> {
             array(&rng.bytes(length), false)
         }
     })
+}
+
+// ---------------------------------------------------------------- reals
+
+/// A kind of 32 bits read as a real, without its sign.
+#[derive(Debug, Clone, Copy, PartialEq, Eq, PartialOrd, Ord)]
+pub enum Size {
+    Zero,
+    Denormal,
+    Normal,
+    Infinite,
+    NotANumber,
+}
+
+/// A kind of 32 bits read as a real, and whether its sign bit is set.
+#[derive(Debug, Clone, Copy, PartialEq, Eq, PartialOrd, Ord)]
+pub struct Class(pub Size, pub bool);
+
+use Size::{Denormal, Infinite, Normal, NotANumber, Zero};
+
+/// Every class.
+pub const CLASSES: [Class; 10] = [
+    Class(Zero, false),
+    Class(Zero, true),
+    Class(Denormal, false),
+    Class(Denormal, true),
+    Class(Normal, false),
+    Class(Normal, true),
+    Class(Infinite, false),
+    Class(Infinite, true),
+    Class(NotANumber, false),
+    Class(NotANumber, true),
+];
+
+/// Those that a point takes, and those that a size takes.
+const FINITE: [Class; 6] = [CLASSES[0], CLASSES[1], CLASSES[2], CLASSES[3], CLASSES[4], CLASSES[5]];
+const ABOVE_ZERO: [Class; 2] = [CLASSES[2], CLASSES[4]];
+
+/// The class of 32 bits.
+pub fn class_of(bits: u32) -> Class {
+    let size = match (bits >> 23 & 0xff, bits & 0x7f_ffff) {
+        (0, 0) => Zero,
+        (0, _) => Denormal,
+        (0xff, 0) => Infinite,
+        (0xff, _) => NotANumber,
+        _ => Normal,
+    };
+    Class(size, bits >> 31 == 1)
+}
+
+/// Bits of a class, edges often.
+pub(super) fn real(rng: &mut Rng, Class(size, negative): Class) -> u32 {
+    let free = rng.draw() as u32;
+    let bits = match size {
+        Zero => 0,
+        Denormal => rng.pick(&[1, 0x40_0000, 0x7f_ffff, free & 0x7f_ffff | 2]),
+        Normal => {
+            let half = rng.below(2000) as f32 / 2.0 + 0.5;
+            rng.pick(&[0x80_0000, 0x3f80_0000, 0x7f7f_ffff, half.to_bits(), 0x80_0000 + free % 0x7f00_0000])
+        }
+        Infinite => 0x7f80_0000,
+        NotANumber => rng.pick(&[0x7f80_0001, 0x7fc0_0000, 0x7fff_ffff, 0x7f80_0001 + free % 0x7f_ffff]),
+    };
+    bits | u32::from(negative) << 31
+}
+
+/// Two reals of some classes.
+fn real_pair(rng: &mut Rng, classes: &[Class]) -> Value {
+    let numbers = (0..2).map(|_| rng.pick(classes)).collect::<Vec<_>>();
+    Value { kind: 0xd5, numbers: numbers.into_iter().map(|c| real(rng, c)).collect(), wide: false }
+}
+
+/// Two reals of which one at least is of none of these classes.
+fn bad_real_pair(rng: &mut Rng, classes: &[Class]) -> Value {
+    let others: Vec<Class> = CLASSES.into_iter().filter(|c| !classes.contains(c)).collect();
+    let mut pair = real_pair(rng, classes);
+    let class = rng.pick(&others);
+    pair.numbers[rng.below(2)] = real(rng, class);
+    if rng.one_in(4) {
+        pair.numbers.reverse();
+    }
+    pair
+}
+
+#[cfg(test)]
+mod tests {
+    use super::*;
+
+    #[test]
+    fn reals_are_of_their_class() {
+        for (i, class) in CLASSES.into_iter().enumerate() {
+            for round in 0..200 {
+                assert_eq!(class_of(real(&mut Rng::new(round, i as u64), class)), class);
+            }
+        }
+    }
 }
