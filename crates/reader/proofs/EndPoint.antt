@@ -12,7 +12,7 @@ use Rattle.scope.specs.Iterate.{onward}
 use Rattle.scope.specs.Item.{Attribute, plain, widthOf, kindOf, valueOf, Pair, numbered, numberAt, pairOf, pairAt, Scan, white, onPair, scanFrom, scanAt}
 use Rattle.scope.specs.Names.{EndPoint}
 use Rattle.scope.specs.Table.{table, lineIn, ruleIn}
-use Rattle.scope.specs.Attributes.{has, typeTaken, inRange, attributeCode, oneByOne, formCode}
+use Rattle.scope.specs.Attributes.{has, twoAt, typeTaken, inRange, attributeCode, oneByOne, formCode}
 use Rattle.scope.specs.Data.{dueOf}
 use Rattle.scope.specs.Order.{in-page, drawn, mayCome, rowsFit}
 use Rattle.scope.specs.Reading.{Context, Read, withData, asWhole, withAttributes, withLine, scanned, operatorAt}
@@ -92,7 +92,7 @@ inPage high opened saved = record { high = high; phase = in-page saved; opened =
 module _ (high opened : Bool) (saved : ℕ) (s : List ℕ) (at op : ℕ) where
   lined : {point tag bytes : ℕ} → 0 < bytes → Point point bytes → Drawn tag
       → withLine (inPage high opened saved) s tag op (endPoint point at ∷ []) (lineIn table tag) ≡ Read.operator (lineOf point tag at op)
-  unfolding withLine lineIn table mayCome drawn among withAttributes oneByOne attributeCode ruleIn has typeTaken inRange asWhole formCode rowsFit withData dueOf
+  unfolding withLine lineIn table mayCome drawn among withAttributes oneByOne attributeCode ruleIn has twoAt typeTaken inRange asWhole formCode rowsFit withData dueOf
   lined h point-ubyte drawn-path = refl
   lined h point-ubyte drawn-rel = refl
   lined h point-uint16 drawn-path = refl

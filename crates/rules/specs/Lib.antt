@@ -1,3 +1,4 @@
 pub mod Lines
 pub mod Places
+pub mod Reals
 pub mod Judging

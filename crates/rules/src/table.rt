@@ -28,7 +28,7 @@ pub struct Row {
 pub const NO: u8 = 0;
 
 // The values that an attribute takes: E a ubyte, N a ubyte or uint16, P a point, B a box, A an array of ubytes,
-// D two uint16, M MediaSize.
+// D two uint16 or reals, M MediaSize.
 pub enum Kind {
     E,
     N,

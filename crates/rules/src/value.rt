@@ -1,16 +1,18 @@
-// The types and the values that an attribute takes.
+// The types and the values that an attribute takes; of its numbers each kind says whether it takes whole ones or reals.
 ghost use mathlib.Core.Path.{_≡_};
-ghost use mathlib.Core.Bool.{_&&_, _||_};
+ghost use mathlib.Core.Bool.{_&&_, _||_, not};
 ghost use Prim.Native.Nat.{ℕ, _+_};
-ghost use lib.Dec.{eqb, leb};
+ghost use lib.Dec.{T, eqb, leb};
+ghost use lib.Ieee.{binary32, toBits, isNan};
 ghost use Rattle.scope.specs.Choice.{between};
-ghost use Rattle.scope.specs.Number.{number as numberIn};
-ghost use Rattle.scope.specs.Attributes.{firstOf, secondOf, typeTaken, inRange};
+ghost use Rattle.scope.specs.Attributes.{Two, above, pointIn, sizesIn, firstOf, typeTaken, inRange};
 ghost use Rattle.rules.specs.Lines.{takesAs};
 ghost use Rattle.rules.specs.Judging.{attributeAs};
-use crate::attributes::first_of;
+ghost use Rattle.rules.specs.Reals.{Reads, Made};
+use crate::attributes::Numbers;
+use crate::attributes::numbers_at;
+use crate::attributes::whole;
 use crate::table::Kind;
-use number::Width;
 
 // An attribute as the lent array has it.
 pub struct Attribute {
@@ -49,6 +51,16 @@ fn any_of(t: usize, a: usize, b: usize, c: usize) -> bool
     either(t, b, c)
 }
 
+// The types of a point.
+fn point_type(t: usize) -> bool
+    ensures { λ r. ⌜ r ≡ (eqb t 0xd0 || (eqb t 0xd1 || (eqb t 0xd3 || eqb t 0xd5))) ⌝ }
+{
+    if t == 0xd0 {
+        return true;
+    }
+    any_of(t, 0xd1, 0xd3, 0xd5)
+}
+
 // The types taken.
 pub fn type_taken(kind: Kind, tag: usize) -> bool
     ensures { λ r. ⌜ ((low high : ℕ) → r ≡ typeTaken (takesAs kind low high) tag) ⌝ }
@@ -56,40 +68,75 @@ pub fn type_taken(kind: Kind, tag: usize) -> bool
     match kind {
         Kind::E => tag == 0xc0,
         Kind::N => either(tag, 0xc0, 0xc1),
-        Kind::P => any_of(tag, 0xd0, 0xd1, 0xd3),
+        Kind::P => point_type(tag),
         Kind::B => any_of(tag, 0xe0, 0xe1, 0xe3),
         Kind::A => tag == 0xc8,
-        Kind::D => tag == 0xd1,
+        Kind::D => either(tag, 0xd1, 0xd5),
         Kind::M => tag == 0xc0,
     }
 }
 
-// The first number of a value.
+// A value that is a whole number.
 fn first_number(s: &[u8], high: bool, a: Attribute) -> usize
     ensures { λ r. ⌜ r ≡ firstOf high (now (s .entry)) (attributeAs a) ⌝ }
 {
-    first_of(s, high, a.tag, a.first) as usize
+    whole(numbers_at(s, high, a.tag, a.first)) as usize
 }
 
-// The second of two uint16.
-fn second_number(s: &[u8], high: bool, a: Attribute) -> usize
-    ensures { λ r. ⌜ r ≡ secondOf high (now (s .entry)) (attributeAs a) ⌝ }
+// Who takes a point: whole numbers, and reals that are finite.
+fn is_point(numbers: Numbers) -> bool
+    ensures { λ r. ⌜ ((t : Two) → Reads numbers t → r ≡ pointIn t) ⌝ }
 {
-    let first = a.first;
-    if s.len() <= first {
-        return 0;
+    match numbers {
+        Numbers::Whole(_, _) => true,
+        Numbers::Real(_, _) => true,
+        Numbers::Neither => false,
     }
-    number::number_at(s, first + 2, Width::Two, high) as usize
 }
 
-// Both numbers are at least this.
-fn both_from(s: &[u8], high: bool, low: usize, a: Attribute) -> bool
-    ensures { λ r. ⌜ r ≡ (leb low (firstOf high (now (s .entry)) (attributeAs a)) && leb low (secondOf high (now (s .entry)) (attributeAs a))) ⌝ }
+// Both whole numbers are at least this.
+fn both_from(low: usize, x: u32, y: u32) -> bool
+    ensures { λ r. ⌜ r ≡ (leb low x && leb low y) ⌝ }
 {
-    if first_number(s, high, a) < low {
+    if (x as usize) < low {
         return false;
     }
-    low <= second_number(s, high, a)
+    low <= y as usize
+}
+
+// A real by its bits: the sign bit is not set, and not all bits are zero.
+fn is_above(x: f32) -> bool
+    requires { ⌜ T (not (isNan x)) ⌝ }
+    ensures { λ r. ⌜ r ≡ above (toBits binary32 x) ⌝ }
+{
+    let bits = f32::to_bits(x);
+    if bits == 0 {
+        return false;
+    }
+    bits < 2_147_483_648
+}
+
+// Both reals are above zero.
+fn both_above(x: f32, y: f32) -> bool
+    requires { ⌜ T (not (isNan x)) × T (not (isNan y)) ⌝ }
+    ensures { λ r. ⌜ r ≡ (above (toBits binary32 x) && above (toBits binary32 y)) ⌝ }
+{
+    if !is_above(x) {
+        return false;
+    }
+    is_above(y)
+}
+
+// Who takes two sizes: whole numbers from the lowest on, and finite reals above zero.
+fn are_sizes(low: usize, numbers: Numbers) -> bool
+    requires { ⌜ Made numbers ⌝ }
+    ensures { λ r. ⌜ ((t : Two) → Reads numbers t → r ≡ sizesIn low t) ⌝ }
+{
+    match numbers {
+        Numbers::Whole(x, y) => both_from(low, x, y),
+        Numbers::Real(x, y) => both_above(x, y),
+        Numbers::Neither => false,
+    }
 }
 
 // MediaSize: 0 to 12 and 14 to 16.
@@ -109,10 +156,10 @@ pub fn in_range(s: &[u8], high: bool, kind: Kind, low: usize, top: usize, a: Att
     match kind {
         Kind::E => within(low, top, first_number(s, high, a)),
         Kind::N => within(low, top, first_number(s, high, a)),
-        Kind::P => true,
+        Kind::P => is_point(numbers_at(s, high, a.tag, a.first)),
         Kind::B => true,
         Kind::A => within(low, top, a.count),
-        Kind::D => both_from(s, high, low, a),
+        Kind::D => are_sizes(low, numbers_at(s, high, a.tag, a.first)),
         Kind::M => media_size(first_number(s, high, a)),
     }
 }

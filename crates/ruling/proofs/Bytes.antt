@@ -44,10 +44,12 @@ taken-byte : (k : Takes) (t : ℕ) → typeTaken k t ≡ true → t < 256
 unfolding typeTaken
 taken-byte (E low high) t e = same t 0xc0 (lit< tt) e
 taken-byte (N low high) t e = either t 0xc0 (eqb t 0xc1) (lit< tt) (same t 0xc1 (lit< tt)) e
-taken-byte P t e = either t 0xd0 (eqb t 0xd1 || eqb t 0xd3) (lit< tt) (either t 0xd1 (eqb t 0xd3) (lit< tt) (same t 0xd3 (lit< tt))) e
+taken-byte P t e =
+    either t 0xd0 (eqb t 0xd1 || (eqb t 0xd3 || eqb t 0xd5)) (lit< tt)
+    (either t 0xd1 (eqb t 0xd3 || eqb t 0xd5) (lit< tt) (either t 0xd3 (eqb t 0xd5) (lit< tt) (same t 0xd5 (lit< tt)))) e
 taken-byte B t e = either t 0xe0 (eqb t 0xe1 || eqb t 0xe3) (lit< tt) (either t 0xe1 (eqb t 0xe3) (lit< tt) (same t 0xe3 (lit< tt))) e
 taken-byte (A low high) t e = same t 0xc8 (lit< tt) e
-taken-byte (D low) t e = same t 0xd1 (lit< tt) e
+taken-byte (D low) t e = either t 0xd1 (eqb t 0xd5) (lit< tt) (same t 0xd5 (lit< tt)) e
 taken-byte M t e = same t 0xc0 (lit< tt) e
 
 code-byte : (high : Bool) (s : List ℕ) (before : List Attribute) (a : Attribute) (r : Ruled) → eqb (attributeCode high s before a r) 0 ≡ true → a .tag < 256

@@ -3,7 +3,7 @@
 -- Assumes nothing.
 use Prim.Native.Nat.{ℕ, zero, suc, _+_, _-_, _*_, _≤_, _<_}
 use mathlib.Core.Path.{_≡_, refl, sym, ap, subst, subst⁻¹}
-use mathlib.Core.Bool.{Bool, true, false, _||_}
+use mathlib.Core.Bool.{Bool, true, false, _||_, true≢false}
 use mathlib.Core.List.{List, [], _∷_, _++_}
 use native.Mathlib.Omega.{arith}
 use borrow.Author.Tests.{leb-true, leb-false, le-leb, lt-leb}
@@ -65,14 +65,19 @@ wideOf (plain n w) = w
 wideOf (array w) = w
 wideOf other = 0
 
-two-words : (n w : ℕ) → plain n w ≡ plain 2 2 → n * w ≡ 4
-two-words n w e = let a = ap manyOf e in let b = ap wideOf e in (λ i. a i * b i)
+same-words : (n w m b : ℕ) → plain n w ≡ plain m b → n * w ≡ m * b
+same-words n w m b e = let x = ap manyOf e in let y = ap wideOf e in (λ i. x i * y i)
+
+abbrev isPlain : Kind → Bool
+isPlain (plain n w) = true
+isPlain (array w) = false
+isPlain other = false
 
 -- an attribute whose value, and what is looked at of it, stands before n
 pub record Inside (n : ℕ) (a : Attribute) : Type 0 where
   pub word : a .first + 2 ≤ n
   pub many : a .first + a .count ≤ n
-  pub words : a .tag ≡ 0xd1 → a .first + 4 ≤ n
+  pub words : (m b : ℕ) → kindOf (a .tag) ≡ plain m b → a .first + m * b ≤ n
 
 pub data AllIn (n : ℕ) : List Attribute → Type 0 where
   none : AllIn n []
@@ -81,7 +86,7 @@ pub data AllIn (n : ℕ) : List Attribute → Type 0 where
 pub inside-up : (n m : ℕ) → n ≤ m → {a : Attribute} → Inside n a → Inside m a
 inside-up n m h {a} i =
     let x = i .word in let y = i .many in
-    record { word = omega arith; many = omega arith; words = λ e. let z = i .words e in omega arith }
+    record { word = omega arith; many = omega arith; words = λ m b e. let z = i .words m b e in omega arith }
 
 pub all-up : (n m : ℕ) → n ≤ m → {l : List Attribute} → AllIn n l → AllIn m l
 all-up n m h none = none
@@ -146,16 +151,16 @@ module _ (u v : List ℕ) where
   Beyond (Value.no code place) = Unit {0}
 
   data CutValue (k : Kind) : Value → Value → Type 0 where
-    both : {c f n : ℕ} → n ≤ length u → f + c ≤ n → (k ≡ plain 2 2 → f + 4 ≤ n) → CutValue k (Value.is c f n) (Value.is c f n)
+    both : {c f n : ℕ} → n ≤ length u → f + c ≤ n → ((m b : ℕ) → k ≡ plain m b → f + m * b ≤ n) → CutValue k (Value.is c f n) (Value.is c f n)
     same : {code place : ℕ} → CutValue k (Value.no code place) (Value.no code place)
     lost : {place : ℕ} {y : Value} → Beyond y → CutValue k (Value.no 5 place) y
 
-  numbers-cut : (k : Kind) (at first n b : ℕ) → n ≤ n * b → (k ≡ plain 2 2 → n * b ≡ 4) → CutValue k (numbersAt u at first n b) (numbersAt w at first n b)
+  numbers-cut : (k : Kind) (at first n b : ℕ) → n ≤ n * b → ((m c : ℕ) → k ≡ plain m c → n * b ≡ m * c) → CutValue k (numbersAt u at first n b) (numbersAt w at first n b)
   unfolding numbersAt
   numbers-cut k at first n b h g =
       pick-all (λ z. CutValue k z (pick (leb (first + n * b) (length w)) (Value.is n first (first + n * b)) (Value.no 5 at))) (leb (first + n * b) (length u))
       (λ t. let x = leb-true (first + n * b) (length u) t in let y = longer in
-      rw (le-leb (first + n * b) (length w) (omega arith)) (both {c = n} {f = first} {n = first + n * b} x (omega arith) (λ e. let z = g e in omega arith)))
+      rw (le-leb (first + n * b) (length w) (omega arith)) (both {c = n} {f = first} {n = first + n * b} x (omega arith) (λ m c e. let z = g m c e in omega arith)))
       (λ f. let x = leb-false (first + n * b) (length u) f in
       lost (pick-all Beyond (leb (first + n * b) (length w)) (λ _. x) (λ _. tt)))
 
@@ -176,7 +181,7 @@ module _ (u v : List ℕ) where
       (λ t. let x = leb-true (at + 2 + l) (length u) t in let y = longer in
       rw (le-leb (at + 2 + l) (length w) (omega arith), number-cut high l (at + 2) x)
       (pick-both (CutValue (array b)) (ltb 1024 (number high l w (at + 2))) (λ _. same)
-      (λ _. numbers-cut (array b) at (at + 2 + l) (number high l w (at + 2)) b (wide-many _ b one) (λ e. absurd (let z = ap manyOf e in omega arith)))))
+      (λ _. numbers-cut (array b) at (at + 2 + l) (number high l w (at + 2)) b (wide-many _ b one) (λ m c e. absurd (true≢false (sym (ap isPlain e)))))))
       (λ f. lost (counted-beyond high at b l (leb-false (at + 2 + l) (length u) f)))
 
   array-cut : (high : Bool) (at b : ℕ) → 1 ≤ b → CutValue (array b) (arrayAt high u at b) (arrayAt high w at b)
@@ -198,7 +203,7 @@ module _ (u v : List ℕ) where
   value-cut : (high : Bool) (at n : ℕ) (k : Kind) → Wide k → CutValue k (valueOf high u at n k) (valueOf high w at n k)
   unfolding valueOf
   value-cut high at n (plain k b) h =
-      pick-both (CutValue (plain k b)) (leb 16 n) (λ _. same) (λ _. numbers-cut (plain k b) at (at + 1) k b (wide-many k b h) (two-words k b))
+      pick-both (CutValue (plain k b)) (leb 16 n) (λ _. same) (λ _. numbers-cut (plain k b) at (at + 1) k b (wide-many k b h) (same-words k b))
   value-cut high at n (array b) h = pick-both (CutValue (array b)) (leb 16 n) (λ _. same) (λ _. array-cut high at b h)
   value-cut high at n other h = same
 
@@ -223,14 +228,14 @@ module _ (u v : List ℕ) where
   unfolding numbered
   numbered-beyond high at c f p b h = pick-all BeyondPair (leb (p + 1 + b) (length w)) (λ _. h) (λ _. tt)
 
-  numbered-cut : (high : Bool) (at c f p b : ℕ) → at < length u → 1 ≤ b → f + c ≤ p → (getD w at 0 ≡ 0xd1 → f + 4 ≤ p)
+  numbered-cut : (high : Bool) (at c f p b : ℕ) → at < length u → 1 ≤ b → f + c ≤ p → ((m b : ℕ) → kindOf (getD w at 0) ≡ plain m b → f + m * b ≤ p)
       → CutPair (numbered high u at c f p b) (numbered high w at c f p b)
   unfolding numbered
   numbered-cut high at c f p b h one fits words =
       pick-all (λ z. CutPair z (numbered high w at c f p b)) (leb (p + 1 + b) (length u))
       (λ t. let x = leb-true (p + 1 + b) (length u) t in let y = longer in
       let i : Inside (p + 1 + b) (record { number = number high b w (p + 1); tag = getD w at 0; at = at; count = c; first = f }) =
-      record { word = omega arith; many = omega arith; words = λ e. let z = words e in omega arith } in
+      record { word = omega arith; many = omega arith; words = λ m c e. let z = words m c e in omega arith } in
       rw (le-leb (p + 1 + b) (length w) (omega arith), number-cut high b (p + 1) x, byte-cut at h) (both x i))
       (λ f. lost refl (numbered-beyond high at c _ p b (leb-false (p + 1 + b) (length u) f)))
 
@@ -241,7 +246,7 @@ module _ (u v : List ℕ) where
       (λ _. pick-all BeyondPair (eqb (getD w r 0) 0xf8) (λ _. numbered-beyond high at c f r 1 (omega arith))
       (λ _. pick-all BeyondPair (eqb (getD w r 0) 0xf9) (λ _. numbered-beyond high at c f r 2 (omega arith)) (λ _. tt)))
 
-  number-at-cut : (high : Bool) (at c f : ℕ) → at < length u → {p r : ℕ} → f + c ≤ p → (getD w at 0 ≡ 0xd1 → f + 4 ≤ p) → CutPlace p r
+  number-at-cut : (high : Bool) (at c f : ℕ) → at < length u → {p r : ℕ} → f + c ≤ p → ((m b : ℕ) → kindOf (getD w at 0) ≡ plain m b → f + m * b ≤ p) → CutPlace p r
       → CutPair (numberAt high u at c f p) (numberAt high w at c f r)
   unfolding numberAt
   number-at-cut high at c f h fits words (within {p = p} k) =
@@ -250,10 +255,6 @@ module _ (u v : List ℕ) where
       (pick-both CutPair (eqb (getD w p 0) 0xf8) (λ _. numbered-cut high at c f p 1 h (omega arith) fits words)
       (λ _. pick-both CutPair (eqb (getD w p 0) 0xf9) (λ _. numbered-cut high at c f p 2 h (omega arith) fits words) (λ _. same)))
   number-at-cut high at c f h fits words (past {p = p} {r = r} k l) = rw (le-leb (length u) p k) (lost tt (number-at-beyond high at c f r l))
-
-  two-shorts : (t : ℕ) → t ≡ 0xd1 → kindOf t ≡ plain 2 2
-  unfolding kindOf widthOf
-  two-shorts t e = rw e refl
 
   pair-of-beyond : (high : Bool) (at : ℕ) (y : Value) → Beyond y → BeyondPair (pairOf high w at y)
   unfolding pairOf
@@ -264,7 +265,7 @@ module _ (u v : List ℕ) where
   unfolding pairOf
   pair-of-cut high at h (both {c = c} {f = f} {n = n} k fits words) =
       let a = after-le high u n in
-      number-at-cut high at c f h (omega arith) (λ e. let z = words (two-shorts (getD w at 0) e) in omega arith) (after-cut n k)
+      number-at-cut high at c f h (omega arith) (λ m b e. let z = words m b e in omega arith) (after-cut n k)
   pair-of-cut high at h same = same
   pair-of-cut high at h (lost {y = y} b) = lost refl (pair-of-beyond high at y b)
 

@@ -2,7 +2,7 @@
 -- Assumes nothing.
 use Prim.Native.Nat.{ℕ, suc, _+_, _-_, _≤_, _<_}
 use mathlib.Core.Path.{_≡_, refl, sym, ap, _∙_, subst}
-use mathlib.Core.Bool.{Bool, true, false, not, _&&_, _||_}
+use mathlib.Core.Bool.{Bool, true, false, not, _&&_, _||_, true≢false}
 use mathlib.Core.List.{List, [], _∷_, _++_}
 use native.Mathlib.Omega.{arith}
 use borrow.Author.Tests.{leb-true, leb-false, le-leb, lt-leb, eqb-true}
@@ -11,9 +11,9 @@ use lib.Seq.{drop-append-le, take-append-le}
 use lib.Dec.{leb, eqb}
 use Rattle.scope.specs.Choice.{pick, between}
 use Rattle.scope.specs.Number.{place, number}
-use Rattle.scope.specs.Item.{Attribute, Scan}
+use Rattle.scope.specs.Item.{Attribute, Scan, kindOf, widthOf}
 use Rattle.scope.specs.Table.{Takes, E, N, P, B, A, D, M, Rule, Row, Line, Ruled, table, lineIn, ruleIn}
-use Rattle.scope.specs.Attributes.{Fault, fine, bad, has, firstOf, secondOf, typeTaken, inRange, attributeCode, oneByOne, valueIn, bytesIn}
+use Rattle.scope.specs.Attributes.{Fault, fine, bad, has, Two, wholes, reals, twoAt, wholeIn, pointIn, sizesIn, firstOf, typeTaken, inRange, attributeCode, oneByOne, valueIn, bytesIn}
 use Rattle.scope.specs.Data.{Image, Due, Found, dueOf, blockOf, blockAt}
 use Rattle.scope.specs.Order.{mayCome, imageOf, rowsFit}
 use Rattle.scope.specs.Reading.{Context, Operator, Read, withBlock, withData, asWhole, withAttributes, withLine, scanned, operatorAt}
@@ -34,24 +34,59 @@ module _ (u v : List ℕ) where
   pick-when true x y z h = h refl
   pick-when false x y z h = refl
 
-  module _ (high : Bool) where
-    first-cut : {a : Attribute} → Inside (length u) a → firstOf high u a ≡ firstOf high w a
-    unfolding firstOf
-    first-cut {a} i = let x = two-at-most (a .tag) in let y = i .word in number-cut u v high (pick (eqb (a .tag) 0xc0) 1 2) (a .first) (omega arith)
+  -- what is made of two numbers, whichever they are
+  pick-two : {A : Type 0} (f : Two → A) (b : Bool) {x y z t : Two} → (b ≡ true → f x ≡ f y) → (b ≡ false → f z ≡ f t) → f (pick b x z) ≡ f (pick b y t)
+  pick-two f true h k = h refl
+  pick-two f false h k = k refl
 
-    second-cut : {a : Attribute} → Inside (length u) a → a .tag ≡ 0xd1 → secondOf high u a ≡ secondOf high w a
-    unfolding secondOf
-    second-cut {a} i e = let y = i .words e in number-cut u v high 2 (a .first + 2) (omega arith)
+  or-left : (a b : Bool) → a || b ≡ true → b ≡ false → a ≡ true
+  or-left true b e f = refl
+  or-left false b e f = absurd (true≢false (sym e ∙ f))
+
+  module _ (high : Bool) where
+    -- two reals lie in u, all eight bytes
+    real-cut : {a : Attribute} → Inside (length u) a → a .tag ≡ 0xd5
+        → reals (number high 4 u (a .first)) (number high 4 u (a .first + 4)) ≡ reals (number high 4 w (a .first)) (number high 4 w (a .first + 4))
+    unfolding kindOf widthOf
+    real-cut {a} i e =
+        let z = i .words 2 4 (rw e refl) in
+        let x = number-cut u v high 4 (a .first) (omega arith) in
+        let y = number-cut u v high 4 (a .first + 4) (omega arith) in
+        (λ j. reals (x j) (y j))
+
+    first-cut : {a : Attribute} → Inside (length u) a → firstOf high u a ≡ firstOf high w a
+    unfolding firstOf twoAt
+    first-cut {a} i =
+        pick-two wholeIn (eqb (a .tag) 0xd5) (λ _. refl)
+        (λ _. let x = two-at-most (a .tag) in let y = i .word in number-cut u v high (pick (eqb (a .tag) 0xc0) 1 2) (a .first) (omega arith))
+
+    second-cut : {a : Attribute} → Inside (length u) a → a .tag ≡ 0xd1 → number high 2 u (a .first + 2) ≡ number high 2 w (a .first + 2)
+    unfolding kindOf widthOf
+    second-cut {a} i e = let z = i .words 2 2 (rw e refl) in number-cut u v high 2 (a .first + 2) (omega arith)
+
+    point-cut : {a : Attribute} → Inside (length u) a → pointIn (twoAt high u (a .tag) (a .first)) ≡ pointIn (twoAt high w (a .tag) (a .first))
+    unfolding twoAt
+    point-cut {a} i = pick-two pointIn (eqb (a .tag) 0xd5) (λ t. ap pointIn (real-cut i (eqb-true (a .tag) 0xd5 t))) (λ _. refl)
+
+    sizes-cut : (low : ℕ) {a : Attribute} → Inside (length u) a → eqb (a .tag) 0xd1 || eqb (a .tag) 0xd5 ≡ true
+        → sizesIn low (twoAt high u (a .tag) (a .first)) ≡ sizesIn low (twoAt high w (a .tag) (a .first))
+    unfolding twoAt
+    sizes-cut low {a} i e =
+        pick-two (sizesIn low) (eqb (a .tag) 0xd5) (λ t. ap (sizesIn low) (real-cut i (eqb-true (a .tag) 0xd5 t)))
+        (λ f. let x = two-at-most (a .tag) in
+        let y = i .word in
+        let one = number-cut u v high (pick (eqb (a .tag) 0xc0) 1 2) (a .first) (omega arith) in
+        let two = second-cut i (eqb-true (a .tag) 0xd1 (or-left (eqb (a .tag) 0xd1) (eqb (a .tag) 0xd5) e f)) in
+        (λ j. leb low (one j) && leb low (two j)))
 
     range-cut : (k : Takes) (a : Attribute) → Inside (length u) a → typeTaken k (a .tag) ≡ true → inRange high u k a ≡ inRange high w k a
     unfolding inRange typeTaken
     range-cut (E low up) a i e = ap (between low up) (first-cut i)
     range-cut (N low up) a i e = ap (between low up) (first-cut i)
-    range-cut P a i e = refl
+    range-cut P a i e = point-cut i
     range-cut B a i e = refl
     range-cut (A low up) a i e = refl
-    range-cut (D low) a i e =
-        let x = first-cut i in let y = second-cut i (eqb-true (a .tag) 0xd1 e) in (λ j. leb low (x j) && leb low (y j))
+    range-cut (D low) a i e = sizes-cut low i e
     range-cut M a i e = ap (λ z. between 0 12 z || between 14 16 z) (first-cut i)
 
     code-cut : (before : List Attribute) (a : Attribute) → Inside (length u) a → (r : Ruled) → attributeCode high u before a r ≡ attributeCode high w before a r

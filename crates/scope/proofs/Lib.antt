@@ -37,5 +37,6 @@ pub mod JobsRead
 pub mod JobsJudged
 pub mod Padded
 pub mod Copies
+pub mod Halves
 pub mod Jobs
 pub mod Shown

@@ -15,7 +15,7 @@ use Rattle.scope.specs.Iterate.{Next, go, stop, onward, run, iterate}
 use Rattle.scope.specs.Item.{Kind, plain, array, other, Value, numbersAt, elementsAt, countedAt, arrayAt, valueOf, kindOf}
 use Rattle.scope.specs.Item.{Attribute, Pair, numbered, numberAt, pairOf, pairAt, Scan, Walk, endedWith, onPair, scanItem, scanStep, scanFrom, scanAt, spaces, after}
 use Rattle.scope.specs.Table.{Takes, E, N, P, B, A, D, M, Rule, Row, Line, Ruled, Form, each, one, line, table, lineIn, ruleIn}
-use Rattle.scope.specs.Attributes.{Fault, fine, bad, has, firstOf, secondOf, typeTaken, inRange, attributeCode, oneByOne, allThere, howMany, formCode, valueIn, bytesIn}
+use Rattle.scope.specs.Attributes.{Fault, fine, bad, has, twoAt, twoOf, wholeIn, pointIn, sizesIn, firstOf, typeTaken, inRange, attributeCode, oneByOne, allThere, howMany, formCode, valueIn, bytesIn}
 use Rattle.scope.specs.Data.{Image, Due, Found, dueOf, blockOf, blockAt}
 use Rattle.scope.specs.Order.{mayCome, imageOf, rowsFit}
 use Rattle.scope.specs.Reading.{Context, Operator, Read, withBlock, withData, asWhole, withAttributes, withLine, scanned, operatorAt}
@@ -251,22 +251,23 @@ module _ (s t : List ℕ) (p q : ℕ) (hp : p ≤ length s) (hq : q ≤ length t
   has-like n (cons h k) = rw (h .number, has-like n k) refl
 
   module _ (high : Bool) where
+    two-like : {a b : Attribute} → LikeAttr a b → twoOf high s a ≡ twoOf high t b
+    unfolding twoAt
+    two-like {a} {b} h =
+        rw (h .tag, number-like high 4 (h .first), number-like high 4 (far-add 4 (h .first)), number-like high (pick (eqb (b .tag) 0xc0) 1 2) (h .first), number-like high 2 (far-add 2 (h .first))) refl
+
     first-like : {a b : Attribute} → LikeAttr a b → firstOf high s a ≡ firstOf high t b
     unfolding firstOf
-    first-like {a} {b} h = rw (h .tag) (number-like high (pick (eqb (b .tag) 0xc0) 1 2) (h .first))
-
-    second-like : {a b : Attribute} → LikeAttr a b → secondOf high s a ≡ secondOf high t b
-    unfolding secondOf
-    second-like h = number-like high 2 (far-add 2 (h .first))
+    first-like h = ap wholeIn (two-like h)
 
     range-like : (k : Takes) {a b : Attribute} → LikeAttr a b → inRange high s k a ≡ inRange high t k b
     unfolding inRange
     range-like (E low up) h = ap (between low up) (first-like h)
     range-like (N low up) h = ap (between low up) (first-like h)
-    range-like P h = refl
+    range-like P h = ap pointIn (two-like h)
     range-like B h = refl
     range-like (A low up) h = ap (between low up) (h .count)
-    range-like (D low) h = rw (first-like h, second-like h) refl
+    range-like (D low) h = ap (sizesIn low) (two-like h)
     range-like M h = ap (λ z. between 0 12 z || between 14 16 z) (first-like h)
 
     code-like : {l m : List Attribute} → LikeAttrs l m → {a b : Attribute} → LikeAttr a b → (r : Ruled)

@@ -1,6 +1,6 @@
 -- 01, "Operators" and "Order": an operator's attributes, one by one 11, 12, 15, 16; then as a whole 13, 14.
 -- Assumes nothing.
-use Prim.Native.Nat.{ℕ, _+_}
+use Prim.Native.Nat.{ℕ, _+_, _/_, _%_}
 use mathlib.Core.List.{List, [], _∷_, _++_}
 use mathlib.Core.Bool.{Bool, true, false, not, _&&_, _||_}
 use lib.ListN.{take, drop}
@@ -16,31 +16,65 @@ unfoldable pub has : ℕ → List Attribute → Bool
 has n [] = false
 has n (a ∷ l) = pick (eqb (a .number) n) true (has n l)
 
--- the first number of a value of ubytes or of uint16, and the second of two uint16
-unfoldable pub firstOf : Bool → List ℕ → Attribute → ℕ
-firstOf high s a = number high (pick (eqb (a .tag) 0xc0) 1 2) s (a .first)
+-- what the reading of a value answers: whole numbers, or reals by their 32 bits
+pub data Two : Type 0 where
+  wholes : (x y : ℕ) → Two
+  reals : (x y : ℕ) → Two
 
-unfoldable pub secondOf : Bool → List ℕ → Attribute → ℕ
-secondOf high s a = number high 2 s (a .first + 2)
+-- the numbers of a value of this tag, the first of which stands at a place: two reals; or the first of ubytes or of uint16 and the second of two uint16
+unfoldable pub twoAt : Bool → List ℕ → (tag first : ℕ) → Two
+twoAt high s tag first =
+    pick (eqb tag 0xd5) (reals (number high 4 s first) (number high 4 s (first + 4)))
+    (wholes (number high (pick (eqb tag 0xc0) 1 2) s first) (number high 2 s (first + 2)))
+
+abbrev pub twoOf : Bool → List ℕ → Attribute → Two
+twoOf high s a = twoAt high s (a .tag) (a .first)
+
+-- a real by its bits: neither infinite nor not a number, that is, its eight exponent bits are not all ones
+unfoldable pub finite : (bits : ℕ) → Bool
+finite bits = not (eqb (bits % 2147483648 / 8388608) 255)
+
+-- a real by its bits: above zero, that is, its sign bit is not set, and not all bits are zero
+unfoldable pub above : (bits : ℕ) → Bool
+above bits = ltb 0 bits && ltb bits 2147483648
+
+-- who takes a whole number; a real is none
+abbrev pub wholeIn : Two → ℕ
+wholeIn (wholes x y) = x
+wholeIn (reals x y) = 0
+
+-- who takes a point: whole numbers, and finite reals
+abbrev pub pointIn : Two → Bool
+pointIn (wholes x y) = true
+pointIn (reals x y) = finite x && finite y
+
+-- who takes two sizes: whole numbers from the lowest on, and finite reals above zero
+abbrev pub sizesIn : (low : ℕ) → Two → Bool
+sizesIn low (wholes x y) = leb low x && leb low y
+sizesIn low (reals x y) = (finite x && finite y) && (above x && above y)
+
+-- a value that is a whole number
+unfoldable pub firstOf : Bool → List ℕ → Attribute → ℕ
+firstOf high s a = wholeIn (twoOf high s a)
 
 -- the types taken
 unfoldable pub typeTaken : Takes → ℕ → Bool
 typeTaken (E low high) t = eqb t 0xc0
 typeTaken (N low high) t = eqb t 0xc0 || eqb t 0xc1
-typeTaken P t = eqb t 0xd0 || (eqb t 0xd1 || eqb t 0xd3)
+typeTaken P t = eqb t 0xd0 || (eqb t 0xd1 || (eqb t 0xd3 || eqb t 0xd5))
 typeTaken B t = eqb t 0xe0 || (eqb t 0xe1 || eqb t 0xe3)
 typeTaken (A low high) t = eqb t 0xc8
-typeTaken (D low) t = eqb t 0xd1
+typeTaken (D low) t = eqb t 0xd1 || eqb t 0xd5
 typeTaken M t = eqb t 0xc0
 
 -- the values taken, of a type that is taken
 unfoldable pub inRange : Bool → List ℕ → Takes → Attribute → Bool
 inRange order s (E low high) a = between low high (firstOf order s a)
 inRange order s (N low high) a = between low high (firstOf order s a)
-inRange order s P a = true
+inRange order s P a = pointIn (twoOf order s a)
 inRange order s B a = true
 inRange order s (A low high) a = between low high (a .count)
-inRange order s (D low) a = leb low (firstOf order s a) && leb low (secondOf order s a)
+inRange order s (D low) a = sizesIn low (twoOf order s a)
 inRange order s M a = between 0 12 (firstOf order s a) || between 14 16 (firstOf order s a)
 
 -- a fault: its code and place

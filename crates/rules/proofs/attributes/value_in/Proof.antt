@@ -2,7 +2,7 @@
 -- Assumes nothing.
 use mathlib.Core.Path.{_≡_, sym, _∙_}
 use borrow.Author.Tests.{lt-ltb, le-ltb}
-use Rattle.scope.specs.Attributes.{firstOf}
+use Rattle.scope.specs.Attributes.{firstOf, twoOf}
 use Rattle.items.specs.Rows.{rowAt}
 use Rattle.rules.proofs.Rowed.{value-at}
 use lib.Dec.{lit<}
@@ -11,47 +11,53 @@ use Rattle.rules.proofs.attributes.value_in.Statement.{statement}
 use Rattle.rules.proofs.attributes.value_in.Tie as tie
 use Rattle.rules.proofs.attributes.value_in.Reads as reads
 use Rattle.rules.proofs.attributes.value_in.Lts as lts
-use Rattle.rules.proofs.attributes.first_of.Reads as first-of-reads
+use Rattle.rules.proofs.attributes.numbers_at.Reads as numbers-at-reads
 use Rattle.rules.proofs.attributes.place_of.Reads as place-of-reads
+use Rattle.rules.proofs.attributes.whole.Reads as whole-reads
 
 place-of-requires : tie.Need-place-of-requires
 place-of-requires c κs = search needs
 
-mul-first-of : tie.Need-mul-first-of
-mul-first-of c = search needs
+mul-numbers-at : tie.Need-mul-numbers-at
+mul-numbers-at c = search needs
 
-add-first-of : tie.Need-add-first-of
-add-first-of c = search needs
+add-numbers-at : tie.Need-add-numbers-at
+add-numbers-at c = search needs
 
-mul-first-of-2 : tie.Need-mul-first-of-2
-mul-first-of-2 c = search needs
+mul-numbers-at-2 : tie.Need-mul-numbers-at-2
+mul-numbers-at-2 c = search needs
 
-element-copy-out-first-of : tie.Need-element-copy-out-first-of
-element-copy-out-first-of c = search needs
+element-copy-out-numbers-at : tie.Need-element-copy-out-numbers-at
+element-copy-out-numbers-at c = search needs
 
-mul-first-of-3 : tie.Need-mul-first-of-3
-mul-first-of-3 c = search needs
+mul-numbers-at-3 : tie.Need-mul-numbers-at-3
+mul-numbers-at-3 c = search needs
 
-add-first-of-2 : tie.Need-add-first-of-2
-add-first-of-2 c = search needs
+add-numbers-at-2 : tie.Need-add-numbers-at-2
+add-numbers-at-2 c = search needs
 
-mul-first-of-4 : tie.Need-mul-first-of-4
-mul-first-of-4 c = search needs
+mul-numbers-at-4 : tie.Need-mul-numbers-at-4
+mul-numbers-at-4 c = search needs
 
-element-copy-out-first-of-2 : tie.Need-element-copy-out-first-of-2
-element-copy-out-first-of-2 c = search needs
+element-copy-out-numbers-at-2 : tie.Need-element-copy-out-numbers-at-2
+element-copy-out-numbers-at-2 c = search needs
 
-first-of-requires : tie.Need-first-of-requires
-first-of-requires c κs = search needs
+numbers-at-requires : tie.Need-numbers-at-requires
+numbers-at-requires c κs = search needs
+
+whole-requires : tie.Need-whole-requires
+whole-requires c κs = search needs
 
 returns : tie.Need-returns
 unfolding firstOf rowAt
 returns c =
-    let e = c .before .before .before .before in
-    let a = e .before .before .args in (
+    let n = c .before in
+    let e = n .before .before .before .before in
+    let a = e .before .before .args in
+    let w = c .whole .ensures in (
       λ z. sym (value-at (a .number) (a .attrs .now) (a .n) (e .place-of .result) (z .few) (e .place-of .ensures .1 z) (a .high) (a .s .now)
-          ∙ rw (lt-ltb _ _ (c .before .before .before .if1 .taken)) (sym (c .first-of .ensures .0))),
-      c .first-of .ensures .1,
+          ∙ rw (lt-ltb _ _ (n .before .before .before .if1 .taken)) (sym (w .0 (twoOf (a .high) (a .s .now) (rowAt (a .attrs .now) (e .place-of .result))) (n .numbers-at .ensures .0)))),
+      w .1 (n .numbers-at .ensures .1),
     )
 
 returns-2 : tie.Need-returns-2
@@ -68,14 +74,15 @@ value-in-spec =
     tie.close
     (tie.spec
     place-of-requires
-    mul-first-of
-    add-first-of
-    mul-first-of-2
-    element-copy-out-first-of
-    mul-first-of-3
-    add-first-of-2
-    mul-first-of-4
-    element-copy-out-first-of-2
-    first-of-requires
+    mul-numbers-at
+    add-numbers-at
+    mul-numbers-at-2
+    element-copy-out-numbers-at
+    mul-numbers-at-3
+    add-numbers-at-2
+    mul-numbers-at-4
+    element-copy-out-numbers-at-2
+    numbers-at-requires
+    whole-requires
     returns
     returns-2)

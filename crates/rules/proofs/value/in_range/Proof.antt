@@ -1,12 +1,14 @@
 -- `rules::value::in_range` meets its contract: an arm for each kind.
 -- Assumes nothing.
-use Rattle.scope.specs.Attributes.{inRange}
+use Rattle.scope.specs.Attributes.{inRange, twoAt}
 use borrow.Author.Needs.{needs}
 use Rattle.rules.proofs.value.in_range.Statement.{statement}
 use Rattle.rules.proofs.value.in_range.Tie as tie
 use Rattle.rules.proofs.value.in_range.Reads as reads
 use Rattle.rules.proofs.value.in_range.Lts as lts
-use Rattle.rules.proofs.value.both_from.Reads as both-from-reads
+use Rattle.rules.proofs.attributes.numbers_at.Reads as numbers-at-reads
+use Rattle.rules.proofs.value.are_sizes.Reads as are-sizes-reads
+use Rattle.rules.proofs.value.is_point.Reads as is-point-reads
 use Rattle.rules.proofs.value.first_number.Reads as first-number-reads
 use Rattle.rules.proofs.value.media_size.Reads as media-size-reads
 use Rattle.rules.proofs.value.within.Reads as within-reads
@@ -32,6 +34,12 @@ within-requires-2 c κs = search needs
 enum-told-3 : tie.Need-enum-told-3
 enum-told-3 c = search needs
 
+numbers-at-requires : tie.Need-numbers-at-requires
+numbers-at-requires c κs = search needs
+
+is-point-requires : tie.Need-is-point-requires
+is-point-requires c κs = search needs
+
 enum-told-4 : tie.Need-enum-told-4
 enum-told-4 c = search needs
 
@@ -44,8 +52,11 @@ within-requires-3 c κs = search needs
 enum-told-6 : tie.Need-enum-told-6
 enum-told-6 c = search needs
 
-both-from-requires : tie.Need-both-from-requires
-both-from-requires c κs = search needs
+numbers-at-requires-2 : tie.Need-numbers-at-requires-2
+numbers-at-requires-2 c κs = search needs
+
+are-sizes-requires : tie.Need-are-sizes-requires
+are-sizes-requires c κs = c .numbers-at2 .ensures .1
 
 enum-told-7 : tie.Need-enum-told-7
 enum-told-7 c = search needs
@@ -66,7 +77,10 @@ returns-2 c = rw (c .before .before .enum-told2 .given .1, ← c .before .first-
 
 returns-3 : tie.Need-returns-3
 unfolding inRange
-returns-3 c = rw (c .enum-told3 .given .1)
+returns-3 c =
+    let n = c .before in
+    let a = n .before .before .before .before .args in
+    rw (n .before .enum-told3 .given .1) (c .is-point .ensures (twoAt (a .high) (a .s .now) (a .a .tag) (a .a .first)) (n .numbers-at .ensures .0))
 
 returns-4 : tie.Need-returns-4
 unfolding inRange
@@ -78,7 +92,10 @@ returns-5 c = rw (c .before .enum-told5 .given .1) (c .within3 .ensures)
 
 returns-6 : tie.Need-returns-6
 unfolding inRange
-returns-6 c = rw (c .before .enum-told6 .given .1) (c .both-from .ensures)
+returns-6 c =
+    let n = c .before in
+    let a = n .before .before .before .before .args in
+    rw (n .before .enum-told6 .given .1) (c .are-sizes .ensures (twoAt (a .high) (a .s .now) (a .a .tag) (a .a .first)) (n .numbers-at2 .ensures .0))
 
 returns-7 : tie.Need-returns-7
 unfolding inRange
@@ -95,11 +112,14 @@ in-range-spec =
     first-number-requires-2
     within-requires-2
     enum-told-3
+    numbers-at-requires
+    is-point-requires
     enum-told-4
     enum-told-5
     within-requires-3
     enum-told-6
-    both-from-requires
+    numbers-at-requires-2
+    are-sizes-requires
     enum-told-7
     first-number-requires-3
     media-size-requires

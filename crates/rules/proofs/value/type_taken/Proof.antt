@@ -8,6 +8,7 @@ use Rattle.rules.proofs.value.type_taken.Reads as reads
 use Rattle.rules.proofs.value.type_taken.Lts as lts
 use Rattle.rules.proofs.value.any_of.Reads as any-of-reads
 use Rattle.rules.proofs.value.either.Reads as either-reads
+use Rattle.rules.proofs.value.point_type.Reads as point-type-reads
 
 enum-told : tie.Need-enum-told
 enum-told c = search needs
@@ -21,20 +22,23 @@ either-requires c κs = search needs
 enum-told-3 : tie.Need-enum-told-3
 enum-told-3 c = search needs
 
-any-of-requires : tie.Need-any-of-requires
-any-of-requires c κs = search needs
+point-type-requires : tie.Need-point-type-requires
+point-type-requires c κs = search needs
 
 enum-told-4 : tie.Need-enum-told-4
 enum-told-4 c = search needs
 
-any-of-requires-2 : tie.Need-any-of-requires-2
-any-of-requires-2 c κs = search needs
+any-of-requires : tie.Need-any-of-requires
+any-of-requires c κs = search needs
 
 enum-told-5 : tie.Need-enum-told-5
 enum-told-5 c = search needs
 
 enum-told-6 : tie.Need-enum-told-6
 enum-told-6 c = search needs
+
+either-requires-2 : tie.Need-either-requires-2
+either-requires-2 c κs = search needs
 
 enum-told-7 : tie.Need-enum-told-7
 enum-told-7 c = search needs
@@ -49,11 +53,11 @@ returns-2 c = λ low high. rw (c .before .enum-told2 .given .1) (c .either .ensu
 
 returns-3 : tie.Need-returns-3
 unfolding typeTaken
-returns-3 c = λ low high. rw (c .before .enum-told3 .given .1) (c .any-of .ensures)
+returns-3 c = λ low high. rw (c .before .enum-told3 .given .1) (c .point-type .ensures)
 
 returns-4 : tie.Need-returns-4
 unfolding typeTaken
-returns-4 c = λ low high. rw (c .before .enum-told4 .given .1) (c .any-of2 .ensures)
+returns-4 c = λ low high. rw (c .before .enum-told4 .given .1) (c .any-of .ensures)
 
 returns-5 : tie.Need-returns-5
 unfolding typeTaken
@@ -61,7 +65,7 @@ returns-5 c = λ low high. rw (c .enum-told5 .given .1)
 
 returns-6 : tie.Need-returns-6
 unfolding typeTaken
-returns-6 c = λ low high. rw (c .enum-told6 .given .1)
+returns-6 c = λ low high. rw (c .before .enum-told6 .given .1) (c .either2 .ensures)
 
 returns-7 : tie.Need-returns-7
 unfolding typeTaken
@@ -75,11 +79,12 @@ type-taken-spec =
     enum-told-2
     either-requires
     enum-told-3
-    any-of-requires
+    point-type-requires
     enum-told-4
-    any-of-requires-2
+    any-of-requires
     enum-told-5
     enum-told-6
+    either-requires-2
     enum-told-7
     returns
     returns-2
