@@ -12,16 +12,8 @@ use Rattle.scope.specs.Attributes.{Fault, fine, bad, oneByOne, formCode}
 use Rattle.scope.specs.Order.{mayCome, imageOf, rowsFit}
 use Rattle.scope.specs.Data.{Found, reads, dueOf}
 use Rattle.scope.specs.Reading.{Context, Read, withBlock, withData, asWhole, withAttributes, withLine}
-use Rattle.rules.specs.Lines.{isLine}
 use Rattle.rules.specs.Judging.{thenWhole, lineFault}
 use Rattle.reader.specs.Reads.{lineAt, dataAt}
-
--- a line that the table does not have is 9
-pub line-or-9 : (high : Bool) (s : List ℕ) (at : ℕ) (l : List Attribute) (n : Line)
-    → pick (isLine n) (lineFault high s at l n) (bad 9 at) ≡ lineFault high s at l n
-unfolding lineFault
-line-or-9 high s at l Line.none = refl
-line-or-9 high s at l (Line.is r) = refl
 
 module _ (c : Context) (s : List ℕ) (tag at : ℕ) (l : List Attribute) where
   -- a fault is the refusal that it is; without one rows and data follow

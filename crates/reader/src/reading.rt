@@ -87,19 +87,20 @@ fn data_at(c: Context, s: &[u8], at: usize, due: usize) -> Found
     block_at(s, c.high, at, due, p)
 }
 
-// What is wrong with an operator, before rows and data: 9, 10, then the attributes. The table is asked for a tag that may not come.
+// What is wrong with an operator, before rows and data: 9, 10, then the attributes, all by its line of the table.
 fn line_at(c: Context, s: &[u8], tag: u8, at: usize, attrs: &[usize; 80], n: usize) -> Fault
     ensures { λ r. ⌜ (Sized (now (attrs .entry)) n → faultAs r ≡ lineAt (contextAs c) (now (s .entry)) tag at (rowsOf (now (attrs .entry)) n) (lineIn table tag)) ⌝ }
 {
+    let row = rules::row_of(tag);
+    let form = row.form;
+    if !rules::is_known(form) {
+        return Fault::Bad(9, at);
+    }
     let phase = c.phase;
-    if may_come(phase, c.opened, tag) {
-        return rules::line_fault(s, c.high, tag, at, attrs, n);
+    if !may_come(phase, c.opened, tag) {
+        return Fault::Bad(10, at);
     }
-    if rules::is_operator(tag) {
-        Fault::Bad(10, at)
-    } else {
-        Fault::Bad(9, at)
-    }
+    rules::line_fault(s, c.high, row, at, attrs, n)
 }
 
 // The next operator from `start` on; its attributes go to `attrs`.

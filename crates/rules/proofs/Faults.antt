@@ -99,11 +99,6 @@ module _ (high : Bool) (s : List ℕ) (rules : List scope.Rule) (a : List ℕ) (
 
 -- the whole line
 module _ (high : Bool) (s : List ℕ) (at : ℕ) (l : List Attribute) (r : Row) where
-  pub fault-9 : (x : scope.Line) → Stood r x → isKnown (r .form) ≡ false → bad 9 at ≡ lineFault high s at l x
-  unfolding lineFault
-  fault-9 scope.Line.none (stood-none e) k = refl
-  fault-9 (scope.Line.is x) (stood-is known f st led) k = absurd (false≢true (sym k ∙ known))
-
   pub fault-one : (x : scope.Line) → Stood r x → isKnown (r .form) ≡ true → (c p : ℕ)
       → ((rules : List scope.Rule) → Stands (r .numbers) rules → bad c p ≡ oneByOne high s rules [] l) → bad c p ≡ lineFault high s at l x
   unfolding lineFault thenWhole

@@ -9,7 +9,7 @@ ghost use Rattle.scope.specs.Names.{EndPoint, NumberOfPoints, PointType};
 ghost use Rattle.scope.specs.Table.{Rule as RuleIn, table, lineIn};
 ghost use Rattle.scope.specs.Attributes.{fine, bad, has as hasIn, attributeCode, oneByOne, choiceCode, pairCode, formCode};
 ghost use Rattle.items.specs.Rows.{rowAt, rowsOf, Sized};
-ghost use Rattle.rules.specs.Lines.{upToNo, isKnown, formAs, mustAs};
+ghost use Rattle.rules.specs.Lines.{upToNo, isKnown, formAs, mustAs, briefAs, briefOf};
 ghost use Rattle.rules.specs.Judging.{attributeAs, ruledIn, Stands, Led, asUsual, faultAs, lineFault};
 use crate::attributes::at_most;
 use crate::attributes::has;
@@ -19,8 +19,7 @@ use crate::line::how_many;
 use crate::line::listed;
 use crate::table::Form;
 use crate::table::NO;
-use crate::table::is_known;
-use crate::table::row_of;
+use crate::table::Row;
 use crate::table::rule_of;
 use crate::value::Attribute;
 use crate::value::in_range;
@@ -180,16 +179,12 @@ fn whole(at: usize, code: u32) -> Fault
     Fault::Bad(code, at)
 }
 
-// What is wrong with the operator whose tag stands at a place, and its attributes: 9, then 11, 12, 15, 16, then 13, 14.
-pub fn line_fault(s: &[u8], high: bool, tag: u8, at: usize, attrs: &[usize; 80], n: usize) -> Fault
-    ensures { λ r. ⌜ (Sized (now (attrs .entry)) n → faultAs r ≡ lineFault high (now (s .entry)) at (rowsOf (now (attrs .entry)) n) (lineIn table tag)) ⌝ }
+// What is wrong with the attributes of an operator whose tag stands at a place, by its line: 11, 12, 15, 16, then 13, 14.
+pub fn line_fault(s: &[u8], high: bool, row: Row, at: usize, attrs: &[usize; 80], n: usize) -> Fault
+    ensures { λ r. ⌜ ((tag : ℕ) → briefAs row ≡ briefOf (lineIn table tag) → isKnown (row .form) ≡ true → Sized (now (attrs .entry)) n → faultAs r ≡ lineFault high (now (s .entry)) at (rowsOf (now (attrs .entry)) n) (lineIn table tag)) ⌝ }
 {
-    let row = row_of(tag);
     let form = row.form;
     let numbers = row.numbers;
-    if !is_known(form) {
-        return Fault::Bad(9, at);
-    }
     match one_by_one(s, high, numbers, attrs, n) {
         Fault::Bad(code, place) => Fault::Bad(code, place),
         Fault::Fine => whole(at, form_code(form, numbers, attrs, n)),

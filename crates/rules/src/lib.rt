@@ -16,6 +16,6 @@ pub use table::Kind;
 pub use table::NO;
 pub use table::Row;
 pub use table::Rule;
-pub use table::is_operator;
+pub use table::is_known;
 pub use table::row_of;
 pub use table::rule_of;

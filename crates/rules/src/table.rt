@@ -2,7 +2,7 @@
 ghost use mathlib.Core.Path.{_≡_};
 ghost use mathlib.Core.List.{_∷_, []};
 ghost use Rattle.scope.specs.Table.{table, lineIn};
-ghost use Rattle.rules.specs.Lines.{isLine, isKnown, rowWith, briefAs, briefOf, takesOf, ruleOf};
+ghost use Rattle.rules.specs.Lines.{isKnown, rowWith, briefAs, briefOf, takesOf, ruleOf};
 ghost use Rattle.rules.specs.declared.table.Form.the-variants.{Each, One, Line, Unknown};
 use names::attributes::SOURCE_HEIGHT as HEIGHT;
 use names::attributes::SOURCE_WIDTH as WIDTH;
@@ -239,13 +239,4 @@ pub fn is_known(form: Form) -> bool
         Form::Line => true,
         Form::Unknown => false,
     }
-}
-
-// The operator table has this tag.
-pub fn is_operator(tag: u8) -> bool
-    ensures { λ r. ⌜ r ≡ isLine (lineIn table tag) ⌝ }
-{
-    let row = row_of(tag);
-    let form = row.form;
-    is_known(form)
 }

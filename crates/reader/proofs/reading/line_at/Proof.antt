@@ -1,50 +1,61 @@
--- `line_at`: where the operator may come, its line says 9 itself; where it may not, the table says whether it is 9 or 10.
+-- `line_at`: the table has a line exactly if the form that was found is known, and the attributes are judged by that line.
 -- Assumes nothing.
-use mathlib.Core.Path.{sym, _∙_}
-use Rattle.items.specs.Rows.{rowsOf}
+use mathlib.Core.Path.{_≡_, sym, _∙_}
+use borrow.Author.Tests.{not-true, not-false}
 use Rattle.scope.specs.Table.{table, lineIn}
+use Rattle.rules.specs.Lines.{isLine}
+use Rattle.rules.proofs.Briefs.{line-known}
 use Rattle.reader.specs.Reads.{lineAt}
-use Rattle.reader.proofs.Lines.{line-or-9}
 use borrow.Author.Needs.{needs}
 use Rattle.reader.proofs.reading.line_at.Statement.{statement}
 use Rattle.reader.proofs.reading.line_at.Tie as tie
 
-may-come-requires : tie.Need-may-come-requires
-may-come-requires c κs = search needs
+row-of-requires : tie.Need-row-of-requires
+row-of-requires c κs = search needs
 
-line-fault-requires : tie.Need-line-fault-requires
-line-fault-requires c κs = search needs
+is-known-requires : tie.Need-is-known-requires
+is-known-requires c κs = search needs
+
+-- the table has the line exactly if its form is known
+known : (c : tie.After-is-known) → isLine (lineIn table (c .before .before .before .args .tag)) ≡ c .is-known .result
+known c =
+    let w = c .before in
+    sym (c .is-known .ensures ∙ line-known (w .row-of .result) (lineIn table (w .before .before .args .tag)) (w .row-of .ensures))
 
 returns : tie.Need-returns
 unfolding lineAt
-returns c =
-    let m = c .before .before in
-    let a = m .before .before .args in
-    λ z. rw (sym (m .may-come .ensures) ∙ c .before .if1 .taken, line-or-9 (a .c .high) (a .s .now) (a .at) (rowsOf (a .attrs .now) (a .n)) (lineIn table (a .tag)))
-    (c .line-fault .ensures z)
+returns c = λ z. rw (known (c .before) ∙ not-true _ (c .if1 .taken))
 
-is-operator-requires : tie.Need-is-operator-requires
-is-operator-requires c κs = search needs
+may-come-requires : tie.Need-may-come-requires
+may-come-requires c κs = search needs
 
 returns-2 : tie.Need-returns-2
 unfolding lineAt
 returns-2 c =
-    let m = c .before .before .before in
-    λ z. rw (sym (m .may-come .ensures) ∙ c .before .before .if1 .left, sym (c .before .is-operator .ensures) ∙ c .if2 .taken)
+    let e = c .before .before in
+    λ z. rw (known (e .before) ∙ not-false _ (e .if1 .left), sym (c .before .may-come .ensures) ∙ not-true _ (c .if2 .taken))
+
+line-fault-requires : tie.Need-line-fault-requires
+line-fault-requires c κs = search needs
 
 returns-3 : tie.Need-returns-3
 unfolding lineAt
 returns-3 c =
-    let m = c .before .before .before in
-    λ z. rw (sym (m .may-come .ensures) ∙ c .before .before .if1 .left, sym (c .before .is-operator .ensures) ∙ c .if2 .left)
+    let f = c .before in
+    let e = f .before .before in
+    let k = e .before in
+    let w = k .before in
+    λ z. rw (known k ∙ not-false _ (e .if1 .left), sym (f .before .may-come .ensures) ∙ not-false _ (f .if2 .left))
+    (c .line-fault .ensures (w .before .before .args .tag) (w .row-of .ensures) (sym (k .is-known .ensures) ∙ not-false _ (e .if1 .left)) z)
 
 pub line-at-spec : {M : Type 1} → statement M
 line-at-spec =
     tie.close
     (tie.spec
-    may-come-requires
-    line-fault-requires
+    row-of-requires
+    is-known-requires
     returns
-    is-operator-requires
+    may-come-requires
     returns-2
+    line-fault-requires
     returns-3)

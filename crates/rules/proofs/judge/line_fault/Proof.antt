@@ -1,12 +1,11 @@
--- `rules::judge::line_fault` meets its contract: 9, then attribute by attribute, then as a whole.
+-- `line_fault`: attribute by attribute, then as a whole, by the numbers of a line that the table has.
 -- Assumes nothing.
 use mathlib.Core.Path.{_≡_, refl, sym, ap, _∙_}
-use borrow.Author.Tests.{not-true, not-false}
 use Rattle.scope.specs.Table.{table, lineIn}
 use Rattle.items.specs.Rows.{rowsOf}
 use Rattle.rules.specs.Judging.{faultAs}
 use Rattle.rules.proofs.Briefs.{stood}
-use Rattle.rules.proofs.Faults.{fault-9, fault-one, fault-whole}
+use Rattle.rules.proofs.Faults.{fault-one, fault-whole}
 use borrow.Author.Needs.{needs}
 use Rattle.rules.proofs.judge.line_fault.Statement.{statement}
 use Rattle.rules.proofs.judge.line_fault.Tie as tie
@@ -15,22 +14,6 @@ use Rattle.rules.proofs.judge.line_fault.Lts as lts
 use Rattle.rules.proofs.judge.form_code.Reads as form-code-reads
 use Rattle.rules.proofs.judge.one_by_one.Reads as one-by-one-reads
 use Rattle.rules.proofs.judge.whole.Reads as whole-reads
-use Rattle.rules.proofs.table.is_known.Reads as is-known-reads
-use Rattle.rules.proofs.table.row_of.Reads as row-of-reads
-
-row-of-requires : tie.Need-row-of-requires
-row-of-requires c κs = search needs
-
-is-known-requires : tie.Need-is-known-requires
-is-known-requires c κs = search needs
-
-returns : tie.Need-returns
-returns c =
-    let w = c .before .before .before in
-    let a = w .before .before .args in
-    let r = w .row-of .result in
-    λ z. fault-9 (a .high) (a .s .now) (a .at) (rowsOf (a .attrs .now) (a .n)) r (lineIn table (a .tag)) (stood r (a .tag) (w .row-of .ensures))
-    (sym (c .before .is-known .ensures) ∙ not-true _ (c .if1 .taken))
 
 one-by-one-requires : tie.Need-one-by-one-requires
 one-by-one-requires c κs = search needs
@@ -47,25 +30,19 @@ form-code-requires c κs = search needs
 whole-requires : tie.Need-whole-requires
 whole-requires c κs = search needs
 
-returns-2 : tie.Need-returns-2
-returns-2 c =
+returns : tie.Need-returns
+returns c =
     let o = c .before .before .before in
-    let w = o .before .before .before .before in
-    let a = w .before .before .args in
-    let r = w .row-of .result in
-    λ z. fault-one (a .high) (a .s .now) (a .at) (rowsOf (a .attrs .now) (a .n)) r (lineIn table (a .tag)) (stood r (a .tag) (w .row-of .ensures))
-    (sym (o .before .before .is-known .ensures) ∙ not-false _ (o .before .if1 .left))
+    let a = o .before .before .before .args in
+    λ tag e k z. fault-one (a .high) (a .s .now) (a .at) (rowsOf (a .attrs .now) (a .n)) (a .row) (lineIn table tag) (stood (a .row) tag e) k
     _ _ (λ rules st. sym (ap faultAs (c .before .code .given .1)) ∙ o .one-by-one .ensures rules st z)
 
-returns-3 : tie.Need-returns-3
-returns-3 c =
+returns-2 : tie.Need-returns-2
+returns-2 c =
     let f = c .before in
     let o = f .before .before .before in
-    let w = o .before .before .before .before in
-    let a = w .before .before .args in
-    let r = w .row-of .result in
-    let k = sym (o .before .before .is-known .ensures) ∙ not-false _ (o .before .if1 .left) in
-    λ z. c .whole .ensures ∙ fault-whole (a .high) (a .s .now) (a .at) (rowsOf (a .attrs .now) (a .n)) r (lineIn table (a .tag)) (stood r (a .tag) (w .row-of .ensures)) k
+    let a = o .before .before .before .args in
+    λ tag e k z. c .whole .ensures ∙ fault-whole (a .high) (a .s .now) (a .at) (rowsOf (a .attrs .now) (a .n)) (a .row) (lineIn table tag) (stood (a .row) tag e) k
     (f .form-code .result) (λ rules st. sym (ap faultAs (f .before .enum-told .given .1)) ∙ o .one-by-one .ensures rules st z)
     (λ rules st led. f .form-code .ensures k rules st led z)
 
@@ -73,13 +50,10 @@ pub line-fault-spec : {M : Type 1} → statement M
 line-fault-spec =
     tie.close
     (tie.spec
-    row-of-requires
-    is-known-requires
-    returns
     one-by-one-requires
     enum-known-code
     enum-told
     form-code-requires
     whole-requires
-    returns-2
-    returns-3)
+    returns
+    returns-2)
