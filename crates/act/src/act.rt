@@ -8,6 +8,9 @@ use arm::page::Act;
 use arm::page::Effect;
 use arm::page::Mark;
 use arm::page::Space;
+use names::attributes::COLOR_SPACE;
+use names::attributes::GRAY_LEVEL;
+use names::attributes::RGB_COLOR;
 use names::operators::BEGIN_IMAGE;
 use names::operators::LINE_PATH;
 use names::operators::LINE_REL_PATH;
@@ -57,10 +60,10 @@ pub fn needs_cursor(tag: u8) -> bool
 fn brush_space(attrs: &[usize; 80], n: usize) -> Space
     ensures { λ r. ⌜ (Sized (now (attrs .entry)) n → spaceAs r ≡ brushSpace (rowsOf (now (attrs .entry)) n)) ⌝ }
 {
-    if rules::has(attrs, n, 11) {
+    if attributes::has(attrs, n, RGB_COLOR) {
         return Space::Rgb;
     }
-    if rules::has(attrs, n, 9) {
+    if attributes::has(attrs, n, GRAY_LEVEL) {
         return Space::Gray;
     }
     Space::Any
@@ -85,7 +88,7 @@ fn needs_space(tag: u8, attrs: &[usize; 80], n: usize) -> Space
 fn space_effect(s: &[u8], high: bool, attrs: &[usize; 80], n: usize) -> Effect
     ensures { λ r. ⌜ (Sized (now (attrs .entry)) n → effectAs r ≡ spaceEffect high (now (s .entry)) (rowsOf (now (attrs .entry)) n)) ⌝ }
 {
-    let space = rules::value_in(s, high, attrs, n, 3);
+    let space = attributes::value_in(s, high, attrs, n, COLOR_SPACE);
     Effect::Put(Mark::Keep, Mark::To(space == 1))
 }
 

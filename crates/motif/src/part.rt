@@ -5,7 +5,8 @@ ghost use Prim.Native.Nat.{ℕ, _+_, _≤_};
 ghost use lib.ListN.{length, take, drop};
 ghost use Rattle.items.specs.Rows.{rowsOf, Sized};
 ghost use Rattle.scope.specs.Attributes.{bytesIn};
-use rules::Part;
+use attributes::Part;
+use names::attributes::STREAM_NAME;
 
 // As much of a part as lies within so many bytes.
 fn within(len: usize, first: usize, count: usize) -> Part
@@ -29,6 +30,6 @@ pub fn name_in(s: &[u8], attrs: &[usize; 80], n: usize) -> Part
     ensures { λ r. ⌜ r .first + r .count ≤ length (now (s .entry)) ⌝ }
     ensures { λ r. ⌜ (Sized (now (attrs .entry)) n → take (r .count) (drop (r .first) (now (s .entry))) ≡ bytesIn (now (s .entry)) (rowsOf (now (attrs .entry)) n) 139) ⌝ }
 {
-    let part = rules::part_in(attrs, n, 139);
+    let part = attributes::part_in(attrs, n, STREAM_NAME);
     within(s.len(), part.first, part.count)
 }

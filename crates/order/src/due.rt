@@ -56,11 +56,11 @@ fn point_bytes(kind: u32, n: u32) -> usize
 fn points_due(s: &[u8], high: bool, attrs: &[usize; 80], n: usize) -> Due
     ensures { λ r. ⌜ (Sized (now (attrs .entry)) n → dueAs r ≡ pointsDue high (now (s .entry)) (rowsOf (now (attrs .entry)) n)) ⌝ }
 {
-    if !rules::has(attrs, n, NUMBER_OF_POINTS) {
+    if !attributes::has(attrs, n, NUMBER_OF_POINTS) {
         return Due::Nothing;
     }
-    let kind = rules::value_in(s, high, attrs, n, POINT_TYPE);
-    let many = rules::value_in(s, high, attrs, n, NUMBER_OF_POINTS);
+    let kind = attributes::value_in(s, high, attrs, n, POINT_TYPE);
+    let many = attributes::value_in(s, high, attrs, n, NUMBER_OF_POINTS);
     Due::Reads(point_bytes(kind, many))
 }
 
@@ -69,10 +69,10 @@ pub fn due_of(s: &[u8], high: bool, image: Image, tag: u8, attrs: &[usize; 80], 
     ensures { λ r. ⌜ (Sized (now (attrs .entry)) n → dueAs r ≡ dueOf high (now (s .entry)) (imageAs image) tag (rowsOf (now (attrs .entry)) n)) ⌝ }
 {
     if tag == READ_STREAM {
-        return Due::Reads(rules::value_in(s, high, attrs, n, STREAM_DATA_LENGTH) as usize);
+        return Due::Reads(attributes::value_in(s, high, attrs, n, STREAM_DATA_LENGTH) as usize);
     }
     if tag == READ_IMAGE {
-        let rows = rules::value_in(s, high, attrs, n, BLOCK_HEIGHT) as usize;
+        let rows = attributes::value_in(s, high, attrs, n, BLOCK_HEIGHT) as usize;
         return Due::Reads(rows * row_of(image.width, image.depth));
     }
     if tag != LINE_PATH {
@@ -90,12 +90,12 @@ pub fn rows_fit(s: &[u8], high: bool, image: Image, tag: u8, attrs: &[usize; 80]
     if tag != READ_IMAGE {
         return true;
     }
-    let start = rules::value_in(s, high, attrs, n, START_LINE);
+    let start = attributes::value_in(s, high, attrs, n, START_LINE);
     let rows = image.rows;
     if start != rows {
         return false;
     }
-    let block = rules::value_in(s, high, attrs, n, BLOCK_HEIGHT);
+    let block = attributes::value_in(s, high, attrs, n, BLOCK_HEIGHT);
     let height = image.height as usize;
     rows as usize + block as usize <= height
 }

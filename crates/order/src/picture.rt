@@ -7,6 +7,10 @@ ghost use Rattle.scope.specs.Motif.{begun, readOn};
 ghost use Rattle.scope.specs.Order.{rowsFit};
 ghost use Rattle.order.specs.Pictures.{pictureAs, pictureFor, imageIn};
 use crate::order::Image;
+use names::attributes::BLOCK_HEIGHT;
+use names::attributes::COLOR_DEPTH;
+use names::attributes::SOURCE_HEIGHT;
+use names::attributes::SOURCE_WIDTH;
 use names::operators::BEGIN_IMAGE;
 use names::operators::END_IMAGE;
 use names::operators::READ_IMAGE;
@@ -21,9 +25,9 @@ pub enum Picture {
 fn begin(s: &[u8], high: bool, attrs: &[usize; 80], n: usize) -> Picture
     ensures { λ r. ⌜ (Sized (now (attrs .entry)) n → pictureAs r ≡ begun high (now (s .entry)) (rowsOf (now (attrs .entry)) n)) ⌝ }
 {
-    let width = rules::value_in(s, high, attrs, n, 108) as u16;
-    let depth = rules::value_in(s, high, attrs, n, 98) as u16;
-    let height = rules::value_in(s, high, attrs, n, 107) as u16;
+    let width = attributes::value_in(s, high, attrs, n, SOURCE_WIDTH) as u16;
+    let depth = attributes::value_in(s, high, attrs, n, COLOR_DEPTH) as u16;
+    let height = attributes::value_in(s, high, attrs, n, SOURCE_HEIGHT) as u16;
     Picture::Being(Image {
         width,
         depth,
@@ -76,7 +80,7 @@ pub fn picture_after(
         return begin(s, high, attrs, n);
     }
     if tag == READ_IMAGE {
-        let more = rules::value_in(s, high, attrs, n, 99);
+        let more = attributes::value_in(s, high, attrs, n, BLOCK_HEIGHT);
         return read_on(more, picture);
     }
     if tag == END_IMAGE {

@@ -1,7 +1,7 @@
 // What the table asks of an operator's attributes, in words.
 use crate::called::attribute;
 use crate::called::operator;
-use rules::Kind;
+use table::Kind;
 use text::number;
 use text::say;
 
@@ -52,7 +52,7 @@ fn values(kind: Kind, low: usize, high: usize) {
 
 // The values that an attribute takes.
 pub fn takes(n: usize) {
-    let rule = rules::rule_of((n % 256) as u8);
+    let rule = table::rule_of((n % 256) as u8);
     let kind = rule.kind;
     attribute(n);
     values(kind, rule.low, rule.high);
@@ -60,7 +60,7 @@ pub fn takes(n: usize) {
 
 // Says an attribute of a line, if there is one, behind a comma if it is not the first; the answer is whether one was said.
 fn one(n: u8, before: bool) -> bool {
-    if n == rules::NO {
+    if n == table::NO {
         return before;
     }
     if before {
@@ -72,7 +72,7 @@ fn one(n: u8, before: bool) -> bool {
 
 // Says the attributes that an operator takes.
 pub fn all_of(tag: u8) {
-    let row = rules::row_of(tag);
+    let row = table::row_of(tag);
     let numbers = row.numbers;
     operator(tag);
     say(b" takes ");

@@ -4,7 +4,7 @@ use Prim.Native.Nat.{ℕ, suc, _+_, _≤_, _<_}
 use mathlib.Core.Bool.{not, _&&_}
 use mathlib.Core.List.{List}
 use Rattle.items.specs.Rows.{rowsOf}
-use Rattle.rules.specs.Lines.{isLine}
+use Rattle.table.specs.Lines.{isLine}
 use Rattle.rules.specs.Judging.{lineFault}
 use Rattle.scope.specs.Choice.{pick}
 use Rattle.scope.specs.Item.{Attribute, after}

@@ -6,6 +6,7 @@ ghost use lib.Dec.{eqb};
 ghost use lib.ListN.{length};
 ghost use Rattle.scope.specs.Names.{LinePath, LineRelPath};
 ghost use Rattle.reader.specs.EndPoint.{pointLength, endsAt, lineTo, Point, Drawn, Ends, Line};
+use names::attributes::END_POINT;
 use names::operators::LINE_PATH;
 use names::operators::LINE_REL_PATH;
 
@@ -47,7 +48,7 @@ fn ends_at(s: &[u8], p: usize) -> bool
     if s[p] != 0xf8 {
         return false;
     }
-    if s[p + 1] != 69 {
+    if s[p + 1] != END_POINT {
         return false;
     }
     is_drawn_line(s[op])

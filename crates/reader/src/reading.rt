@@ -91,9 +91,9 @@ fn data_at(c: Context, s: &[u8], at: usize, due: usize) -> Found
 fn line_at(c: Context, s: &[u8], tag: u8, at: usize, attrs: &[usize; 80], n: usize) -> Fault
     ensures { λ r. ⌜ (Sized (now (attrs .entry)) n → faultAs r ≡ lineAt (contextAs c) (now (s .entry)) tag at (rowsOf (now (attrs .entry)) n) (lineIn table tag)) ⌝ }
 {
-    let row = rules::row_of(tag);
+    let row = table::row_of(tag);
     let form = row.form;
-    if !rules::is_known(form) {
+    if !table::is_known(form) {
         return Fault::Bad(9, at);
     }
     let phase = c.phase;

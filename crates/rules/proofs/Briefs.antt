@@ -5,12 +5,12 @@ use mathlib.Core.Path.{_≡_, refl, sym, ap, _∙_}
 use mathlib.Core.Bool.{Bool, true, false, false≢true}
 use mathlib.Core.List.{List, []}
 use Rattle.scope.specs.Table as scope
-use Rattle.rules.specs.Lines.{isLine, isKnown, formAs, mustAs, mustIn, numbersIn, Brief, known, unknown, briefOf, briefBy, briefAs, upToNo}
+use Rattle.table.specs.Lines.{isLine, isKnown, formAs, mustAs, mustIn, numbersIn, Brief, known, unknown, briefOf, briefBy, briefAs, upToNo}
 use Rattle.rules.specs.Judging.{Stands, Led}
 use Rattle.rules.proofs.Tested.{row-agreed, row-led}
-use Rattle.rules.specs.declared.table.Form.{Form}
-use Rattle.rules.specs.declared.table.Row.{Row}
-use Rattle.rules.specs.declared.table.Form.the-variants.{Each, One, Line, Unknown}
+use Rattle.table.specs.declared.table.Form.{Form}
+use Rattle.table.specs.declared.table.Row.{Row}
+use Rattle.table.specs.declared.table.Form.the-variants.{Each, One, Line, Unknown}
 
 shown : Brief → Bool
 shown (known f k ns) = true

@@ -11,13 +11,13 @@ use Rattle.scope.specs.Choice.{pick, among}
 use Rattle.scope.specs.Names.{EndPoint, NumberOfPoints, PointType}
 use Rattle.scope.specs.Item.{Attribute}
 use Rattle.scope.specs.Table as scope
-use Rattle.scope.specs.Attributes.{has, typeTaken, inRange, Fault, fine, bad, attributeCode, oneByOne, allThere, howMany, pairCode, formCode}
+use Rattle.scope.specs.Attributes.{has, typeTaken, inRange, fine, bad, attributeCode, oneByOne, allThere, howMany, pairCode, formCode}
 use Rattle.items.specs.Rows.{rowAt, rowsFrom, rowsOf}
-use Rattle.rules.specs.Lines.{upToNo, ruleOf, isKnown, formAs, mustAs}
+use Rattle.table.specs.Lines.{upToNo, ruleOf, isKnown, formAs, mustAs}
 use Rattle.rules.specs.Judging.{ruledIn, allIn, manyIn, asUsual, Stands, Led, thenWhole, lineFault}
-use Rattle.rules.specs.declared.table.Row.{Row}
-use Rattle.rules.proofs.Keys.{both-left, both-right}
-use Rattle.rules.proofs.Rowed.{rows-more, rows-end, rows-before}
+use Rattle.table.specs.declared.table.Row.{Row}
+use Rattle.table.proofs.Keys.{both-left, both-right}
+use Rattle.attributes.proofs.Rowed.{rows-more, rows-end, rows-before}
 use Rattle.rules.proofs.Numbered.{take-numbers, ruled-by, led-long, all-by, many-by}
 use Rattle.rules.proofs.Briefs.{Stood, stood-none, stood-is}
 

@@ -15,7 +15,7 @@ use Rattle.scope.specs.Choice.{pick, among}
 use Rattle.scope.specs.Item.{Attribute}
 use Rattle.scope.specs.Table as scope
 use Rattle.scope.specs.Attributes.{has, allThere, howMany}
-use Rattle.rules.specs.Lines.{numbersIn, upToNo, ruleOf}
+use Rattle.table.specs.Lines.{numbersIn, upToNo, ruleOf}
 use Rattle.rules.specs.Judging.{ruledIn, allIn, manyIn, Agreed, agreed-none, agreed-more, Led, led-none, led-may, led-must}
 
 module _ (ns : List ℕ) (i : ℕ) where

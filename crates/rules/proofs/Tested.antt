@@ -4,15 +4,15 @@
 use Prim.Native.Nat.{ℕ, suc, _<_}
 use mathlib.Core.Path.{_≡_, refl, sym, ap, _∙_, subst}
 use mathlib.Core.Bool.{Bool, true, false, not, false≢true}
-use mathlib.Core.List.{List, [], _∷_, _++_}
+use mathlib.Core.List.{List, [], _∷_}
 use lib.Dec.{eqb, ltb}
 use borrow.Author.Tests.{eqb-true, ltb-true}
 use Rattle.scope.specs.Choice.{pick}
 use Rattle.scope.specs.Table as scope
 use Rattle.scope.specs.Table.{Takes, Rule, Row, table, lineIn, ruleIn}
-use Rattle.rules.specs.Lines.{isLine, mustIn, rulesIn, ruleOf}
+use Rattle.table.specs.Lines.{isLine, mustIn, rulesIn, ruleOf}
 use Rattle.rules.specs.Judging.{Agreed, agreed-none, agreed-more, Led, led-none, led-may, led-must}
-use Rattle.rules.proofs.Keys.{both-left, both-right}
+use Rattle.table.proofs.Keys.{both-left, both-right}
 
 -- what a test that passes at each row says of a row that was found
 unfoldable everyRow : (Row → Bool) → List Row → Bool

@@ -10,7 +10,7 @@ use Rattle.scope.specs.Names.{EndPoint, NumberOfPoints, PointType}
 use Rattle.scope.specs.Item as item
 use Rattle.scope.specs.Table as scope
 use Rattle.scope.specs.Attributes as judged
-use Rattle.rules.specs.Lines.{numbersIn, upToNo, ruleOf}
+use Rattle.table.specs.Lines.{numbersIn, upToNo, ruleOf}
 use Rattle.rules.specs.declared.judge.Fault.{Fault}
 use Rattle.rules.specs.declared.judge.Fault.the-variants.{Fine, Bad}
 use Rattle.rules.specs.declared.value.Attribute.{Attribute}

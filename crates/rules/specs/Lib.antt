@@ -1,4 +1,1 @@
-pub mod Lines
-pub mod Places
-pub mod Reals
 pub mod Judging

@@ -2,31 +2,31 @@
 ghost use mathlib.Core.Path.{_≡_};
 ghost use mathlib.Core.Bool.{true};
 ghost use mathlib.Core.List.{List, []};
-ghost use Prim.Native.Nat.{ℕ, _+_, _≤_, _<_};
+ghost use Prim.Native.Nat.{ℕ, _+_, _<_};
 ghost use lib.Dec.{eqb};
 ghost use Rattle.scope.specs.Choice.{pick};
 ghost use Rattle.scope.specs.Names.{EndPoint, NumberOfPoints, PointType};
 ghost use Rattle.scope.specs.Table.{Rule as RuleIn, table, lineIn};
 ghost use Rattle.scope.specs.Attributes.{fine, bad, has as hasIn, attributeCode, oneByOne, choiceCode, pairCode, formCode};
 ghost use Rattle.items.specs.Rows.{rowAt, rowsOf, Sized};
-ghost use Rattle.rules.specs.Lines.{upToNo, isKnown, formAs, mustAs, briefAs, briefOf};
+ghost use Rattle.table.specs.Lines.{upToNo, isKnown, formAs, mustAs, briefAs, briefOf};
 ghost use Rattle.rules.specs.Judging.{attributeAs, ruledIn, Stands, Led, asUsual, faultAs, lineFault};
-use crate::attributes::at_most;
-use crate::attributes::has;
-use crate::attributes::is_given;
 use crate::line::all_there;
 use crate::line::how_many;
 use crate::line::listed;
-use crate::table::Form;
-use crate::table::NO;
-use crate::table::Row;
-use crate::table::rule_of;
 use crate::value::Attribute;
 use crate::value::in_range;
 use crate::value::type_taken;
+use attributes::at_most;
+use attributes::has;
+use attributes::is_given;
 use names::attributes::END_POINT;
 use names::attributes::NUMBER_OF_POINTS;
 use names::attributes::POINT_TYPE;
+use table::Form;
+use table::NO;
+use table::Row;
+use table::rule_of;
 
 // A fault has a code and a place.
 pub enum Fault {

@@ -5,10 +5,10 @@ ghost use lib.ListN.{take};
 ghost use Rattle.scope.specs.Choice.{pick, among};
 ghost use Rattle.scope.specs.Attributes.{has as hasIn};
 ghost use Rattle.items.specs.Rows.{rowsOf, Sized};
-ghost use Rattle.rules.specs.Lines.{upToNo};
+ghost use Rattle.table.specs.Lines.{upToNo};
 ghost use Rattle.rules.specs.Judging.{allIn, manyIn};
-use crate::attributes::is_given;
-use crate::table::NO;
+use attributes::is_given;
+use table::NO;
 
 fn wide(n: u8) -> usize
     ensures { λ r. ⌜ r ≡ n ⌝ }

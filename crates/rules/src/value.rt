@@ -1,18 +1,18 @@
 // The types and the values that an attribute takes; of its numbers each kind says whether it takes whole ones or reals.
 ghost use mathlib.Core.Path.{_≡_};
 ghost use mathlib.Core.Bool.{_&&_, _||_, not};
-ghost use Prim.Native.Nat.{ℕ, _+_};
+ghost use Prim.Native.Nat.{ℕ};
 ghost use lib.Dec.{T, eqb, leb};
 ghost use lib.Ieee.{binary32, toBits, isNan};
 ghost use Rattle.scope.specs.Choice.{between};
 ghost use Rattle.scope.specs.Attributes.{Two, above, pointIn, sizesIn, firstOf, typeTaken, inRange};
-ghost use Rattle.rules.specs.Lines.{takesAs};
+ghost use Rattle.table.specs.Lines.{takesAs};
 ghost use Rattle.rules.specs.Judging.{attributeAs};
-ghost use Rattle.rules.specs.Reals.{Reads, Made};
-use crate::attributes::Numbers;
-use crate::attributes::numbers_at;
-use crate::attributes::whole;
-use crate::table::Kind;
+ghost use Rattle.attributes.specs.Reals.{Reads, Made};
+use attributes::Numbers;
+use attributes::numbers_at;
+use attributes::whole;
+use table::Kind;
 
 // An attribute as the lent array has it.
 pub struct Attribute {

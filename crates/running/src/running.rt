@@ -10,6 +10,7 @@ ghost use Rattle.place.specs.declared.place.Place.the-variants.{Inside};
 ghost use Rattle.running.specs.Running.{inSession, standing, Further, Runs};
 use arm::page::Page;
 use arm::page::Passed;
+use names::attributes::END_POINT;
 use names::limits::PERFORMED_MOST;
 use order::Picture;
 use place::Busy;
@@ -76,7 +77,17 @@ fn pass_line(job: &[u8], list: &mut [u8], from: Run) -> Pass
     if job.len() <= op {
         return Pass::No;
     }
-    if !buffer::list_one(list, records, 69, job[at], at, 2, at + 1, job[op], op) {
+    if !buffer::list_one(
+        list,
+        records,
+        END_POINT,
+        job[at],
+        at,
+        2,
+        at + 1,
+        job[op],
+        op,
+    ) {
         return Pass::No;
     }
     Pass::To(Run {

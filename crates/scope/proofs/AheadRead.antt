@@ -13,7 +13,7 @@ use Rattle.scope.specs.Choice.{pick, between}
 use Rattle.scope.specs.Number.{place, number}
 use Rattle.scope.specs.Item.{Attribute, Scan, kindOf, widthOf}
 use Rattle.scope.specs.Table.{Takes, E, N, P, B, A, D, M, Rule, Row, Line, Ruled, table, lineIn, ruleIn}
-use Rattle.scope.specs.Attributes.{Fault, fine, bad, has, Two, wholes, reals, twoAt, wholeIn, pointIn, sizesIn, firstOf, typeTaken, inRange, attributeCode, oneByOne, valueIn, bytesIn}
+use Rattle.scope.specs.Attributes.{Fault, fine, bad, has, Two, reals, twoAt, wholeIn, pointIn, sizesIn, firstOf, typeTaken, inRange, attributeCode, oneByOne, valueIn, bytesIn}
 use Rattle.scope.specs.Data.{Image, Due, Found, dueOf, blockOf, blockAt}
 use Rattle.scope.specs.Order.{mayCome, imageOf, rowsFit}
 use Rattle.scope.specs.Reading.{Context, Operator, Read, withBlock, withData, asWhole, withAttributes, withLine, scanned, operatorAt}

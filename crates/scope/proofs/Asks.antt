@@ -1,17 +1,17 @@
 -- Reading with code 17 given and reading with it never given: the same, but for an operator that reads data while the source is closed.
 -- Assumes nothing.
-use Prim.Native.Nat.{ℕ, suc}
+use Prim.Native.Nat.{ℕ}
 use native.Mathlib.Omega.{arith}
 use borrow.Author.Tests.{eqb-true}
 use mathlib.Core.Path.{_≡_, refl}
-use mathlib.Core.Bool.{Bool, true, false, not, _&&_, _||_}
-use mathlib.Core.List.{List, []}
+use mathlib.Core.Bool.{Bool, true, false, _||_}
+use mathlib.Core.List.{List}
 use lib.Dec.{eqb}
 use Rattle.scope.specs.Choice.{pick}
-use Rattle.scope.specs.Item.{Attribute, Scan, after, scanAt}
-use Rattle.scope.specs.Table.{Row, Line, table, lineIn}
-use Rattle.scope.specs.Attributes.{Fault, fine, bad, has, oneByOne, formCode}
-use Rattle.scope.specs.Data.{Image, Due, Found, dueOf, blockAt}
+use Rattle.scope.specs.Item.{Attribute, Scan, scanAt}
+use Rattle.scope.specs.Table.{Row, Line}
+use Rattle.scope.specs.Attributes.{Fault, fine, bad, has}
+use Rattle.scope.specs.Data.{Image, Due, Found, dueOf}
 use Rattle.scope.specs.Order.{Phase, mayCome, imageOf, rowsFit}
 use Rattle.scope.proofs.Ends.{pick-all}
 use Rattle.scope.specs.Reading.{Context, Operator, Read, withBlock, withData, asWhole, withAttributes, withLine, scanned, operatorAt}

@@ -2,20 +2,20 @@
 -- Assumes nothing.
 use Prim.Native.Nat.{ℕ, zero, suc, _+_, _-_, _*_, _≤_, _<_}
 use mathlib.Core.Path.{_≡_, refl}
-use mathlib.Core.Bool.{Bool, true, false, not, _&&_, _||_}
+use mathlib.Core.Bool.{Bool, true, false, not, _&&_}
 use mathlib.Core.List.{List, [], _∷_, _++_}
 use native.Mathlib.Omega.{arith}
 use borrow.Author.Tests.{leb-true, leb-false, eqb-false}
-use lib.ListN.{length, getD, drop}
+use lib.ListN.{length, getD}
 use lib.Dec.{T, ltb, leb, eqb}
 use Rattle.scope.specs.Choice.{pick, between}
 use Rattle.scope.specs.Number.{number}
 use Rattle.scope.specs.Iterate.{Next, go, stop, onward, run, iterate}
 use Rattle.scope.specs.Item.{Kind, plain, array, other, Value, numbersAt, elementsAt, countedAt, arrayAt, valueOf, kindOf}
-use Rattle.scope.specs.Item.{Attribute, Pair, numbered, numberAt, pairOf, pairAt, Scan, Walk, endedWith, onPair, scanItem, scanStep, scanFrom, scanAt, spaces, after}
-use Rattle.scope.specs.Table.{Rule, Ruled, Form, each, one, line, Row, Line, table, lineIn, ruleIn}
+use Rattle.scope.specs.Item.{Attribute, Pair, numbered, numberAt, pairOf, pairAt, Scan, Walk, endedWith, onPair, scanItem, scanStep, scanFrom, scanAt, after}
+use Rattle.scope.specs.Table.{Rule, Ruled, Form, each, one, line, Row, Line, ruleIn}
 use Rattle.scope.specs.Attributes.{Fault, fine, bad, has, typeTaken, inRange, attributeCode, oneByOne, allThere, howMany, choiceCode, pairCode, formCode}
-use Rattle.scope.specs.Data.{Due, Found, dueOf, blockOf, blockAt}
+use Rattle.scope.specs.Data.{Due, Found, blockOf, blockAt}
 use Rattle.scope.specs.Order.{mayCome, imageOf, rowsFit}
 use Rattle.scope.specs.Reading.{Context, Operator, Read, withBlock, withData, asWhole, withAttributes, withLine, scanned, operatorAt}
 

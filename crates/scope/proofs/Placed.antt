@@ -1,26 +1,25 @@
 -- Every refusal has its place within the bytes, or right behind them; a motif's too.
 -- Assumes nothing.
-use Prim.Native.Nat.{ℕ, zero, suc, _+_, _-_, _*_, _≤_, _<_}
+use Prim.Native.Nat.{ℕ, suc, _+_, _-_, _*_, _≤_, _<_}
 use mathlib.Core.Path.{_≡_, refl, subst}
-use mathlib.Core.Bool.{Bool, true, false, not, _&&_, _||_}
+use mathlib.Core.Bool.{Bool, true, false, not, _&&_}
 use mathlib.Core.List.{List, [], _∷_, _++_}
 use native.Mathlib.Omega.{arith}
 use borrow.Author.Tests.{leb-true, leb-false}
 use lib.ListN.{length, getD}
 use lib.Dec.{ltb, leb, eqb}
 use native.Mathlib.Nat.{zero-add}
-use Rattle.scope.specs.Choice.{pick, between}
+use Rattle.scope.specs.Choice.{between}
 use Rattle.scope.specs.Number.{number}
-use Rattle.scope.specs.Iterate.{Next, go, stop}
 use Rattle.scope.specs.Header.{Header, Form, ends, breaks, mayStand, formFrom, classed, headerOf}
 use Rattle.scope.specs.Item.{Kind, plain, array, other, Value, numbersAt, elementsAt, countedAt, arrayAt, valueOf, kindOf}
 use Rattle.scope.specs.Item.{Attribute, Pair, numbered, numberAt, pairOf, pairAt, Scan, Walk, endedWith, onPair, scanItem, scanStep, scanFrom, scanAt, after}
-use Rattle.scope.specs.Table.{Rule, Row, Line, table, lineIn, ruleIn}
-use Rattle.scope.specs.Attributes.{Fault, fine, bad, attributeCode, oneByOne, formCode}
-use Rattle.scope.specs.Data.{Due, Found, dueOf, blockOf, blockAt}
+use Rattle.scope.specs.Table.{Rule, Row, Line, ruleIn}
+use Rattle.scope.specs.Attributes.{Fault, fine, bad, attributeCode, oneByOne}
+use Rattle.scope.specs.Data.{Due, Found, blockOf, blockAt}
 use Rattle.scope.specs.Order.{mayCome, imageOf, rowsFit}
 use Rattle.scope.specs.Reading.{Context, Operator, Read, withBlock, withData, asWhole, withAttributes, withLine, scanned, operatorAt}
-use Rattle.scope.specs.Motif.{Own, Motif, Held, Inside, Picture, Judged, valid, faulty, heldAs, contextIn, onCall, onDeed, onEnd, onRead, motifStep, judgedInside, motifFrom, motifOf}
+use Rattle.scope.specs.Motif.{Own, Motif, Held, Inside, Picture, Judged, valid, faulty, contextIn, onCall, onDeed, onEnd, onRead, motifStep, judgedInside, motifFrom, motifOf}
 use Rattle.scope.proofs.Ends.{pick-all, Kept, kept-go, kept-stop, iterate-holds}
 
 -- attributes that stand within the bytes

@@ -1,15 +1,14 @@
 -- What is known of an operator that was read: its line of the table, its attributes one by one, and the rows of its image.
 -- Assumes nothing.
-use Prim.Native.Nat.{ℕ, suc, _<_}
+use Prim.Native.Nat.{ℕ}
 use mathlib.Core.Path.{_≡_, refl}
-use mathlib.Core.Bool.{Bool, true, false, not, _&&_}
+use mathlib.Core.Bool.{true, not, _&&_}
 use mathlib.Core.List.{List, []}
-use lib.ListN.{length}
 use lib.Dec.{eqb}
-use Rattle.scope.specs.Item.{Attribute, Scan, after, scanAt}
+use Rattle.scope.specs.Item.{Attribute, Scan, scanAt}
 use Rattle.scope.specs.Table.{Row, Line, table, lineIn}
-use Rattle.scope.specs.Attributes.{Fault, fine, bad, oneByOne, formCode}
-use Rattle.scope.specs.Data.{Due, Found, dueOf, blockAt}
+use Rattle.scope.specs.Attributes.{Fault, fine, bad, oneByOne}
+use Rattle.scope.specs.Data.{Due, Found}
 use Rattle.scope.specs.Order.{mayCome, imageOf, rowsFit}
 use Rattle.scope.specs.Reading.{Context, Operator, Read, withBlock, withData, asWhole, withAttributes, withLine, scanned, operatorAt}
 use Rattle.scope.proofs.Ends.{pick-all}

@@ -1,9 +1,9 @@
 -- 01, "the arm's state": the page, what an operator needs and does, and the plain arm, which performs a row of operators to its end, notes what it sees,
 -- and lets an operator that breaks a rule have its usual effect.
 -- Assumes nothing.
-use Prim.Native.Nat.{ℕ, zero, suc, _+_, max}
+use Prim.Native.Nat.{ℕ, suc, max}
 use mathlib.Core.Bool.{Bool, true, false, not, _&&_, _||_}
-use mathlib.Core.List.{List, [], _∷_, _++_}
+use mathlib.Core.List.{List, [], _∷_}
 use lib.ListN.{length}
 use lib.Dec.{eqb}
 use Rattle.scope.specs.Choice.{pick, among}

@@ -5,10 +5,10 @@ use mathlib.Core.List.{List, [], _∷_, _++_}
 use mathlib.Core.Bool.{Bool, true, false, not, _&&_, _||_}
 use lib.ListN.{take, drop}
 use lib.Dec.{ltb, leb, eqb}
-use Rattle.scope.specs.Choice.{pick, between, among}
+use Rattle.scope.specs.Choice.{pick, between}
 use Rattle.scope.specs.Number.{number}
 use Rattle.scope.specs.Item.{Attribute}
-use Rattle.scope.specs.Table.{Takes, E, N, P, B, A, D, M, Rule, Form, each, one, line, Row, Ruled, is, none, ruleIn}
+use Rattle.scope.specs.Table.{Takes, E, N, P, B, A, D, M, Rule, Form, each, one, line, Ruled, is, none, ruleIn}
 use Rattle.scope.specs.Names.{EndPoint, NumberOfPoints, PointType}
 
 -- an attribute of this number is among them

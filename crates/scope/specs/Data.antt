@@ -2,12 +2,12 @@
 -- Assumes nothing.
 use Prim.Native.Nat.{ℕ, _+_, _*_, _/_}
 use mathlib.Core.List.{List}
-use mathlib.Core.Bool.{Bool, true, false, _||_}
+use mathlib.Core.Bool.{Bool, _||_}
 use lib.ListN.{length, getD}
 use lib.Dec.{leb, eqb}
 use Rattle.scope.specs.Choice.{pick}
 use Rattle.scope.specs.Number.{number}
-use Rattle.scope.specs.Item.{Attribute, after}
+use Rattle.scope.specs.Item.{Attribute}
 use Rattle.scope.specs.Attributes.{has, valueIn}
 use Rattle.scope.specs.Names.{ReadStream, StreamDataLength, ReadImage, BlockHeight, LinePath, LineRelPath, NumberOfPoints, PointType}
 

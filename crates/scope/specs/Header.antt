@@ -1,10 +1,10 @@
 -- 01, "Header, items, values", first paragraph, and codes 3, 2, 4: the header of a job and of a motif.
 -- Assumes nothing.
-use Prim.Native.Nat.{ℕ, zero, suc, _-_}
+use Prim.Native.Nat.{ℕ, suc, _-_}
 use mathlib.Core.List.{List, [], _∷_}
 use mathlib.Core.Bool.{Bool, true, false, _&&_, _||_}
 use lib.ListN.{getD}
-use lib.Dec.{leb, ltb, eqb}
+use lib.Dec.{leb, eqb}
 use Rattle.scope.specs.Choice.{pick, between}
 
 -- `HP-PCL XL;`

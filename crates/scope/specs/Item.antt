@@ -1,7 +1,7 @@
 -- 01, "Header, items, values": white space, values, attribute numbers, and the pairs before an operator's tag. Codes 5, 6, 7, 8 and 27.
 -- A value, an attribute number, an operator's tag and embedded data are an item each; embedded data is in Data.antt.
 -- Assumes nothing.
-use Prim.Native.Nat.{ℕ, zero, suc, _+_, _-_, _*_}
+use Prim.Native.Nat.{ℕ, suc, _+_, _-_, _*_}
 use mathlib.Core.List.{List, [], _∷_, _++_}
 use mathlib.Core.Bool.{Bool, true, false, _||_}
 use lib.ListN.{length, getD, drop}

@@ -1,16 +1,16 @@
 -- Judging: operators to a verdict. 01, "Verdicts": the rules after reading, in their order, and the state after an operator.
 -- Assumes nothing.
-use Prim.Native.Nat.{ℕ, zero, suc, _+_, _-_, _*_}
+use Prim.Native.Nat.{ℕ, suc, _+_, _-_, _*_}
 use mathlib.Core.Bool.{Bool, true, false, not, _&&_, _||_}
-use mathlib.Core.List.{List, [], _∷_, _++_}
-use lib.ListN.{length, take, drop}
+use mathlib.Core.List.{List, [], _∷_}
+use lib.ListN.{length}
 use lib.Dec.{leb, ltb, eqb}
-use Rattle.scope.specs.Choice.{pick, among}
+use Rattle.scope.specs.Choice.{pick}
 use Rattle.scope.specs.Iterate.{Next, go, stop, iterate}
 use Rattle.scope.specs.Attributes.{bytesIn}
 use Rattle.scope.specs.Reading.{Context, Operator, Read, operatorAt}
 use Rattle.scope.specs.Arm.{Seen, walk, from}
-use Rattle.scope.specs.Motif.{Motif, Held, heldAs, isHeld, bytesHeld, Judged, valid, faulty, motifOf}
+use Rattle.scope.specs.Motif.{Motif, heldAs, isHeld, bytesHeld, Judged, valid, faulty, motifOf}
 use Rattle.scope.specs.Session.{Setting, Session, Place, outside, inside, sessionOf, phaseOf, pageOf, joinedOf, rowFor, placeAfter}
 use Rattle.scope.specs.Names.{EndStream, StreamName, BeginStream, ReadStream, ExecStream}
 

@@ -1,8 +1,8 @@
 -- 01, "Order of operators": which operator may come where. Code 10; and the part of 14 on images.
 -- Assumes nothing.
-use Prim.Native.Nat.{ℕ, zero, suc, _+_}
+use Prim.Native.Nat.{ℕ, _+_}
 use mathlib.Core.List.{List, [], _∷_}
-use mathlib.Core.Bool.{Bool, true, false, not, _&&_, _||_}
+use mathlib.Core.Bool.{Bool, true, _&&_, _||_}
 use lib.Dec.{leb, eqb}
 use Rattle.scope.specs.Choice.{pick, between, among}
 use Rattle.scope.specs.Item.{Attribute}

@@ -2,7 +2,7 @@
 -- Codes 5 to 18 and 27, in the order of 01, "Order".
 -- Assumes nothing.
 use Prim.Native.Nat.{ℕ, suc, _+_}
-use mathlib.Core.List.{List, [], _∷_}
+use mathlib.Core.List.{List, []}
 use mathlib.Core.Bool.{Bool, true, false, not, _&&_}
 use lib.Dec.{eqb}
 use Rattle.scope.specs.Choice.{pick}

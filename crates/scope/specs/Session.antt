@@ -11,7 +11,7 @@ use Rattle.scope.specs.Choice.{pick}
 use Rattle.scope.specs.Attributes.{bytesIn}
 use Rattle.scope.specs.Order.{Phase, between-sessions, in-session, in-stream, in-page, in-image}
 use Rattle.scope.specs.Reading.{Operator}
-use Rattle.scope.specs.Arm.{Act, Page, blank, idle, actOf, Stroke}
+use Rattle.scope.specs.Arm.{Page, blank, idle, actOf, Stroke}
 use Rattle.scope.specs.Motif.{Motif, unfolded, Picture, pictureAfter, Judged, valid, faulty, motifOf}
 use Rattle.scope.specs.Names.{ExecStream, StreamName, OpenDataSource, CloseDataSource, BeginPage, BeginStream, ReadStream, EndPage, EndSession}
 

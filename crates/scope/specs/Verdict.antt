@@ -1,10 +1,10 @@
 -- 01, "Verdicts", "The list" and the buffers afterwards.
 -- Assumes nothing.
-use Prim.Native.Nat.{ℕ, zero, suc, _+_, _*_, _/_, _%_}
-use mathlib.Core.Bool.{Bool, true, false, not}
+use Prim.Native.Nat.{ℕ, _+_, _/_, _%_}
+use mathlib.Core.Bool.{Bool, true, not}
 use mathlib.Core.List.{List, [], _∷_, _++_}
 use lib.ListN.{length, drop, replicate}
-use lib.Dec.{ltb, eqb}
+use lib.Dec.{ltb}
 use Rattle.scope.specs.Choice.{pick, among}
 use Rattle.scope.specs.Header.{Header, headerOf}
 use Rattle.scope.specs.Item.{Attribute}

@@ -1,11 +1,12 @@
 // What a refusal is about.
 use crate::missing::missing;
+use names::attributes::STREAM_NAME;
+use number::byte_at;
 use trail::COUNT;
 use trail::HEIGHT;
 use trail::ROWS;
 use trail::SAVED;
 use trail::TAG;
-use number::byte_at;
 
 // The place and its byte; of the value there its attribute's number, count of numbers and place of the first; the operator's tag, the
 // attribute that it lacks, the data that it asks for and that is told; the name that it gives; states saved, rows read and all rows.
@@ -51,7 +52,7 @@ pub fn facts_in(s: &[u8], at: usize, attrs: &[usize; 80], st: &[usize; 16]) -> F
     let n = st[COUNT];
     let tag = (st[TAG] % 256) as u8;
     let i = index_of(attrs, n, at);
-    let part = rules::part_in(attrs, n, 139);
+    let part = attributes::part_in(attrs, n, STREAM_NAME);
     Facts {
         at: small(at),
         byte: byte_at(s, at),

@@ -1,12 +1,12 @@
 // The attribute that an operator lacks.
-use rules::Form;
+use table::Form;
 
 // Attribute i of a line, if it is one of the first so many, which must be there, and is not; else what was found so far.
 fn lacks(attrs: &[usize; 80], n: usize, many: usize, i: usize, number: u8, so_far: usize) -> usize {
     if many <= i {
         return so_far;
     }
-    if rules::has(attrs, n, number) {
+    if attributes::has(attrs, n, number) {
         return so_far;
     }
     number as usize
@@ -25,7 +25,7 @@ fn each(attrs: &[usize; 80], n: usize, many: usize, numbers: [u8; 8]) -> usize {
 
 // The first attribute that the operator of a tag must have and has not; 0 if it has a choice.
 pub fn missing(tag: u8, attrs: &[usize; 80], n: usize) -> usize {
-    let row = rules::row_of(tag);
+    let row = table::row_of(tag);
     let form = row.form;
     let numbers = row.numbers;
     match form {

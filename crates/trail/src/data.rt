@@ -5,6 +5,10 @@ use crate::walk::COUNT;
 use crate::walk::PLACE;
 use crate::walk::TAG;
 use crate::walk::on;
+use names::attributes::BLOCK_HEIGHT;
+use names::attributes::NUMBER_OF_POINTS;
+use names::attributes::POINT_TYPE;
+use names::attributes::STREAM_DATA_LENGTH;
 use number::Width;
 use number::byte_at;
 use number::number_at;
@@ -55,13 +59,16 @@ fn points(kind: u32, many: usize) -> usize {
 pub fn asked(s: &[u8], high: bool, attrs: &[usize; 80], st: &[usize; 16]) -> usize {
     let n = st[COUNT];
     if st[TAG] == 0x5c {
-        return rules::value_in(s, high, attrs, n, 140) as usize;
+        return attributes::value_in(s, high, attrs, n, STREAM_DATA_LENGTH) as usize;
     }
     if st[TAG] == 0xb1 {
-        let rows = rules::value_in(s, high, attrs, n, 99) as usize;
+        let rows = attributes::value_in(s, high, attrs, n, BLOCK_HEIGHT) as usize;
         let row = order::row_of((st[WIDTH] % 65_536) as u16, (st[DEPTH] % 65_536) as u16);
         return times(rows, row);
     }
-    let kind = rules::value_in(s, high, attrs, n, 80);
-    points(kind, rules::value_in(s, high, attrs, n, 77) as usize)
+    let kind = attributes::value_in(s, high, attrs, n, POINT_TYPE);
+    points(
+        kind,
+        attributes::value_in(s, high, attrs, n, NUMBER_OF_POINTS) as usize,
+    )
 }

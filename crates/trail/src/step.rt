@@ -1,4 +1,8 @@
 // How matters stand, as numbers in a row: where the job is, and what is open.
+use names::attributes::BLOCK_HEIGHT;
+use names::attributes::COLOR_DEPTH;
+use names::attributes::SOURCE_HEIGHT;
+use names::attributes::SOURCE_WIDTH;
 
 // Between sessions, in a session, in a motif's definition, in a page, in an image.
 pub const PHASE: usize = 0;
@@ -32,15 +36,15 @@ pub const ROWS: usize = 6;
 pub const MOTIF: usize = 7;
 
 fn value(s: &[u8], high: bool, attrs: &[usize; 80], n: usize, number: u8) -> usize {
-    rules::value_in(s, high, attrs, n, number) as usize
+    attributes::value_in(s, high, attrs, n, number) as usize
 }
 
 // BeginImage.
 fn begin_image(s: &[u8], high: bool, attrs: &[usize; 80], n: usize, st: &mut [usize; 16]) {
     st[PHASE] = IMAGE;
-    st[WIDTH] = value(s, high, attrs, n, 108);
-    st[DEPTH] = value(s, high, attrs, n, 98);
-    st[HEIGHT] = value(s, high, attrs, n, 107);
+    st[WIDTH] = value(s, high, attrs, n, SOURCE_WIDTH);
+    st[DEPTH] = value(s, high, attrs, n, COLOR_DEPTH);
+    st[HEIGHT] = value(s, high, attrs, n, SOURCE_HEIGHT);
     st[ROWS] = 0;
 }
 
@@ -73,7 +77,7 @@ pub fn step(s: &[u8], high: bool, tag: u8, attrs: &[usize; 80], n: usize, st: &m
         0x60 => st[SAVED] = less(st[SAVED]),
         0x61 => st[SAVED] = more(st[SAVED], 1),
         0xb0 => begin_image(s, high, attrs, n, st),
-        0xb1 => st[ROWS] = more(st[ROWS], value(s, high, attrs, n, 99)),
+        0xb1 => st[ROWS] = more(st[ROWS], value(s, high, attrs, n, BLOCK_HEIGHT)),
         0xb2 => st[PHASE] = PAGE,
         _ => {}
     }

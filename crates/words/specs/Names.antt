@@ -3,7 +3,7 @@
 use Prim.Native.Nat.{ℕ}
 use Rattle.scope.specs.Names as names
 use Rattle.scope.specs.Table.{table, Line, lineIn, Ruled, ruleIn}
-use Rattle.rules.specs.Lines.{rulesIn}
+use Rattle.table.specs.Lines.{rulesIn}
 use Rattle.words.specs.declared.called.OperatorName.{OperatorName}
 use Rattle.words.specs.declared.called.OperatorName.the-variants as operator-is
 use Rattle.words.specs.declared.called.AttributeName.{AttributeName}

@@ -3,7 +3,7 @@
 use mathlib.Core.Path.{_≡_, sym, _∙_}
 use borrow.Author.Tests.{not-true, not-false}
 use Rattle.scope.specs.Table.{table, lineIn}
-use Rattle.rules.specs.Lines.{isLine}
+use Rattle.table.specs.Lines.{isLine}
 use Rattle.rules.proofs.Briefs.{line-known}
 use Rattle.reader.specs.Reads.{lineAt}
 use borrow.Author.Needs.{needs}

@@ -1,13 +1,11 @@
 -- `rules::judge::as_usual` meets its contract: by how many attributes there are.
 -- Assumes nothing.
-use mathlib.Core.Path.{_≡_, sym, _∙_}
+use mathlib.Core.Path.{sym, _∙_}
 use borrow.Author.Tests.{eq-eqb, ne-eqb}
 use Rattle.rules.proofs.Faults.{usual-one, usual-two, usual-not}
 use borrow.Author.Needs.{needs}
 use Rattle.rules.proofs.judge.as_usual.Statement.{statement}
 use Rattle.rules.proofs.judge.as_usual.Tie as tie
-use Rattle.rules.proofs.judge.as_usual.Reads as reads
-use Rattle.rules.proofs.judge.as_usual.Lts as lts
 
 element-copy-out-result : tie.Need-element-copy-out-result
 element-copy-out-result c = search needs

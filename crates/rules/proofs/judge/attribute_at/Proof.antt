@@ -4,8 +4,6 @@ use Rattle.items.specs.Rows.{rowAt}
 use borrow.Author.Needs.{needs}
 use Rattle.rules.proofs.judge.attribute_at.Statement.{statement}
 use Rattle.rules.proofs.judge.attribute_at.Tie as tie
-use Rattle.rules.proofs.judge.attribute_at.Reads as reads
-use Rattle.rules.proofs.judge.attribute_at.Lts as lts
 
 mul-t3 : tie.Need-mul-t3
 mul-t3 c = search needs

@@ -1,26 +1,18 @@
 -- `rules::judge::attribute_code` meets its contract: 11, 12, 15, 16 in this order.
 -- Assumes nothing.
 use Prim.Native.Nat.{ℕ}
-use mathlib.Core.Path.{_≡_, refl, sym, ap, _∙_}
+use mathlib.Core.Path.{_≡_, sym, ap, _∙_}
 use mathlib.Core.Bool.{true, false}
 use borrow.Author.Tests.{not-true, not-false}
 use Rattle.scope.specs.Choice.{among}
-use Rattle.items.specs.Rows.{rowAt, rowsOf}
-use Rattle.rules.specs.Lines.{upToNo, takesOf, ruleOf}
+use Rattle.items.specs.Rows.{rowsOf}
+use Rattle.table.specs.Lines.{upToNo, takesOf, ruleOf}
 use Rattle.rules.specs.Judging.{attributeAs}
 use Rattle.rules.proofs.Numbered.{listed-none, listed-is}
 use Rattle.rules.proofs.Faults.{code-11, code-12, code-15, code-16}
 use borrow.Author.Needs.{needs}
 use Rattle.rules.proofs.judge.attribute_code.Statement.{statement}
 use Rattle.rules.proofs.judge.attribute_code.Tie as tie
-use Rattle.rules.proofs.judge.attribute_code.Reads as reads
-use Rattle.rules.proofs.judge.attribute_code.Lts as lts
-use Rattle.rules.proofs.attributes.is_given.Reads as is-given-reads
-use Rattle.rules.proofs.judge.attribute_at.Reads as attribute-at-reads
-use Rattle.rules.proofs.line.listed.Reads as listed-reads
-use Rattle.rules.proofs.table.rule_of.Reads as rule-of-reads
-use Rattle.rules.proofs.value.in_range.Reads as in-range-reads
-use Rattle.rules.proofs.value.type_taken.Reads as type-taken-reads
 
 attribute-at-requires : tie.Need-attribute-at-requires
 attribute-at-requires c κs = search needs

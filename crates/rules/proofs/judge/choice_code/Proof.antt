@@ -2,11 +2,8 @@
 -- Assumes nothing.
 use borrow.Author.Tests.{eq-eqb, ne-eqb}
 use Rattle.scope.specs.Attributes.{choiceCode}
-use borrow.Author.Needs.{needs}
 use Rattle.rules.proofs.judge.choice_code.Statement.{statement}
 use Rattle.rules.proofs.judge.choice_code.Tie as tie
-use Rattle.rules.proofs.judge.choice_code.Reads as reads
-use Rattle.rules.proofs.judge.choice_code.Lts as lts
 
 returns : tie.Need-returns
 unfolding choiceCode

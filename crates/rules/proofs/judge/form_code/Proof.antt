@@ -1,23 +1,17 @@
 -- `rules::judge::form_code` meets its contract: an arm for each form.
 -- Assumes nothing.
-use mathlib.Core.Path.{_≡_, refl, sym, ap, _∙_}
+use mathlib.Core.Path.{_≡_, sym, ap, _∙_}
 use mathlib.Core.Bool.{false≢true}
 use mathlib.Core.List.{List}
 use Rattle.scope.specs.Table.{Rule}
 use Rattle.scope.specs.Attributes.{allThere, formCode}
 use Rattle.items.specs.Rows.{rowsOf, Sized}
-use Rattle.rules.specs.Lines.{isKnown, mustAs}
+use Rattle.table.specs.Lines.{isKnown, mustAs}
 use Rattle.rules.specs.Judging.{Stands, Led}
 use Rattle.rules.proofs.Faults.{stands-all, stands-many}
 use borrow.Author.Needs.{needs}
 use Rattle.rules.proofs.judge.form_code.Statement.{statement}
 use Rattle.rules.proofs.judge.form_code.Tie as tie
-use Rattle.rules.proofs.judge.form_code.Reads as reads
-use Rattle.rules.proofs.judge.form_code.Lts as lts
-use Rattle.rules.proofs.judge.choice_code.Reads as choice-code-reads
-use Rattle.rules.proofs.judge.line_code.Reads as line-code-reads
-use Rattle.rules.proofs.line.all_there.Reads as all-there-reads
-use Rattle.rules.proofs.line.how_many.Reads as how-many-reads
 
 enum-known-form : tie.Need-enum-known-form
 enum-known-form c = search needs

@@ -1,16 +1,11 @@
 -- `rules::judge::line_code` meets its contract: what is as usual is fine, and the rest goes by what is there.
 -- Assumes nothing.
-use mathlib.Core.Path.{_≡_, sym, _∙_}
+use mathlib.Core.Path.{sym, _∙_}
 use Rattle.items.specs.Rows.{rowsOf}
 use Rattle.rules.proofs.Faults.{usual-fine}
 use borrow.Author.Needs.{needs}
 use Rattle.rules.proofs.judge.line_code.Statement.{statement}
 use Rattle.rules.proofs.judge.line_code.Tie as tie
-use Rattle.rules.proofs.judge.line_code.Reads as reads
-use Rattle.rules.proofs.judge.line_code.Lts as lts
-use Rattle.rules.proofs.attributes.has.Reads as has-reads
-use Rattle.rules.proofs.judge.as_usual.Reads as as-usual-reads
-use Rattle.rules.proofs.judge.pair_code.Reads as pair-code-reads
 
 as-usual-requires : tie.Need-as-usual-requires
 as-usual-requires c κs = search needs

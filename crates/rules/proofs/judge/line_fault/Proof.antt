@@ -1,6 +1,6 @@
 -- `line_fault`: attribute by attribute, then as a whole, by the numbers of a line that the table has.
 -- Assumes nothing.
-use mathlib.Core.Path.{_≡_, refl, sym, ap, _∙_}
+use mathlib.Core.Path.{sym, ap, _∙_}
 use Rattle.scope.specs.Table.{table, lineIn}
 use Rattle.items.specs.Rows.{rowsOf}
 use Rattle.rules.specs.Judging.{faultAs}
@@ -9,11 +9,6 @@ use Rattle.rules.proofs.Faults.{fault-one, fault-whole}
 use borrow.Author.Needs.{needs}
 use Rattle.rules.proofs.judge.line_fault.Statement.{statement}
 use Rattle.rules.proofs.judge.line_fault.Tie as tie
-use Rattle.rules.proofs.judge.line_fault.Reads as reads
-use Rattle.rules.proofs.judge.line_fault.Lts as lts
-use Rattle.rules.proofs.judge.form_code.Reads as form-code-reads
-use Rattle.rules.proofs.judge.one_by_one.Reads as one-by-one-reads
-use Rattle.rules.proofs.judge.whole.Reads as whole-reads
 
 one-by-one-requires : tie.Need-one-by-one-requires
 one-by-one-requires c κs = search needs

@@ -1,25 +1,19 @@
 -- `rules::judge::one_by_one` meets its contract: the loop goes attribute by attribute.
 -- Assumes nothing.
-use Prim.Native.Nat.{ℕ, _+_, _-_, _≤_, _<_}
-use mathlib.Core.Path.{_≡_, refl, sym, ap, _∙_}
+use Prim.Native.Nat.{_-_, _≤_}
+use mathlib.Core.Path.{_≡_, sym, ap, _∙_}
 use mathlib.Core.List.{List, []}
 use native.Mathlib.Omega.{arith}
 use lib.ListN.{length}
-use lib.Dec.{eqb}
 use borrow.Author.Tests.{eq-eqb, ne-eqb}
-use Rattle.scope.specs.Choice.{pick}
 use Rattle.scope.specs.Table.{Rule}
-use Rattle.scope.specs.Attributes.{bad, oneByOne, attributeCode}
+use Rattle.scope.specs.Attributes.{oneByOne, attributeCode}
 use Rattle.items.specs.Rows.{rowAt, rowsFrom, rowsOf, Sized}
 use Rattle.rules.specs.Judging.{Stands}
 use Rattle.rules.proofs.Faults.{stands-ruled, one-more, one-end}
 use borrow.Author.Needs.{needs}
 use Rattle.rules.proofs.judge.one_by_one.Statement.{statement}
 use Rattle.rules.proofs.judge.one_by_one.Tie as tie
-use Rattle.rules.proofs.judge.one_by_one.Reads as reads
-use Rattle.rules.proofs.judge.one_by_one.Lts as lts
-use Rattle.rules.proofs.attributes.at_most.Reads as at-most-reads
-use Rattle.rules.proofs.judge.attribute_code.Reads as attribute-code-reads
 
 abbrev Inv-loop : tie.InvT-loop
 Inv-loop s high numbers attrs n end i₀ i =

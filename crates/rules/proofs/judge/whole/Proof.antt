@@ -1,11 +1,8 @@
 -- `rules::judge::whole` meets its contract: the test of the definition.
 -- Assumes nothing.
 use borrow.Author.Tests.{eq-eqb, ne-eqb}
-use borrow.Author.Needs.{needs}
 use Rattle.rules.proofs.judge.whole.Statement.{statement}
 use Rattle.rules.proofs.judge.whole.Tie as tie
-use Rattle.rules.proofs.judge.whole.Reads as reads
-use Rattle.rules.proofs.judge.whole.Lts as lts
 
 returns : tie.Need-returns
 returns c = rw (eq-eqb _ _ (c .if1 .taken))

@@ -1,7 +1,7 @@
 -- `rules::line::all_there` meets its contract: the loop goes number by number.
 -- Assumes nothing.
-use Prim.Native.Nat.{ℕ, _+_, _-_, _≤_, _<_}
-use mathlib.Core.Path.{_≡_, refl, sym, ap, _∙_}
+use Prim.Native.Nat.{_+_, _-_, _≤_}
+use mathlib.Core.Path.{_≡_, sym, _∙_}
 use mathlib.Core.Bool.{Bool, true, false}
 use native.Mathlib.Omega.{arith}
 use lib.ListN.{length, take, drop}
@@ -13,10 +13,6 @@ use Rattle.rules.proofs.Numbered.{all-step, all-end}
 use borrow.Author.Needs.{needs}
 use Rattle.rules.proofs.line.all_there.Statement.{statement}
 use Rattle.rules.proofs.line.all_there.Tie as tie
-use Rattle.rules.proofs.line.all_there.Reads as reads
-use Rattle.rules.proofs.line.all_there.Lts as lts
-use Rattle.rules.proofs.line.there.Reads as there-reads
-use Rattle.rules.proofs.line.wide.Reads as wide-reads
 
 abbrev Inv-loop : tie.InvT-loop
 Inv-loop must attrs n numbers i₀ i =

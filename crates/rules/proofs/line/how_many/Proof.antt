@@ -1,13 +1,11 @@
 -- `rules::line::how_many` meets its contract: the loop goes number by number.
 -- Assumes nothing.
-use Prim.Native.Nat.{ℕ, _+_, _-_, _≤_, _<_}
-use mathlib.Core.Path.{_≡_, refl, sym, ap, _∙_}
-use mathlib.Core.List.{List}
+use Prim.Native.Nat.{_+_, _-_, _≤_}
+use mathlib.Core.Path.{_≡_, sym, ap, _∙_}
 use native.Mathlib.Omega.{arith}
 use lib.ListN.{length, drop}
-use borrow.Author.Tests.{eq-eqb, ne-eqb}
 use Rattle.items.specs.Rows.{rowsOf, Sized}
-use Rattle.rules.specs.Lines.{upToNo}
+use Rattle.table.specs.Lines.{upToNo}
 use native.Mathlib.Nat.{add-zero, zero-add}
 use Rattle.scope.specs.Choice.{pick}
 use Rattle.rules.specs.Judging.{manyIn}
@@ -15,11 +13,6 @@ use Rattle.rules.proofs.Numbered.{numbers-no, numbers-end, many-step, m
 use borrow.Author.Needs.{needs}
 use Rattle.rules.proofs.line.how_many.Statement.{statement}
 use Rattle.rules.proofs.line.how_many.Tie as tie
-use Rattle.rules.proofs.line.how_many.Reads as reads
-use Rattle.rules.proofs.line.how_many.Lts as lts
-use Rattle.rules.proofs.attributes.is_given.Reads as is-given-reads
-use Rattle.rules.proofs.line.one_if.Reads as one-if-reads
-use Rattle.rules.proofs.line.wide.Reads as wide-reads
 
 abbrev Inv-loop : tie.InvT-loop
 Inv-loop attrs n numbers many₀ i₀ many i =

@@ -1,21 +1,17 @@
 -- `rules::line::listed` meets its contract: the loop goes number by number, up to the one that is equal.
 -- Assumes nothing.
-use Prim.Native.Nat.{ℕ, _+_, _-_, _≤_, _<_}
-use mathlib.Core.Path.{_≡_, refl, sym, ap, _∙_}
-use mathlib.Core.List.{List}
+use Prim.Native.Nat.{_-_, _≤_}
+use mathlib.Core.Path.{_≡_, sym, ap, _∙_}
 use mathlib.Core.Bool.{true, false}
 use native.Mathlib.Omega.{arith}
 use lib.ListN.{length, drop}
 use borrow.Author.Tests.{eq-eqb, ne-eqb}
 use Rattle.scope.specs.Choice.{among}
-use Rattle.rules.specs.Lines.{upToNo}
+use Rattle.table.specs.Lines.{upToNo}
 use Rattle.rules.proofs.Numbered.{numbers-no, numbers-end, among-step}
 use borrow.Author.Needs.{needs}
 use Rattle.rules.proofs.line.listed.Statement.{statement}
 use Rattle.rules.proofs.line.listed.Tie as tie
-use Rattle.rules.proofs.line.listed.Reads as reads
-use Rattle.rules.proofs.line.listed.Lts as lts
-use Rattle.rules.proofs.line.wide.Reads as wide-reads
 
 abbrev Inv-loop : tie.InvT-loop
 Inv-loop number numbers i₀ i = (i ≤ 8) × (among (upToNo (drop i numbers)) number ≡ among (upToNo numbers) number)

@@ -1,13 +1,10 @@
 -- `there`: attribute i, or one that is found.
 -- Assumes nothing.
 use mathlib.Core.Path.{sym}
-use Rattle.rules.proofs.Rowed.{row-there}
+use Rattle.attributes.proofs.Rowed.{row-there}
 use borrow.Author.Needs.{needs}
 use Rattle.rules.proofs.line.there.Statement.{statement}
 use Rattle.rules.proofs.line.there.Tie as tie
-use Rattle.rules.proofs.line.there.Reads as reads
-use Rattle.rules.proofs.line.there.Lts as lts
-use Rattle.rules.proofs.attributes.is_given.Reads as is-given-reads
 
 mul-if2 : tie.Need-mul-if2
 mul-if2 c = search needs

@@ -1,12 +1,9 @@
 -- `rules::value::any_of` meets its contract: the first or either of the others.
 -- Assumes nothing.
-use borrow.Author.Tests.{lt-ltb, le-ltb, le-leb, lt-leb, eq-eqb, ne-eqb}
+use borrow.Author.Tests.{eq-eqb, ne-eqb}
 use borrow.Author.Needs.{needs}
 use Rattle.rules.proofs.value.any_of.Statement.{statement}
 use Rattle.rules.proofs.value.any_of.Tie as tie
-use Rattle.rules.proofs.value.any_of.Reads as reads
-use Rattle.rules.proofs.value.any_of.Lts as lts
-use Rattle.rules.proofs.value.either.Reads as either-reads
 
 returns : tie.Need-returns
 returns c = rw (eq-eqb _ _ (c .if1 .taken))

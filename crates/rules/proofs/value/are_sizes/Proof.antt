@@ -1,11 +1,9 @@
 -- `are_sizes`: an arm for each answer; what was read as a real is a number, so its bits can be asked for.
 -- Assumes nothing.
-use Rattle.rules.proofs.Halves.{sizes-whole, sizes-real, sizes-neither}
+use Rattle.attributes.proofs.Halves.{sizes-whole, sizes-real, sizes-neither}
 use borrow.Author.Needs.{needs}
 use Rattle.rules.proofs.value.are_sizes.Statement.{statement}
 use Rattle.rules.proofs.value.are_sizes.Tie as tie
-use Rattle.rules.proofs.value.both_above.Reads as both-above-reads
-use Rattle.rules.proofs.value.both_from.Reads as both-from-reads
 
 enum-known-numbers : tie.Need-enum-known-numbers
 enum-known-numbers c = search needs

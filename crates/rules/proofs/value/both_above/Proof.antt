@@ -5,7 +5,6 @@ use borrow.Author.Tests.{not-true, not-false}
 use borrow.Author.Needs.{needs}
 use Rattle.rules.proofs.value.both_above.Statement.{statement}
 use Rattle.rules.proofs.value.both_above.Tie as tie
-use Rattle.rules.proofs.value.is_above.Reads as is-above-reads
 
 is-above-requires : tie.Need-is-above-requires
 is-above-requires c κs = search needs

@@ -1,7 +1,6 @@
 -- `both_from`: the two tests of the definition.
 -- Assumes nothing.
-use borrow.Author.Tests.{lt-ltb, le-ltb, le-leb, lt-leb, eq-eqb, ne-eqb}
-use borrow.Author.Needs.{needs}
+use borrow.Author.Tests.{le-leb, lt-leb}
 use Rattle.rules.proofs.value.both_from.Statement.{statement}
 use Rattle.rules.proofs.value.both_from.Tie as tie
 

@@ -1,11 +1,8 @@
 -- `rules::value::either` meets its contract: the first or the second.
 -- Assumes nothing.
-use borrow.Author.Tests.{lt-ltb, le-ltb, le-leb, lt-leb, eq-eqb, ne-eqb}
-use borrow.Author.Needs.{needs}
+use borrow.Author.Tests.{eq-eqb, ne-eqb}
 use Rattle.rules.proofs.value.either.Statement.{statement}
 use Rattle.rules.proofs.value.either.Tie as tie
-use Rattle.rules.proofs.value.either.Reads as reads
-use Rattle.rules.proofs.value.either.Lts as lts
 
 returns : tie.Need-returns
 returns c = rw (eq-eqb _ _ (c .if1 .taken))

@@ -4,8 +4,6 @@ use Rattle.scope.specs.Attributes.{firstOf, twoAt}
 use borrow.Author.Needs.{needs}
 use Rattle.rules.proofs.value.first_number.Statement.{statement}
 use Rattle.rules.proofs.value.first_number.Tie as tie
-use Rattle.rules.proofs.attributes.numbers_at.Reads as numbers-at-reads
-use Rattle.rules.proofs.attributes.whole.Reads as whole-reads
 
 numbers-at-requires : tie.Need-numbers-at-requires
 numbers-at-requires c κs = search needs

@@ -4,14 +4,6 @@ use Rattle.scope.specs.Attributes.{inRange, twoAt}
 use borrow.Author.Needs.{needs}
 use Rattle.rules.proofs.value.in_range.Statement.{statement}
 use Rattle.rules.proofs.value.in_range.Tie as tie
-use Rattle.rules.proofs.value.in_range.Reads as reads
-use Rattle.rules.proofs.value.in_range.Lts as lts
-use Rattle.rules.proofs.attributes.numbers_at.Reads as numbers-at-reads
-use Rattle.rules.proofs.value.are_sizes.Reads as are-sizes-reads
-use Rattle.rules.proofs.value.is_point.Reads as is-point-reads
-use Rattle.rules.proofs.value.first_number.Reads as first-number-reads
-use Rattle.rules.proofs.value.media_size.Reads as media-size-reads
-use Rattle.rules.proofs.value.within.Reads as within-reads
 
 enum-told : tie.Need-enum-told
 enum-told c = search needs

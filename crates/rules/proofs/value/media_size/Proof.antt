@@ -1,12 +1,9 @@
 -- `rules::value::media_size` meets its contract: one range or the other.
 -- Assumes nothing.
-use mathlib.Core.Path.{_≡_, sym, _∙_}
+use mathlib.Core.Path.{sym, _∙_}
 use borrow.Author.Needs.{needs}
 use Rattle.rules.proofs.value.media_size.Statement.{statement}
 use Rattle.rules.proofs.value.media_size.Tie as tie
-use Rattle.rules.proofs.value.media_size.Reads as reads
-use Rattle.rules.proofs.value.media_size.Lts as lts
-use Rattle.rules.proofs.value.within.Reads as within-reads
 
 within-requires : tie.Need-within-requires
 within-requires c κs = search needs

@@ -1,10 +1,9 @@
 -- `point_type`: the first or any of the others.
 -- Assumes nothing.
-use borrow.Author.Tests.{lt-ltb, le-ltb, le-leb, lt-leb, eq-eqb, ne-eqb}
+use borrow.Author.Tests.{eq-eqb, ne-eqb}
 use borrow.Author.Needs.{needs}
 use Rattle.rules.proofs.value.point_type.Statement.{statement}
 use Rattle.rules.proofs.value.point_type.Tie as tie
-use Rattle.rules.proofs.value.any_of.Reads as any-of-reads
 
 returns : tie.Need-returns
 returns c = rw (eq-eqb _ _ (c .if1 .taken))

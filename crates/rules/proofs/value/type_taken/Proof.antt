@@ -4,11 +4,6 @@ use Rattle.scope.specs.Attributes.{typeTaken}
 use borrow.Author.Needs.{needs}
 use Rattle.rules.proofs.value.type_taken.Statement.{statement}
 use Rattle.rules.proofs.value.type_taken.Tie as tie
-use Rattle.rules.proofs.value.type_taken.Reads as reads
-use Rattle.rules.proofs.value.type_taken.Lts as lts
-use Rattle.rules.proofs.value.any_of.Reads as any-of-reads
-use Rattle.rules.proofs.value.either.Reads as either-reads
-use Rattle.rules.proofs.value.point_type.Reads as point-type-reads
 
 enum-told : tie.Need-enum-told
 enum-told c = search needs

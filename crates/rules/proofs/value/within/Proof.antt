@@ -1,11 +1,8 @@
 -- `rules::value::within` meets its contract: the two tests of the definition.
 -- Assumes nothing.
-use borrow.Author.Tests.{lt-ltb, le-ltb, le-leb, lt-leb, eq-eqb, ne-eqb}
-use borrow.Author.Needs.{needs}
+use borrow.Author.Tests.{le-leb, lt-leb}
 use Rattle.rules.proofs.value.within.Statement.{statement}
 use Rattle.rules.proofs.value.within.Tie as tie
-use Rattle.rules.proofs.value.within.Reads as reads
-use Rattle.rules.proofs.value.within.Lts as lts
 
 returns : tie.Need-returns
 returns c = rw (le-leb _ _ (c .if1 .taken))

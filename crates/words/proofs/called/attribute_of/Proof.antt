@@ -5,8 +5,8 @@ use mathlib.Core.Path.{refl}
 use mathlib.Core.List.{List, [], _∷_}
 use Rattle.scope.specs.Choice.{among}
 use Rattle.scope.specs.Table.{table, ruleIn}
-use Rattle.rules.specs.Lines.{numbersIn, rulesIn}
-use Rattle.rules.proofs.Keys.{within, no-rule}
+use Rattle.table.specs.Lines.{numbersIn, rulesIn}
+use Rattle.table.proofs.Keys.{within, no-rule}
 use Rattle.words.specs.Names.{attributeIn}
 use Rattle.words.proofs.called.attribute_of.Statement.{statement}
 use Rattle.words.proofs.called.attribute_of.Tie as tie

@@ -5,7 +5,7 @@ use mathlib.Core.Path.{refl}
 use mathlib.Core.List.{List, [], _∷_}
 use Rattle.scope.specs.Choice.{among}
 use Rattle.scope.specs.Table.{table, lineIn}
-use Rattle.rules.proofs.Keys.{within, opsIn, no-line}
+use Rattle.table.proofs.Keys.{within, opsIn, no-line}
 use Rattle.words.specs.Names.{operatorIn}
 use Rattle.words.proofs.called.operator_of.Statement.{statement}
 use Rattle.words.proofs.called.operator_of.Tie as tie

@@ -1,0 +1,242 @@
+// The operator table: a line for an operator, in the order of Appendix C of 000, and a line for each attribute.
+ghost use mathlib.Core.Path.{_≡_};
+ghost use mathlib.Core.List.{_∷_, []};
+ghost use Rattle.scope.specs.Table.{table, lineIn};
+ghost use Rattle.table.specs.Lines.{isKnown, rowWith, briefAs, briefOf, takesOf, ruleOf};
+ghost use Rattle.table.specs.declared.table.Form.the-variants.{Each, One, Line, Unknown};
+use names::attributes::SOURCE_HEIGHT as HEIGHT;
+use names::attributes::SOURCE_WIDTH as WIDTH;
+use names::attributes::*;
+use names::operators::*;
+
+// How an operator's attributes belong together: each by itself, of which the first so many must be there; exactly one
+// of them; or the first alone or both others.
+pub enum Form {
+    Each(usize),
+    One,
+    Line,
+    Unknown,
+}
+
+// An operator's line: how its attributes belong together, and their numbers.
+pub struct Row {
+    pub form: Form,
+    pub numbers: [u8; 8],
+}
+
+// No attribute.
+pub const NO: u8 = 0;
+
+// The values that an attribute takes: E a ubyte, N a ubyte or uint16, P a point, B a box, A an array of ubytes,
+// D two uint16 or reals, M MediaSize.
+pub enum Kind {
+    E,
+    N,
+    P,
+    B,
+    A,
+    D,
+    M,
+}
+
+// An attribute's values, the lowest and the highest.
+pub struct Rule {
+    pub kind: Kind,
+    pub low: usize,
+    pub high: usize,
+}
+
+// Takes no attribute.
+fn nothing() -> Row
+    ensures { λ r. ⌜ r ≡ rowWith (Each 0) [] ⌝ }
+{
+    Row {
+        form: Form::Each(0),
+        numbers: [NO, NO, NO, NO, NO, NO, NO, NO],
+    }
+}
+
+// Takes one, which must be there.
+fn needs(a: u8) -> Row
+    ensures { λ r. ⌜ r ≡ rowWith (Each 1) (a ∷ []) ⌝ }
+{
+    Row {
+        form: Form::Each(1),
+        numbers: [a, NO, NO, NO, NO, NO, NO, NO],
+    }
+}
+
+// Takes one, which may be missing.
+fn may(a: u8) -> Row
+    ensures { λ r. ⌜ r ≡ rowWith (Each 0) (a ∷ []) ⌝ }
+{
+    Row {
+        form: Form::Each(0),
+        numbers: [a, NO, NO, NO, NO, NO, NO, NO],
+    }
+}
+
+// Takes two, which must be there.
+fn needs_two(a: u8, b: u8) -> Row
+    ensures { λ r. ⌜ r ≡ rowWith (Each 2) (a ∷ b ∷ []) ⌝ }
+{
+    Row {
+        form: Form::Each(2),
+        numbers: [a, b, NO, NO, NO, NO, NO, NO],
+    }
+}
+
+// Takes two, which must be there, and one that may be missing.
+fn needs_two_may(a: u8, b: u8, c: u8) -> Row
+    ensures { λ r. ⌜ r ≡ rowWith (Each 2) (a ∷ b ∷ c ∷ []) ⌝ }
+{
+    Row {
+        form: Form::Each(2),
+        numbers: [a, b, c, NO, NO, NO, NO, NO],
+    }
+}
+
+// Takes three, which must be there.
+fn needs_three(a: u8, b: u8, c: u8) -> Row
+    ensures { λ r. ⌜ r ≡ rowWith (Each 3) (a ∷ b ∷ c ∷ []) ⌝ }
+{
+    Row {
+        form: Form::Each(3),
+        numbers: [a, b, c, NO, NO, NO, NO, NO],
+    }
+}
+
+// Takes five, which must be there.
+fn needs_five(a: u8, b: u8, c: u8, d: u8, e: u8) -> Row
+    ensures { λ r. ⌜ r ≡ rowWith (Each 5) (a ∷ b ∷ c ∷ d ∷ e ∷ []) ⌝ }
+{
+    Row {
+        form: Form::Each(5),
+        numbers: [a, b, c, d, e, NO, NO, NO],
+    }
+}
+
+// Takes exactly one of three.
+fn one_of(a: u8, b: u8, c: u8) -> Row
+    ensures { λ r. ⌜ r ≡ rowWith One (a ∷ b ∷ c ∷ []) ⌝ }
+{
+    Row {
+        form: Form::One,
+        numbers: [a, b, c, NO, NO, NO, NO, NO],
+    }
+}
+
+// Takes the first alone, or both others.
+fn one_or_both(a: u8, b: u8, c: u8) -> Row
+    ensures { λ r. ⌜ r ≡ rowWith Line (a ∷ b ∷ c ∷ []) ⌝ }
+{
+    Row {
+        form: Form::Line,
+        numbers: [a, b, c, NO, NO, NO, NO, NO],
+    }
+}
+
+// No operator of the table.
+fn unknown() -> Row
+    ensures { λ r. ⌜ r ≡ rowWith Unknown [] ⌝ }
+{
+    Row {
+        form: Form::Unknown,
+        numbers: [NO, NO, NO, NO, NO, NO, NO, NO],
+    }
+}
+
+// What attributes an operator takes: one line for one operator.
+pub fn row_of(tag: u8) -> Row
+    ensures { λ r. ⌜ briefAs r ≡ briefOf (lineIn table tag) ⌝ }
+{
+    match tag {
+        BEGIN_IMAGE => needs_five(COLOR_MAPPING, COLOR_DEPTH, WIDTH, HEIGHT, DESTINATION_SIZE),
+        BEGIN_PAGE => needs_two_may(ORIENTATION, MEDIA_SIZE, MEDIA_SOURCE),
+        BEGIN_SESSION => needs_two_may(MEASURE, UNITS_PER_MEASURE, ERROR_REPORT),
+        BEGIN_STREAM => needs(STREAM_NAME),
+        CLOSE_DATA_SOURCE => nothing(),
+        CLOSE_SUB_PATH => nothing(),
+        COMMENT => may(COMMENT_DATA),
+        END_IMAGE => nothing(),
+        END_PAGE => may(PAGE_COPIES),
+        END_SESSION => nothing(),
+        END_STREAM => nothing(),
+        EXEC_STREAM => needs(STREAM_NAME),
+        LINE_PATH => one_or_both(END_POINT, NUMBER_OF_POINTS, POINT_TYPE),
+        LINE_REL_PATH => one_or_both(END_POINT, NUMBER_OF_POINTS, POINT_TYPE),
+        NEW_PATH => nothing(),
+        OPEN_DATA_SOURCE => needs_two(SOURCE_TYPE, DATA_ORG),
+        PAINT_PATH => nothing(),
+        POP_GS => nothing(),
+        PUSH_GS => nothing(),
+        READ_IMAGE => needs_three(START_LINE, BLOCK_HEIGHT, COMPRESS_MODE),
+        READ_STREAM => needs(STREAM_DATA_LENGTH),
+        RECTANGLE => needs(BOUNDING_BOX),
+        SET_BRUSH_SOURCE => one_of(RGB_COLOR, GRAY_LEVEL, NULL_BRUSH),
+        SET_COLOR_SPACE => needs(COLOR_SPACE),
+        SET_CURSOR => needs(POINT),
+        SET_CURSOR_REL => needs(POINT),
+        SET_PEN_SOURCE => one_of(RGB_COLOR, GRAY_LEVEL, NULL_PEN),
+        SET_PEN_WIDTH => needs(PEN_WIDTH),
+        _ => unknown(),
+    }
+}
+
+fn takes(kind: Kind, low: usize, high: usize) -> Rule
+    ensures { λ r. ⌜ r ≡ record { kind = kind; low = low; high = high } ⌝ }
+{
+    Rule { kind, low, high }
+}
+
+// The values that an attribute takes, which are the same in every line that has it.
+pub fn rule_of(number: u8) -> Rule
+    ensures { λ r. ⌜ takesOf r ≡ ruleOf number .takes ⌝ }
+{
+    match number {
+        COLOR_SPACE => takes(Kind::E, 1, 2),
+        NULL_BRUSH => takes(Kind::E, 0, 0),
+        NULL_PEN => takes(Kind::E, 0, 0),
+        GRAY_LEVEL => takes(Kind::E, 0, 255),
+        RGB_COLOR => takes(Kind::A, 3, 3),
+        MEDIA_SIZE => takes(Kind::M, 0, 0),
+        MEDIA_SOURCE => takes(Kind::E, 0, 6),
+        ORIENTATION => takes(Kind::E, 0, 3),
+        PAGE_COPIES => takes(Kind::N, 1, 1),
+        BOUNDING_BOX => takes(Kind::B, 0, 0),
+        END_POINT => takes(Kind::P, 0, 0),
+        PEN_WIDTH => takes(Kind::N, 0, 65_535),
+        POINT => takes(Kind::P, 0, 0),
+        NUMBER_OF_POINTS => takes(Kind::N, 1, 65_535),
+        POINT_TYPE => takes(Kind::E, 0, 3),
+        COLOR_DEPTH => takes(Kind::E, 0, 2),
+        BLOCK_HEIGHT => takes(Kind::N, 1, 65_535),
+        COLOR_MAPPING => takes(Kind::E, 0, 0),
+        COMPRESS_MODE => takes(Kind::E, 0, 0),
+        DESTINATION_SIZE => takes(Kind::D, 1, 0),
+        HEIGHT => takes(Kind::N, 1, 65_535),
+        WIDTH => takes(Kind::N, 1, 65_535),
+        START_LINE => takes(Kind::N, 0, 65_535),
+        COMMENT_DATA => takes(Kind::A, 0, 1024),
+        DATA_ORG => takes(Kind::E, 0, 1),
+        MEASURE => takes(Kind::E, 0, 2),
+        SOURCE_TYPE => takes(Kind::E, 0, 0),
+        UNITS_PER_MEASURE => takes(Kind::D, 1, 0),
+        STREAM_NAME => takes(Kind::A, 1, 16),
+        STREAM_DATA_LENGTH => takes(Kind::N, 1, 65_535),
+        ERROR_REPORT => takes(Kind::E, 0, 3),
+        _ => takes(Kind::E, 1, 0),
+    }
+}
+
+// The form of a line that the table has.
+pub fn is_known(form: Form) -> bool
+    ensures { λ r. ⌜ r ≡ isKnown form ⌝ }
+{
+    match form {
+        Form::Each(_) => true,
+        Form::One => true,
+        Form::Line => true,
+        Form::Unknown => false,
+    }
+}
