@@ -2,6 +2,7 @@
 -- Assumes nothing.
 use Prim.Native.Nat.{ℕ, _+_, _*_, _≤_}
 use mathlib.Core.Path.{_≡_, sym, ap, _∙_, subst, subst₂, subst⁻¹}
+use mathlib.Core.Bool.{Bool}
 use mathlib.Core.List.{List}
 use lib.ListN.{length, drop}
 use native.Mathlib.Omega.{arith}
@@ -23,41 +24,41 @@ same-verdict v w e =
     λ i. record { code = e i .code; position = e i .position; inner = e i .inner; records = e i .records; performed = e i .performed }
 
 pub one-answer : OneAnswer
-one-answer job work list a b p q =
+one-answer gray job work list a b p q =
     let v = same-verdict (a .verdict) (b .verdict) (p .verdict ∙ sym (q .verdict)) in
     let w = p .worked ∙ sym (q .worked) in
     let l = p .listed ∙ sym (q .listed) in
     λ i. record { verdict = v i; work = w i; list = l i }
 
 pub place-of-check : PlaceInJob
-place-of-check job work list a p = subst⁻¹ (λ n. n ≤ length job) (ap (λ x. x .position) (p .verdict)) (verdict-placed job (length work) (length list))
+place-of-check gray job work list a p = subst⁻¹ (λ n. n ≤ length job) (ap (λ x. x .position) (p .verdict)) (verdict-placed gray job (length work) (length list))
 
 pub old-contents : OldContents
-old-contents job work list work′ list′ a b e f p q =
-    same-verdict (a .verdict) (b .verdict) (p .verdict ∙ (λ i. verdictOf job (e i) (f i)) ∙ sym (q .verdict))
+old-contents gray job work list work′ list′ a b e f p q =
+    same-verdict (a .verdict) (b .verdict) (p .verdict ∙ (λ i. verdictOf gray job (e i) (f i)) ∙ sym (q .verdict))
 
 pub no-motif-behind : NoMotifBehind
-no-motif-behind job work list a p h k = p .worked ∙ zeroed job work h k
+no-motif-behind gray job work list a p h k = p .worked ∙ zeroed job work h k
 
 pub work-carries-nothing : WorkCarriesNothing
-work-carries-nothing job other work list a b p q h k = p .worked ∙ no-motif-left job other work h k ∙ sym (q .worked)
+work-carries-nothing gray job other work list a b p q h k = p .worked ∙ no-motif-left job other work h k ∙ sym (q .worked)
 
 -- the records in the list of an answer are the list's bytes
-records-in : (job work list : List ℕ) (a : Answer) (m : ℕ) → Promised job work list a
-    → recordsFrom m (a .verdict .records) (a .list) ≡ recordsFrom m (verdictOf job (length work) (length list) .records) (listOf job (length work) (length list))
+records-in : (gray : Bool) (job work list : List ℕ) (a : Answer) (m : ℕ) → Promised gray job work list a
+    → recordsFrom m (a .verdict .records) (a .list) ≡ recordsFrom m (verdictOf gray job (length work) (length list) .records) (listOf gray job (length work) (length list))
 unfolding listAfter
-records-in job work list a m p =
-    let n = verdictOf job (length work) (length list) .records in
-    let l = listOf job (length work) (length list) in
-    let e = list-long job (length work) (length list) in
+records-in gray job work list a m p =
+    let n = verdictOf gray job (length work) (length list) .records in
+    let l = listOf gray job (length work) (length list) in
+    let e = list-long gray job (length work) (length list) in
     (λ i. recordsFrom m (p .verdict i .records) (p .listed i)) ∙ ap (drop (m * 16)) (take-at l (drop (length l) list) (n * 16) e ∙ sym (take-all (n * 16) l (omega arith)))
 
 pub isolated-of-check : SessionsIsolated
 unfolding verdictOf
-isolated-of-check job other work work′ list list′ a b high p q x y hj ho hw hx f g same goes cv cw =
+isolated-of-check gray job other work work′ list list′ a b high p q x y hj ho hw hx f g same goes cv cw =
     let v = x .verdict in
     let w = y .verdict in
-    let i = alike-same (isolated job other (length work) (length work′) (length list) (length list′) high p q hw hx hj ho f g same goes)
+    let i = alike-same (isolated gray job other (length work) (length work′) (length list) (length list′) high p q hw hx hj ho f g same goes)
     (ap (λ z. limit (z .code)) (sym v) ∙ cv) (ap (λ z. limit (z .code)) (sym w) ∙ cw) in
     record {
       code = ap (λ z. z .code) v ∙ i .code ∙ sym (ap (λ z. z .code) w);
@@ -65,19 +66,19 @@ isolated-of-check job other work work′ list list′ a b high p q x y hj ho hw 
       inner = ap (λ z. z .inner) v ∙ i .inner ∙ sym (ap (λ z. z .inner) w);
       records = ap (λ z. z .records + q .records) v ∙ i .records ∙ sym (ap (λ z. z .records + p .records) w);
       performed = ap (λ z. z .performed + q .performed) v ∙ i .performed ∙ sym (ap (λ z. z .performed + p .performed) w);
-      listed = subst₂ (RecordsMoved (p .at) (q .at)) (sym (records-in job work list a (p .records) x)) (sym (records-in other work′ list′ b (q .records) y))
-          (same-list job other (length work) (length work′) (length list) (length list′) high p q f g i);
+      listed = subst₂ (RecordsMoved (p .at) (q .at)) (sym (records-in gray job work list a (p .records) x)) (sym (records-in gray other work′ list′ b (q .records) y))
+          (same-list gray job other (length work) (length work′) (length list) (length list′) high p q f g i);
     }
 
 pub demand-3-of-check : PassesAsDrawn
-demand-3-of-check job work list a p h k r =
-    let d = demand-3 job (length work) (length list) h k r in
-    let c : a .verdict .code ≡ verdictOf job (length work) (length list) .code = ap (λ x. x .code) (p .verdict) in
-    let n : a .verdict .performed ≡ verdictOf job (length work) (length list) .performed = ap (λ x. x .performed) (p .verdict) in
+demand-3-of-check gray job work list a p h k r =
+    let d = demand-3 gray job (length work) (length list) h k r in
+    let c : a .verdict .code ≡ verdictOf gray job (length work) (length list) .code = ap (λ x. x .code) (p .verdict) in
+    let n : a .verdict .performed ≡ verdictOf gray job (length work) (length list) .performed = ap (λ x. x .performed) (p .verdict) in
     ((λ e. d .0 .0 (sym c ∙ e), λ e. c ∙ d .0 .1 e), λ e. n ∙ d .1 (sym c ∙ e))
 
 pub passes-of-check : PassesOnly
-passes-of-check job work list a p h =
-    let c : a .verdict .code ≡ verdictOf job (length work) (length list) .code = ap (λ x. x .code) (p .verdict) in
-    let d = passes-exactly job (length work) (length list) h in
+passes-of-check gray job work list a p h =
+    let c : a .verdict .code ≡ verdictOf gray job (length work) (length list) .code = ap (λ x. x .code) (p .verdict) in
+    let d = passes-exactly gray job (length work) (length list) h in
     (λ e. d .0 (sym c ∙ e), λ k. c ∙ d .1 k)

@@ -9,7 +9,7 @@ use lib.ListN.{length, drop}
 use Rattle.scope.specs.Header.{Header, headerOf}
 use Rattle.scope.specs.Judge.{Outcome, refusedAt, outer, starting, judgedFrom}
 use Rattle.scope.specs.Verdict as verdict
-use Rattle.scope.specs.Verdict.{startsGray, every, refused, admitted, entryOf, judgedAfter, outcomeAt, outcomeOf, verdictOf, listOf, listAfter, clearedBy, workAfter}
+use Rattle.scope.specs.Verdict.{every, refused, admitted, entryOf, judgedAfter, outcomeAt, outcomeOf, verdictOf, listOf, listAfter, clearedBy, workAfter}
 use Rattle.state.specs.Views.{verdictAs}
 use Rattle.state.specs.Standing.{Listed}
 use Rattle.state.specs.declared.verdict.Verdict.{Verdict}
@@ -33,49 +33,49 @@ unfolding verdict.recordsBefore
 unlisted list = record { is = refl }
 
 -- the list afterwards, from the operators that were listed
-list-is : (job list list₁ : List ℕ) (w : ℕ) (e : Outcome) → outcomeOf every job w (length list) ≡ e → Listed list (e .state .past) list₁ → list₁ ≡ listAfter job w list
+list-is : (gray : Bool) (job list list₁ : List ℕ) (w : ℕ) (e : Outcome) → outcomeOf gray every job w (length list) ≡ e → Listed list (e .state .past) list₁ → list₁ ≡ listAfter gray job w list
 unfolding listAfter listOf
-list-is job list list₁ w e q h =
+list-is gray job list list₁ w e q h =
     h .is ∙ sym (ap (λ x. verdict.recordsBefore (x .state .past) [] ++ drop (length (verdict.recordsBefore (x .state .past) [])) list) q)
 
-module _ (job work list : List ℕ) (v : Verdict) where
+module _ (gray : Bool) (job work list : List ℕ) (v : Verdict) where
   -- refused before the job is looked at
   pub early : (code position : ℕ) → entryOf (length job) (length work) ≡ refused code position → verdictAs v ≡ verdict.told (refusedAt code position outer (starting 0))
-      → Promised job work list (answer v work list)
+      → Promised gray job work list (answer v work list)
   unfolding verdictOf outcomeOf outcomeAt workAfter clearedBy
   early code position e f =
-      let o : outcomeOf every job (length work) (length list) ≡ refusedAt code position outer (starting 0) = rw e in
+      let o : outcomeOf gray every job (length work) (length list) ≡ refusedAt code position outer (starting 0) = rw e in
       record {
         verdict = f ∙ sym (ap verdict.told o);
-        listed = list-is job list list (length work) (refusedAt code position outer (starting 0)) o (unlisted list);
+        listed = list-is gray job list list (length work) (refusedAt code position outer (starting 0)) o (unlisted list);
         worked = rw e;
       }
 
   pub whole : (work₁ list₁ : List ℕ) → entryOf (length job) (length work) ≡ admitted
-      → verdictAs v ≡ verdict.told (judgedAfter every job (length list) (headerOf job))
-      → Listed list (judgedAfter every job (length list) (headerOf job) .state .past) list₁ → work₁ ≡ clearedBy admitted work → Promised job work list (answer v work₁ list₁)
+      → verdictAs v ≡ verdict.told (judgedAfter gray every job (length list) (headerOf job))
+      → Listed list (judgedAfter gray every job (length list) (headerOf job) .state .past) list₁ → work₁ ≡ clearedBy admitted work → Promised gray job work list (answer v work₁ list₁)
   unfolding verdictOf outcomeOf outcomeAt workAfter
   whole work₁ list₁ e f h k =
-      let o : outcomeOf every job (length work) (length list) ≡ judgedAfter every job (length list) (headerOf job) = rw e in
+      let o : outcomeOf gray every job (length work) (length list) ≡ judgedAfter gray every job (length list) (headerOf job) = rw e in
       record {
         verdict = f ∙ sym (ap verdict.told o);
-        listed = list-is job list list₁ (length work) (judgedAfter every job (length list) (headerOf job)) o h;
+        listed = list-is gray job list list₁ (length work) (judgedAfter gray every job (length list) (headerOf job)) o h;
         worked = k ∙ sym (ap (λ x. clearedBy x work) e);
       }
 
 -- the header decides
-pub header-no : (job list : List ℕ) (v : Verdict) (code place : ℕ) → Header.no code place ≡ headerOf job → verdictAs v ≡ verdict.told (refusedAt code place outer (starting 0))
-    → (verdictAs v ≡ verdict.told (judgedAfter every job (length list) (headerOf job))) × Listed list (judgedAfter every job (length list) (headerOf job) .state .past) list
+pub header-no : (gray : Bool) (job list : List ℕ) (v : Verdict) (code place : ℕ) → Header.no code place ≡ headerOf job → verdictAs v ≡ verdict.told (refusedAt code place outer (starting 0))
+    → (verdictAs v ≡ verdict.told (judgedAfter gray every job (length list) (headerOf job))) × Listed list (judgedAfter gray every job (length list) (headerOf job) .state .past) list
 unfolding judgedAfter
-header-no job list v code place e f =
-    let o : refusedAt code place outer (starting 0) ≡ judgedAfter every job (length list) (headerOf job) = rw (← e) in
+header-no gray job list v code place e f =
+    let o : refusedAt code place outer (starting 0) ≡ judgedAfter gray every job (length list) (headerOf job) = rw (← e) in
     (f ∙ ap verdict.told o, subst (λ x. Listed list (x .state .past) list) o (unlisted list))
 
-pub header-is : (job list list₁ : List ℕ) (v : Verdict) (high : Bool) (next : ℕ) → Header.is high next ≡ headerOf job
-    → (verdictAs v ≡ verdict.told (judgedFrom every (record { high = high; gray = startsGray }) job (length list) (starting next)))
-    × Listed list (judgedFrom every (record { high = high; gray = startsGray }) job (length list) (starting next) .state .past) list₁
-    → (verdictAs v ≡ verdict.told (judgedAfter every job (length list) (headerOf job))) × Listed list (judgedAfter every job (length list) (headerOf job) .state .past) list₁
+pub header-is : (gray : Bool) (job list list₁ : List ℕ) (v : Verdict) (high : Bool) (next : ℕ) → Header.is high next ≡ headerOf job
+    → (verdictAs v ≡ verdict.told (judgedFrom every (record { high = high; gray = gray }) job (length list) (starting next)))
+    × Listed list (judgedFrom every (record { high = high; gray = gray }) job (length list) (starting next) .state .past) list₁
+    → (verdictAs v ≡ verdict.told (judgedAfter gray every job (length list) (headerOf job))) × Listed list (judgedAfter gray every job (length list) (headerOf job) .state .past) list₁
 unfolding judgedAfter
-header-is job list list₁ v high next e f =
-    let o : judgedFrom every (record { high = high; gray = startsGray }) job (length list) (starting next) ≡ judgedAfter every job (length list) (headerOf job) = rw (← e) in
+header-is gray job list list₁ v high next e f =
+    let o : judgedFrom every (record { high = high; gray = gray }) job (length list) (starting next) ≡ judgedAfter gray every job (length list) (headerOf job) = rw (← e) in
     (f .0 ∙ ap verdict.told o, subst (λ x. Listed list (x .state .past) list₁) o (f .1))

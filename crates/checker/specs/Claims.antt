@@ -8,7 +8,7 @@ use mathlib.Core.List.{List, _++_}
 use lib.ListN.{length, drop}
 use Rattle.scope.specs.Item.{after}
 use Rattle.scope.specs.Judge.{State}
-use Rattle.scope.specs.Verdict.{startsGray, zeros, verdictOf, listAfter, workAfter}
+use Rattle.scope.specs.Verdict.{zeros, verdictOf, listAfter, workAfter}
 use Rattle.scope.specs.Plain.{unfoldingOf, comes, atStart}
 use Rattle.scope.specs.Claims.{Keeps, HasRoom, Between, limit, RecordsMoved, recordsFrom}
 use Rattle.state.specs.Views.{verdictAs}
@@ -25,34 +25,34 @@ abbrev pub answer : Verdict → (work list : List ℕ) → Answer
 answer v work list = record { verdict = v; work = work; list = list }
 
 -- what `check` promises of its answer to a job, where these buffers are lent: the contract in src/entry.rt
-pub record Promised (job work list : List ℕ) (a : Answer) : Type 0 where
-  pub verdict : verdictAs (a .verdict) ≡ verdictOf job (length work) (length list)
-  pub listed : a .list ≡ listAfter job (length work) list
+pub record Promised (gray : Bool) (job work list : List ℕ) (a : Answer) : Type 0 where
+  pub verdict : verdictAs (a .verdict) ≡ verdictOf gray job (length work) (length list)
+  pub listed : a .list ≡ listAfter gray job (length work) list
   pub worked : a .work ≡ workAfter job work
 
 -- demand 1: one answer only, in the verdict and in each byte of both buffers
 abbrev pub OneAnswer : Type 0
-OneAnswer = (job work list : List ℕ) (a b : Answer) → Promised job work list a → Promised job work list b → a ≡ b
+OneAnswer = (gray : Bool) (job work list : List ℕ) (a b : Answer) → Promised gray job work list a → Promised gray job work list b → a ≡ b
 
 -- demand 1: the position is a place of the job, or its end
 abbrev pub PlaceInJob : Type 0
-PlaceInJob = (job work list : List ℕ) (a : Answer) → Promised job work list a → a .verdict .position ≤ length job
+PlaceInJob = (gray : Bool) (job work list : List ℕ) (a : Answer) → Promised gray job work list a → a .verdict .position ≤ length job
 
 -- demand 1: what the buffers held before plays no part in the verdict, only their lengths do
 abbrev pub OldContents : Type 0
 OldContents =
-    (job work list work′ list′ : List ℕ) (a b : Answer) → length work ≡ length work′ → length list ≡ length list′ → Promised job work list a
-    → Promised job work′ list′ b → a .verdict ≡ b .verdict
+    (gray : Bool) (job work list work′ list′ : List ℕ) (a b : Answer) → length work ≡ length work′ → length list ≡ length list′ → Promised gray job work list a
+    → Promised gray job work′ list′ b → a .verdict ≡ b .verdict
 
 -- demand 1: no motif is left behind: afterwards the first 16,384 bytes of the work buffer are zero, and the rest is as it was
 abbrev pub NoMotifBehind : Type 0
 NoMotifBehind =
-    (job work list : List ℕ) (a : Answer) → Promised job work list a → length job ≤ 61440 → 16384 ≤ length work → a .work ≡ zeros 16384 ++ drop 16384 work
+    (gray : Bool) (job work list : List ℕ) (a : Answer) → Promised gray job work list a → length job ≤ 61440 → 16384 ≤ length work → a .work ≡ zeros 16384 ++ drop 16384 work
 
 -- demand 1: the work buffer afterwards carries nothing of the job: it is the same for any two jobs that are not too long
 abbrev pub WorkCarriesNothing : Type 0
 WorkCarriesNothing =
-    (job other work list : List ℕ) (a b : Answer) → Promised job work list a → Promised other work list b → length job ≤ 61440 → length other ≤ 61440
+    (gray : Bool) (job other work list : List ℕ) (a b : Answer) → Promised gray job work list a → Promised gray other work list b → length job ≤ 61440 → length other ≤ 61440
     → a .work ≡ b .work
 
 -- two answers are the same from a state of each job on: code, inner, what is performed and listed since; the position but for the change of place; and the bytes
@@ -69,8 +69,8 @@ pub record AnswersAlike (p q : State) (a b : Answer) : Type 0 where
 -- same answer from there on, whatever each has performed and listed before, unless one of them gets 26 or 28
 abbrev pub SessionsIsolated : Type 0
 SessionsIsolated =
-    (job other work work′ list list′ : List ℕ) (a b : Answer) (high : Bool) (p q : State) → Promised job work list a → Promised other work′ list′ b
-    → length job ≤ 61440 → length other ≤ 61440 → 16384 ≤ length work → 16384 ≤ length work′ → Between job (length list) high p → Between other (length list′) high q
+    (gray : Bool) (job other work work′ list list′ : List ℕ) (a b : Answer) (high : Bool) (p q : State) → Promised gray job work list a → Promised gray other work′ list′ b
+    → length job ≤ 61440 → length other ≤ 61440 → 16384 ≤ length work → 16384 ≤ length work′ → Between gray job (length list) high p → Between gray other (length list′) high q
     → drop (p .at) job ≡ drop (q .at) other → after job (p .at) < length job → limit (a .verdict .code) ≡ false → limit (b .verdict .code) ≡ false
     → AnswersAlike p q a b
 
@@ -78,12 +78,12 @@ SessionsIsolated =
 -- reported with a pass is the number of operators that the arm performs
 abbrev pub PassesAsDrawn : Type 0
 PassesAsDrawn =
-    (job work list : List ℕ) (a : Answer) → Promised job work list a → 16384 ≤ length work → Keeps job → HasRoom job (length list)
-    → ((a .verdict .code ≡ 0) ↔ (comes (unfoldingOf startsGray job) atStart ≡ true))
-    × (a .verdict .code ≡ 0 → a .verdict .performed ≡ length (unfoldingOf startsGray job))
+    (gray : Bool) (job work list : List ℕ) (a : Answer) → Promised gray job work list a → 16384 ≤ length work → Keeps gray job → HasRoom gray job (length list)
+    → ((a .verdict .code ≡ 0) ↔ (comes (unfoldingOf gray job) atStart ≡ true))
+    × (a .verdict .code ≡ 0 → a .verdict .performed ≡ length (unfoldingOf gray job))
 
 -- demand 3, the other way round too: what passes keeps the layout rules and has room for its list
 abbrev pub PassesOnly : Type 0
 PassesOnly =
-    (job work list : List ℕ) (a : Answer) → Promised job work list a → 16384 ≤ length work
-    → (a .verdict .code ≡ 0) ↔ (Keeps job × HasRoom job (length list) × (comes (unfoldingOf startsGray job) atStart ≡ true))
+    (gray : Bool) (job work list : List ℕ) (a : Answer) → Promised gray job work list a → 16384 ≤ length work
+    → (a .verdict .code ≡ 0) ↔ (Keeps gray job × HasRoom gray job (length list) × (comes (unfoldingOf gray job) atStart ≡ true))

@@ -15,7 +15,7 @@ use Rattle.scope.specs.Reading.{Operator, Read}
 use Rattle.scope.specs.Motif.{Judged}
 use Rattle.scope.specs.Session.{Setting, Place, outside, inside}
 use Rattle.scope.specs.Judge.{State, Outcome, Refusal, caseOf, after, rules, firstBroken, outer, endAt, onRefusal, onCase, onRead, contextOf, jobStep, judgedFrom, starting}
-use Rattle.scope.specs.Verdict.{startsGray, every, judgedAfter, Entry, entryOf, outcomeAt, outcomeOf, verdictOf}
+use Rattle.scope.specs.Verdict.{every, judgedAfter, Entry, entryOf, outcomeAt, outcomeOf, verdictOf}
 use Rattle.scope.specs.Runs.{caseAt, next}
 use Rattle.scope.specs.Claims.{cutOff, StartOf, InnerSays, NoLookingAhead, Cuts}
 use Rattle.scope.proofs.Ends.{pick-all, GoodRead, read-good}
@@ -202,29 +202,29 @@ header-cut (b ∷ bs) v = by (eqb b 0x27)
     by true = refused
     by false = classed-cut (b ∷ bs) v (form-cut 0 (b ∷ bs) v)
 
-after-header : (u v : List ℕ) (room : ℕ) {g h : Header} → HeaderCut u g h → StartOf u (judgedAfter every u room g) (judgedAfter every (u ++ v) room h)
+after-header : (gray : Bool) (u v : List ℕ) (room : ℕ) {g h : Header} → HeaderCut u g h → StartOf u (judgedAfter gray every u room g) (judgedAfter gray every (u ++ v) room h)
 unfolding judgedAfter
-after-header u v room (alike {high = high} {next = next} k) =
-    cut-from u v (record { high = high; gray = startsGray }) room (suc (length u - next)) (starting next) k (omega arith)
-after-header u v room refused = StartOf.same refl
-after-header u v room (header-short h) = StartOf.in-header refl refl refl
+after-header gray u v room (alike {high = high} {next = next} k) =
+    cut-from u v (record { high = high; gray = gray }) room (suc (length u - next)) (starting next) k (omega arith)
+after-header gray u v room refused = StartOf.same refl
+after-header gray u v room (header-short h) = StartOf.in-header refl refl refl
 
 pub no-looking-ahead : NoLookingAhead
 unfolding outcomeOf entryOf outcomeAt
-no-looking-ahead u v work room h =
+no-looking-ahead gray u v work room h =
     let e = length-append u v in
     rw (le-ltb 61440 (length u) (omega arith), le-ltb 61440 (length (u ++ v)) h) (by (ltb work 16384))
   where
-    by : (b : Bool) → StartOf u (outcomeAt every u room (pick b (Entry.refused 29 0) Entry.admitted)) (outcomeAt every (u ++ v) room (pick b (Entry.refused 29 0) Entry.admitted))
+    by : (b : Bool) → StartOf u (outcomeAt gray every u room (pick b (Entry.refused 29 0) Entry.admitted)) (outcomeAt gray every (u ++ v) room (pick b (Entry.refused 29 0) Entry.admitted))
     by true = StartOf.same refl
-    by false = after-header u v room (header-cut u v)
+    by false = after-header gray u v room (header-cut u v)
 
 -- a job that passes is not too long
-let-in : (job : List ℕ) (work room : ℕ) → verdictOf job work room .code ≡ 0 → length job ≤ 61440
+let-in : (gray : Bool) (job : List ℕ) (work room : ℕ) → verdictOf gray job work room .code ≡ 0 → length job ≤ 61440
 unfolding verdictOf outcomeOf entryOf outcomeAt
-let-in job work room pass = by (ltb work 16384) (ltb 61440 (length job)) refl pass
+let-in gray job work room pass = by (ltb work 16384) (ltb 61440 (length job)) refl pass
   where
-    by : (a b : Bool) → ltb 61440 (length job) ≡ b → outcomeAt every job room (pick a (Entry.refused 29 0) (pick b (Entry.refused 1 61440) Entry.admitted)) .code ≡ 0
+    by : (a b : Bool) → ltb 61440 (length job) ≡ b → outcomeAt gray every job room (pick a (Entry.refused 29 0) (pick b (Entry.refused 1 61440) Entry.admitted)) .code ≡ 0
         → length job ≤ 61440
     by true b e k = absurd (omega arith)
     by false true e k = absurd (omega arith)
@@ -258,6 +258,6 @@ cuts-of start e f i (StartOf.in-header s p o) k = (rw s refl, o)
 
 pub cuts : Cuts
 unfolding verdictOf
-cuts start rest work room pass =
-    cuts-of start (outcomeOf every start work room) (outcomeOf every (start ++ rest) work room) (inner-known start work room)
-    (no-looking-ahead start rest work room (let-in (start ++ rest) work room pass)) pass
+cuts gray start rest work room pass =
+    cuts-of start (outcomeOf gray every start work room) (outcomeOf gray every (start ++ rest) work room) (inner-known gray start work room)
+    (no-looking-ahead gray start rest work room (let-in gray (start ++ rest) work room pass)) pass

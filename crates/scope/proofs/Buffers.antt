@@ -14,7 +14,7 @@ use Rattle.scope.specs.Header.{Header, headerOf}
 use Rattle.scope.specs.Reading.{Read}
 use Rattle.scope.specs.Session.{Setting, Place, outside, inside as within, sessionOf}
 use Rattle.scope.specs.Judge.{State, Outcome, Case, Refusal, starting, outer, refusedAt, caseOf, endAt, onRefusal, onCase, onRead, contextOf, jobStep, judgedFrom}
-use Rattle.scope.specs.Verdict.{startsGray, every, Entry, refused, admitted, entryOf, judgedAfter, outcomeAt, outcomeOf, verdictOf, zeros, clearedBy, workAfter}
+use Rattle.scope.specs.Verdict.{every, Entry, refused, admitted, entryOf, judgedAfter, outcomeAt, outcomeOf, verdictOf, zeros, clearedBy, workAfter}
 use Rattle.scope.specs.Claims.{NoMotifLeft, Zeroed}
 use Rattle.scope.proofs.Ends.{pick-all, Kept, kept-go, kept-stop, iterate-holds, coded-between, ZeroOr, none-given, given, GoodRead, read-good}
 use Rattle.scope.proofs.Codes.{judged-good, Refuses, not-so, so, broken-coded, GoodHeader, header-good}
@@ -67,10 +67,10 @@ module _ (set : Setting) (s : List ℕ) (room : ℕ) where
   judged-late st =
       iterate-holds (jobStep every set s room) (refusedAt 5 0 outer (starting 0)) Any Late (late (given tt)) step-late (λ x. length s - x .at) st tt
 
-pub header-late : (job : List ℕ) (room : ℕ) {r : Header} → GoodHeader r → Late (judgedAfter every job room r)
+pub header-late : (gray : Bool) (job : List ℕ) (room : ℕ) {r : Header} → GoodHeader r → Late (judgedAfter gray every job room r)
 unfolding judgedAfter
-header-late job room (GoodHeader.good {high = high} {next = next}) = judged-late (record { high = high; gray = startsGray }) job room (starting next)
-header-late job room (GoodHeader.ill k) = late (given k)
+header-late gray job room (GoodHeader.good {high = high} {next = next}) = judged-late (record { high = high; gray = gray }) job room (starting next)
+header-late gray job room (GoodHeader.ill k) = late (given k)
 
 neither : (k : ℕ) → ZeroOr k → (eqb k 1 || eqb k 29) ≡ false
 neither k none-given = refl
@@ -89,18 +89,18 @@ entered n work = pick-all Entered (ltb work 16384) (λ _. short-work) (λ _. pic
 pub late-code : {e : Outcome} → Late e → ZeroOr (e .code)
 late-code (late z) = z
 
-by-entry : (job work : List ℕ) (room : ℕ) {e : Entry} → Entered e
+by-entry : (gray : Bool) (job work : List ℕ) (room : ℕ) {e : Entry} → Entered e
     → clearedBy e work
-    ≡ pick (eqb (outcomeAt every job room e .code) 1 || eqb (outcomeAt every job room e .code) 29) work (zeros 16384 ++ drop 16384 work)
+    ≡ pick (eqb (outcomeAt gray every job room e .code) 1 || eqb (outcomeAt gray every job room e .code) 29) work (zeros 16384 ++ drop 16384 work)
 unfolding clearedBy outcomeAt
-by-entry job work room short-work = refl
-by-entry job work room long-job = refl
-by-entry job work room inside =
-    rw (neither (judgedAfter every job room (headerOf job) .code) (late-code (header-late job room (header-good job)))) refl
+by-entry gray job work room short-work = refl
+by-entry gray job work room long-job = refl
+by-entry gray job work room inside =
+    rw (neither (judgedAfter gray every job room (headerOf job) .code) (late-code (header-late gray job room (header-good job)))) refl
 
 -- untouched with codes 1 and 29; with all others the first 16,384 bytes are zero and the rest untouched
-pub work-by-code : (job work : List ℕ) (room : ℕ)
+pub work-by-code : (gray : Bool) (job work : List ℕ) (room : ℕ)
     → workAfter job work
-    ≡ pick (eqb (verdictOf job (length work) room .code) 1 || eqb (verdictOf job (length work) room .code) 29) work (zeros 16384 ++ drop 16384 work)
+    ≡ pick (eqb (verdictOf gray job (length work) room .code) 1 || eqb (verdictOf gray job (length work) room .code) 29) work (zeros 16384 ++ drop 16384 work)
 unfolding workAfter verdictOf outcomeOf
-work-by-code job work room = by-entry job work room (entered (length job) (length work))
+work-by-code gray job work room = by-entry gray job work room (entered (length job) (length work))

@@ -19,7 +19,7 @@ use Rattle.scope.specs.Arm.{Page, Seen, actOf, step, walk, from, Stroke}
 use Rattle.scope.specs.Motif.{Motif}
 use Rattle.scope.specs.Session.{Setting, sessionOf, phaseOf, pageOf, rowFor}
 use Rattle.scope.specs.Judge.{State, Outcome, refusedAt, outer, Case, Refusal, starting, caseOf, after, endAt, rules, firstBroken, onRefusal, onCase, onRead, contextOf, jobStep, judgedFrom}
-use Rattle.scope.specs.Verdict.{startsGray, every, layout, judgedAfter, Entry, entryOf, outcomeAt, outcomeOf, verdictOf}
+use Rattle.scope.specs.Verdict.{every, layout, judgedAfter, Entry, entryOf, outcomeAt, outcomeOf, verdictOf}
 use Rattle.scope.specs.Plain.{Turn, Deed, comes, deeds, turnOf, performed, contextAt, onOperator, onNext, unrollStep, unfoldedAfter, unfoldingOf, atStart}
 use Rattle.scope.specs.Claims.{Demand3}
 use Rattle.scope.proofs.Ends.{pick-all, Coded, GoodRead, read-good}
@@ -254,13 +254,13 @@ module _ (set : Setting) (s : List ℕ) (room : ℕ) where
 abbrev Meets : Outcome → List Deed → Type 0
 Meets e row = ((e .code ≡ 0) ↔ (comes row atStart ≡ true)) × (e .code ≡ 0 → e .state .performed ≡ length row)
 
-at-header : (job : List ℕ) (room : ℕ) {r : Header} → GoodHeader r → judgedAfter layout job 0 r .code ≡ 0
-    → judgedAfter layout job 0 r .state .records * 16 ≤ room → Meets (judgedAfter every job room r) (unfoldedAfter startsGray job r)
+at-header : (gray : Bool) (job : List ℕ) (room : ℕ) {r : Header} → GoodHeader r → judgedAfter gray layout job 0 r .code ≡ 0
+    → judgedAfter gray layout job 0 r .state .records * 16 ≤ room → Meets (judgedAfter gray every job room r) (unfoldedAfter gray job r)
 unfolding judgedAfter unfoldedAfter knownOf
-at-header job room (GoodHeader.good {high = high} {next = next}) l r =
-    let k = shown (record { high = high; gray = startsGray }) job room (suc (length job - next)) (starting next) (steady-start false) (omega arith) (omega arith) l r in
+at-header gray job room (GoodHeader.good {high = high} {next = next}) l r =
+    let k = shown (record { high = high; gray = gray }) job room (suc (length job - next)) (starting next) (steady-start false) (omega arith) (omega arith) l r in
     ((k .passes, k .back), λ e. k .count e ∙ zero-add _)
-at-header job room (GoodHeader.ill {code = code} k) l r = not-coded code k l
+at-header gray job room (GoodHeader.ill {code = code} k) l r = not-coded code k l
 
 data GoodEntry : Entry → Type 0 where
   fine : GoodEntry Entry.admitted
@@ -273,11 +273,11 @@ entry-good : (n : ℕ) → GoodEntry (entryOf n 16384)
 unfolding entryOf
 entry-good n = pick-all GoodEntry (ltb 61440 n) (λ _. early one-is-not) (λ _. fine)
 
-at-entry : (job : List ℕ) (room : ℕ) {e : Entry} → GoodEntry e → outcomeAt layout job 0 e .code ≡ 0
-    → outcomeAt layout job 0 e .state .records * 16 ≤ room → Meets (outcomeAt every job room e) (unfoldingOf startsGray job)
+at-entry : (gray : Bool) (job : List ℕ) (room : ℕ) {e : Entry} → GoodEntry e → outcomeAt gray layout job 0 e .code ≡ 0
+    → outcomeAt gray layout job 0 e .state .records * 16 ≤ room → Meets (outcomeAt gray every job room e) (unfoldingOf gray job)
 unfolding outcomeAt unfoldingOf
-at-entry job room fine l r = at-header job room (header-good job) l r
-at-entry job room (early k) l r = absurd (k l)
+at-entry gray job room fine l r = at-header gray job room (header-good job) l r
+at-entry gray job room (early k) l r = absurd (k l)
 
 entry-same : (n work : ℕ) → 16384 ≤ work → entryOf n work ≡ entryOf n 16384
 unfolding entryOf
@@ -285,6 +285,6 @@ entry-same n work h = rw (le-ltb work 16384 h) refl
 
 pub demand-3 : Demand3
 unfolding verdictOf outcomeOf
-demand-3 job work room h keeps fits =
-    subst⁻¹ (λ e. Meets (outcomeAt every job room e) (unfoldingOf startsGray job)) (entry-same (length job) work h)
-    (at-entry job room (entry-good (length job)) (keeps .passes) (fits .fits))
+demand-3 gray job work room h keeps fits =
+    subst⁻¹ (λ e. Meets (outcomeAt gray every job room e) (unfoldingOf gray job)) (entry-same (length job) work h)
+    (at-entry gray job room (entry-good (length job)) (keeps .passes) (fits .fits))

@@ -28,6 +28,7 @@ use Rattle.scope.proofs.JobsRead.{given, read}
 use Rattle.scope.proofs.JobsJudged.{judged}
 use Rattle.scope.proofs.Padded.{padded}
 use Rattle.scope.proofs.Copies.{copies}
+use Rattle.scope.proofs.Starts.{starts}
 use Rattle.scope.proofs.Halves.{halves}
 
 -- the table
@@ -38,6 +39,7 @@ tables =
     ∷ judged
     ∷ padded
     ∷ copies
+    ∷ starts
     ∷ halves
     ∷ []
 
@@ -47,7 +49,7 @@ joined (x ∷ xs) = x ++ joined xs
 
 answers : List Tried → List Verdict
 answers [] = []
-answers (x ∷ l) = verdictOf (all (x .parts)) (x .work) (x .room) ∷ answers l
+answers (x ∷ l) = verdictOf (x .gray) (all (x .parts)) (x .work) (x .room) ∷ answers l
 
 expecteds : List Tried → List Verdict
 expecteds [] = []
@@ -71,7 +73,7 @@ recordOfData = 0x02 ∷ 0x5c ∷ 0x01 ∷ 0x00 ∷ 0x30 ∷ 0x00 ∷ 0x00 ∷ 0x
 -- J's session from a state with 999,999 performed, since no job that comes there can be unfolded here
 abbrev nearTheLimit : (ℕ → Bool) → Judge.Outcome
 nearTheLimit codes =
-    Judge.judgedFrom codes (record { high = false; gray = Verd.startsGray }) J 65536
+    Judge.judgedFrom codes (record { high = false; gray = false }) J 65536
     (record { at = 16; place = Session.outside true; performed = 999_999; records = 0; past = [] })
 
 -- the plain arm with so many operators performed
@@ -108,9 +110,9 @@ looked : List (List (List ℕ)) → List Looked
 looked [] = []
 looked (x ∷ l) =
     record {
-      code = verdictOf (all x) 16384 65536 .code;
-      kept = Verd.outcomeOf Verd.layout (all x) 16384 0 .code;
-      came = Plain.comes (Plain.unfoldingOf Verd.startsGray (all x)) Plain.atStart;
+      code = verdictOf false (all x) 16384 65536 .code;
+      kept = Verd.outcomeOf false Verd.layout (all x) 16384 0 .code;
+      came = Plain.comes (Plain.unfoldingOf false (all x)) Plain.atStart;
     }
     ∷ looked l
 
@@ -128,14 +130,14 @@ calling = H ++ X 0x61
 -- the table; J's records; (i) of 01; 26; the record of an operator with data; 26 is no layout rule, and the plain arm meets it; the order in which that arm
 -- performs; the layout rules kept and another broken; how deep motifs nest
 proved-jobs : (answers (joined tables) ≡ expecteds (joined tables))
-    × (listOf J 16384 65536 ≡ recordsOfJ)
+    × (listOf false J 16384 65536 ≡ recordsOfJ)
     × (Data.rowOf 32 0 ∷ Data.rowOf 33 0 ∷ Data.rowOf 33 1 ∷ Data.rowOf 33 2 ∷ [] ≡ 4 ∷ 8 ∷ 20 ∷ 36 ∷ [])
     × (Verd.told (nearTheLimit Verd.every) ≡ record { code = 26; position = 28; inner = 4294967295; records = 3; performed = 1_000_000 })
-    × (drop 144 (listOf withData 16384 65536) ≡ recordOfData)
+    × (drop 144 (listOf false withData 16384 65536) ≡ recordOfData)
     × (nearTheLimit Verd.layout .code ≡ 0)
-    × (Plain.comes (Plain.unfoldingOf Verd.startsGray J) (armBehind 999_998) ≡ true)
-    × (Plain.comes (Plain.unfoldingOf Verd.startsGray J) (armBehind 999_999) ≡ false)
-    × (traceOf (Plain.unfoldingOf Verd.startsGray nested)
+    × (Plain.comes (Plain.unfoldingOf false J) (armBehind 999_998) ≡ true)
+    × (Plain.comes (Plain.unfoldingOf false J) (armBehind 999_999) ≡ false)
+    × (traceOf (Plain.unfoldingOf false nested)
     ≡ 0 ∷ 27 ∷ 0 ∷ 36 ∷ 0 ∷ 43 ∷ 0 ∷ 49 ∷ 0 ∷ 70 ∷ 0 ∷ 77 ∷ 0 ∷ 83 ∷ 0 ∷ 111 ∷ 0 ∷ 120
     ∷ 0 ∷ 127 ∷ 2 ∷ 16 ∷ 2 ∷ 23 ∷ 1 ∷ 16 ∷ 1 ∷ 17 ∷ 2 ∷ 24 ∷ 0 ∷ 128 ∷ 0 ∷ 129 ∷ 0 ∷ 130 ∷ 0 ∷ 131 ∷ [])
     × (looked broken ≡ breaking 23 ∷ breaking 24 ∷ breaking 25 ∷ breaking 17 ∷ breaking 24 ∷ [])

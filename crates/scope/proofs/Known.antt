@@ -16,7 +16,7 @@ use Rattle.scope.specs.Arm.{Page, Stroke, idle}
 use Rattle.scope.specs.Motif.{Own, Motif, flat, unfolded, Held, heldAs, isHeld, Picture, Judged, motifOf}
 use Rattle.scope.specs.Session.{Setting, Busy, resting, reading, drawing, Session, Place, outside, inside, keptAs, sessionOf, rowFor, phaseOf, phaseBusy, phaseDrawing, sessionAfter, placeAfter}
 use Rattle.scope.specs.Judge.{State, Case, Refusal, caseOf, rules, firstBroken, ownOr, outer, tooMuch, nameHeld, nameMissing, after, judgedFrom, starting}
-use Rattle.scope.specs.Verdict.{startsGray, every, judgedAfter, Entry, entryOf, outcomeAt, outcomeOf}
+use Rattle.scope.specs.Verdict.{every, judgedAfter, Entry, entryOf, outcomeAt, outcomeOf}
 use Rattle.scope.specs.Runs.{caseAt, next, Performs, Runs, here, then}
 use Rattle.scope.specs.Claims.{ofSession, Collects, Defines, AllDefined, Among, Drawn, AllDrawn, OwnMotifs, OwnStrokes, OwnCalls}
 use Rattle.scope.proofs.Ends.{pick-all}
@@ -193,19 +193,19 @@ judged-owned set job room next =
     let c = runs-of every set job room (starting next) in
     subst⁻¹ (λ z. Owned job (z .past)) (ends-state every set job room (c .ends)) (runs-fine job every refl set room (c .runs) (starts-fine job next) .owned)
 
-header-owned : (job : List ℕ) (room : ℕ) (h : Header) → Owned job (judgedAfter every job room h .state .past)
+header-owned : (gray : Bool) (job : List ℕ) (room : ℕ) (h : Header) → Owned job (judgedAfter gray every job room h .state .past)
 unfolding judgedAfter
-header-owned job room (Header.is high next) = judged-owned (record { high = high; gray = startsGray }) job room next
-header-owned job room (Header.no code place) = Owned.none
+header-owned gray job room (Header.is high next) = judged-owned (record { high = high; gray = gray }) job room next
+header-owned gray job room (Header.no code place) = Owned.none
 
-entry-owned : (job : List ℕ) (room : ℕ) (e : Entry) → Owned job (outcomeAt every job room e .state .past)
+entry-owned : (gray : Bool) (job : List ℕ) (room : ℕ) (e : Entry) → Owned job (outcomeAt gray every job room e .state .past)
 unfolding outcomeAt
-entry-owned job room (Entry.refused code position) = Owned.none
-entry-owned job room Entry.admitted = header-owned job room (headerOf job)
+entry-owned gray job room (Entry.refused code position) = Owned.none
+entry-owned gray job room Entry.admitted = header-owned gray job room (headerOf job)
 
 pub own-calls : OwnCalls
 unfolding outcomeOf
-own-calls job work room later before o e f = owned-at job later before o (subst (Owned job) e (entry-owned job room (entryOf (length job) work))) f
+own-calls gray job work room later before o e f = owned-at job later before o (subst (Owned job) e (entry-owned gray job room (entryOf (length job) work))) f
 
 -- what is performed for an operator
 module _ (s : List ℕ) (since : List Operator) where

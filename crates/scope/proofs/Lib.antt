@@ -37,6 +37,7 @@ pub mod JobsRead
 pub mod JobsJudged
 pub mod Padded
 pub mod Copies
+pub mod Starts
 pub mod Halves
 pub mod Jobs
 pub mod Shown

@@ -1,6 +1,7 @@
 -- The parts that the proved jobs are written in: H is a header, S BeginSession, P BeginPage, O OpenDataSource, M a motif, X its call, and so on.
 -- Assumes nothing.
 use Prim.Native.Nat.{ℕ, zero, suc}
+use mathlib.Core.Bool.{Bool, true, false}
 use mathlib.Core.List.{List, [], _∷_, _++_}
 use lib.ListN.{length, set}
 use Rattle.scope.specs.Names.{EndSession, EndPage, CloseDataSource}
@@ -112,8 +113,9 @@ M n body =
 abbrev pub X : ℕ → List ℕ
 X n = 0xc8 ∷ 0xc0 ∷ 1 ∷ n ∷ 0xf8 ∷ 0x8b ∷ 0x5e ∷ []
 
--- a job, the lengths of both buffers, the verdict expected
+-- a job, whether its pages start in gray, the lengths of both buffers, the verdict expected
 pub record Tried : Type 0 where
+  pub gray : Bool
   pub parts : List (List ℕ)
   pub work : ℕ
   pub room : ℕ
@@ -121,7 +123,7 @@ pub record Tried : Type 0 where
 
 abbrev pub try : List (List ℕ) → (work room code position inner records performed : ℕ) → Tried
 try ps w r c p i n k =
-    record { parts = ps; work = w; room = r; expected = record { code = c; position = p; inner = i; records = n; performed = k } }
+    record { gray = false; parts = ps; work = w; room = r; expected = record { code = c; position = p; inner = i; records = n; performed = k } }
 
 infix 68 _gets_at_listed_performed_
 -- the verdict of a job, with buffers that are long enough and no motif at fault
@@ -135,4 +137,8 @@ ps gets c at p inside i listed n performed k = try ps 16384 65536 c p i n k
 
 -- the same job with buffers of other lengths
 abbrev pub lending : (work room : ℕ) → Tried → Tried
-lending w r x = record { parts = x .parts; work = w; room = r; expected = x .expected }
+lending w r x = record { gray = x .gray; parts = x .parts; work = w; room = r; expected = x .expected }
+
+-- the same job with pages that start in gray; all others ask for RGB
+abbrev pub inGray : Tried → Tried
+inGray x = record { gray = true; parts = x .parts; work = x .work; room = x .room; expected = x .expected }

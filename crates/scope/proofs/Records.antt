@@ -12,7 +12,7 @@ use Rattle.scope.specs.Item.{Attribute}
 use Rattle.scope.specs.Reading.{Operator}
 use Rattle.scope.specs.Session.{Setting}
 use Rattle.scope.specs.Judge.{State, caseOf, after, judgedFrom, starting}
-use Rattle.scope.specs.Verdict.{startsGray, every, four, attributeRecord, operatorRecord, attributeRecords, recordsBefore, listOf, judgedAfter, Entry, entryOf, outcomeAt, outcomeOf, verdictOf}
+use Rattle.scope.specs.Verdict.{every, four, attributeRecord, operatorRecord, attributeRecords, recordsBefore, listOf, judgedAfter, Entry, entryOf, outcomeAt, outcomeOf, verdictOf}
 use Rattle.scope.specs.Runs.{Runs, here, then}
 use Rattle.scope.specs.Claims.{AttributesMoved, OperatorsMoved, RecordsMoved, recordsFrom, Between, ListLong, SameList}
 use Rattle.scope.proofs.Runs.{runs-of, ends-state}
@@ -68,19 +68,19 @@ start-long : (next : ℕ) → Long (starting next)
 unfolding recordsBefore
 start-long next = refl
 
-header-long : (job : List ℕ) (room : ℕ) (h : Header) → Long (judgedAfter every job room h .state)
+header-long : (gray : Bool) (job : List ℕ) (room : ℕ) (h : Header) → Long (judgedAfter gray every job room h .state)
 unfolding judgedAfter
-header-long job room (Header.is high next) = judged-long every (record { high = high; gray = startsGray }) job room (starting next) (start-long next)
-header-long job room (Header.no code place) = start-long 0
+header-long gray job room (Header.is high next) = judged-long every (record { high = high; gray = gray }) job room (starting next) (start-long next)
+header-long gray job room (Header.no code place) = start-long 0
 
-entry-long : (job : List ℕ) (room : ℕ) (e : Entry) → Long (outcomeAt every job room e .state)
+entry-long : (gray : Bool) (job : List ℕ) (room : ℕ) (e : Entry) → Long (outcomeAt gray every job room e .state)
 unfolding outcomeAt
-entry-long job room (Entry.refused code position) = start-long 0
-entry-long job room Entry.admitted = header-long job room (headerOf job)
+entry-long gray job room (Entry.refused code position) = start-long 0
+entry-long gray job room Entry.admitted = header-long gray job room (headerOf job)
 
 pub list-long : ListLong
 unfolding listOf verdictOf outcomeOf
-list-long job work room = entry-long job room (entryOf (length job) work)
+list-long gray job work room = entry-long gray job room (entryOf (length job) work)
 
 -- the records of attributes that have moved, and behind them others that have
 attributes-moved : {p q : ℕ} {l m : List Attribute} → AttributesMoved p q l m → {x y : List ℕ} → RecordsMoved p q x y
@@ -112,14 +112,14 @@ behind-part part rest list m n e f g =
     let h : take (n * 16) list ≡ list = take-all (n * 16) list (omega arith) in
     ap (drop (m * 16)) (h ∙ e) ∙ drop-at part rest (m * 16) f
 
-between-long : (job : List ℕ) (room : ℕ) (high : Bool) (st : State) → Between job room high st → Long st
-between-long job room high st b = runs-long every (record { high = high; gray = startsGray }) job room (b .there .runs) (start-long (b .there .next))
+between-long : (gray : Bool) (job : List ℕ) (room : ℕ) (high : Bool) (st : State) → Between gray job room high st → Long st
+between-long gray job room high st b = runs-long every (record { high = high; gray = gray }) job room (b .there .runs) (start-long (b .there .next))
 
 pub same-list : SameList
 unfolding listOf verdictOf
-same-list job other work work′ room space high a b x y h =
+same-list gray job other work work′ room space high a b x y h =
     let z = since (h .listed) RecordsMoved.none in
     subst₂ (RecordsMoved (a .at) (b .at))
-    (sym (behind-part (recordsBefore (a .past) []) (z .here-since) _ (a .records) _ (z .first) (between-long job room high a x) (list-long job work room)))
-    (sym (behind-part (recordsBefore (b .past) []) (z .there-since) _ (b .records) _ (z .second) (between-long other space high b y) (list-long other work′ space)))
+    (sym (behind-part (recordsBefore (a .past) []) (z .here-since) _ (a .records) _ (z .first) (between-long gray job room high a x) (list-long gray job work room)))
+    (sym (behind-part (recordsBefore (b .past) []) (z .there-since) _ (b .records) _ (z .second) (between-long gray other space high b y) (list-long gray other work′ space)))
     (z .moved)

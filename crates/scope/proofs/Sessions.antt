@@ -12,7 +12,7 @@ use Rattle.scope.specs.Item.{after as blackAfter}
 use Rattle.scope.specs.Reading.{Operator, Read}
 use Rattle.scope.specs.Session.{Setting, outside}
 use Rattle.scope.specs.Judge.{State, Outcome, contextOf, judgedFrom}
-use Rattle.scope.specs.Verdict.{startsGray, every, judgedAfter, entryOf, outcomeAt, outcomeOf}
+use Rattle.scope.specs.Verdict.{every, judgedAfter, entryOf, outcomeAt, outcomeOf}
 use Rattle.scope.specs.Runs.{readAt, ended, onto}
 use Rattle.scope.specs.Claims.{Reached, limit, OperatorsMoved, SameFrom, Alike, Isolated}
 use Rattle.scope.proofs.Ends.{after-le}
@@ -92,18 +92,18 @@ module _ (s t : List ℕ) (a b : State) (hp : a .at ≤ length s) (hq : b .at �
       })
 
 -- the outcome of a job is that of the state which it comes to
-pub reached-judged : (job : List ℕ) (work room : ℕ) (high : Bool) (st : State) → 16384 ≤ work → length job ≤ 61440 → Reached job room high st
-    → outcomeOf every job work room ≡ judgedFrom every (record { high = high; gray = startsGray }) job room st
+pub reached-judged : (gray : Bool) (job : List ℕ) (work room : ℕ) (high : Bool) (st : State) → 16384 ≤ work → length job ≤ 61440 → Reached gray job room high st
+    → outcomeOf gray every job work room ≡ judgedFrom every (record { high = high; gray = gray }) job room st
 unfolding outcomeOf outcomeAt judgedAfter entryOf
-reached-judged job work room high st h k b =
-    rw (le-ltb work 16384 h, le-ltb 61440 (length job) k, b .header) (runs-judged every (record { high = high; gray = startsGray }) job room (b .runs))
+reached-judged gray job work room high st h k b =
+    rw (le-ltb work 16384 h, le-ltb 61440 (length job) k, b .header) (runs-judged every (record { high = high; gray = gray }) job room (b .runs))
 
 pub isolated : Isolated
-isolated job other work work′ room space high a b h k l m x y same-bytes goes =
+isolated gray job other work work′ room space high a b h k l m x y same-bytes goes =
     let i = after-le high job (a .at) in
     let d : length job - a .at ≡ length other - b .at = sym (length-drop (a .at) job) ∙ ap length same-bytes ∙ length-drop (b .at) other in
-    subst₂ (Alike a b room space) (sym (reached-judged job work room high a h l (x .there))) (sym (reached-judged other work′ space high b k m (y .there)))
-    (judged-alike job other a b (omega arith) (omega arith) same-bytes (record { high = high; gray = startsGray }) room space (x .after-one) (y .after-one) (x .stands) (y .stands) goes)
+    subst₂ (Alike a b room space) (sym (reached-judged gray job work room high a h l (x .there))) (sym (reached-judged gray other work′ space high b k m (y .there)))
+    (judged-alike job other a b (omega arith) (omega arith) same-bytes (record { high = high; gray = gray }) room space (x .after-one) (y .after-one) (x .stands) (y .stands) goes)
 
 -- where neither is 26 or 28, the same from there on
 pub alike-same : {a b : State} {room space : ℕ} {e f : Outcome} → Alike a b room space e f → limit (e .code) ≡ false → limit (f .code) ≡ false → SameFrom a b e f

@@ -16,7 +16,7 @@ use Rattle.scope.specs.Reading.{Context, Operator, Read, scanned, operat
 use Rattle.scope.specs.Motif.{Motif, Judged, valid, faulty, motifOf}
 use Rattle.scope.specs.Session.{Setting, Place, outside, inside, sessionOf, joinedOf}
 use Rattle.scope.specs.Judge.{State, Case, Rule, rule, motifs-own, rules, Refusal, ownOr, firstBroken, judgedAt, caseOf, contextOf, Outcome, outer, refusedAt, endAt, starting, judgedFrom}
-use Rattle.scope.specs.Verdict.{startsGray, every, judgedAfter, Entry, entryOf, outcomeAt, outcomeOf, verdictOf}
+use Rattle.scope.specs.Verdict.{every, judgedAfter, Entry, entryOf, outcomeAt, outcomeOf, verdictOf}
 use Rattle.scope.specs.Runs.{readAt, caseAt, Ends, ended, unread, refused, Comes}
 use Rattle.scope.specs.Claims.{CodeKnown, InnerSays, nothing, of-motif, InnerKnown, BreaksNone, FirstFault}
 use Rattle.scope.proofs.Ends.{pick-all, Kept, kept-go, kept-stop, iterate-holds, coded-between, ZeroOr, none-given, given}
@@ -33,15 +33,15 @@ code-low : (k : ℕ) → ZeroOr k → k ≤ 29
 code-low k none-given = omega arith
 code-low k (given c) = let h = coded-between k c in omega arith
 
-code-entered : (job : List ℕ) (room : ℕ) {e : Entry} → Entered e → outcomeAt every job room e .code ≤ 29
+code-entered : (gray : Bool) (job : List ℕ) (room : ℕ) {e : Entry} → Entered e → outcomeAt gray every job room e .code ≤ 29
 unfolding outcomeAt
-code-entered job room short-work = omega arith
-code-entered job room long-job = omega arith
-code-entered job room Entered.inside = code-low _ (late-code (header-late job room (header-good job)))
+code-entered gray job room short-work = omega arith
+code-entered gray job room long-job = omega arith
+code-entered gray job room Entered.inside = code-low _ (late-code (header-late gray job room (header-good job)))
 
 pub code-known : CodeKnown
 unfolding verdictOf outcomeOf
-code-known job work room = code-entered job room (entered (length job) work)
+code-known gray job work room = code-entered gray job room (entered (length job) work)
 
 -- an operator's tag stands at its place
 module _ (s : List ℕ) where
@@ -140,19 +140,19 @@ module _ (set : Setting) (s : List ℕ) (room : ℕ) where
   judged-inner : (st : State) → InnerSays s (judgedFrom every set s room st)
   judged-inner st = let c = runs-of every set s room st in ends-inner (c .last) (judgedFrom every set s room st) (c .ends)
 
-header-inner : (job : List ℕ) (room : ℕ) (h : Header) → InnerSays job (judgedAfter every job room h)
+header-inner : (gray : Bool) (job : List ℕ) (room : ℕ) (h : Header) → InnerSays job (judgedAfter gray every job room h)
 unfolding judgedAfter
-header-inner job room (Header.is high next) = judged-inner (record { high = high; gray = startsGray }) job room (starting next)
-header-inner job room (Header.no code place) = nothing refl
+header-inner gray job room (Header.is high next) = judged-inner (record { high = high; gray = gray }) job room (starting next)
+header-inner gray job room (Header.no code place) = nothing refl
 
-entry-inner : (job : List ℕ) (room : ℕ) (e : Entry) → InnerSays job (outcomeAt every job room e)
+entry-inner : (gray : Bool) (job : List ℕ) (room : ℕ) (e : Entry) → InnerSays job (outcomeAt gray every job room e)
 unfolding outcomeAt
-entry-inner job room (Entry.refused code position) = nothing refl
-entry-inner job room Entry.admitted = header-inner job room (headerOf job)
+entry-inner gray job room (Entry.refused code position) = nothing refl
+entry-inner gray job room Entry.admitted = header-inner gray job room (headerOf job)
 
 pub inner-known : InnerKnown
 unfolding outcomeOf
-inner-known job work room = entry-inner job room (entryOf (length job) work)
+inner-known gray job work room = entry-inner gray job room (entryOf (length job) work)
 
 -- where no rule refuses, none is broken
 breaks-none : (c : Case) (rs : List Rule) → firstBroken every c rs ≡ Refusal.none → BreaksNone c rs
@@ -171,9 +171,9 @@ breaks-none c (motifs-own ∷ rs) e = by (c .made) refl e (breaks-none c rs)
     by (faulty code inner) f g h = absurd (is-none g)
 
 pub first-fault : FirstFault
-first-fault job work room high next h k e =
-    let set : Setting = record { high = high; gray = startsGray } in (
-      subst⁻¹ (Comes every set job room (starting next)) (reached-judged job work room high (starting next) h k (between-start job room high next e .there))
+first-fault gray job work room high next h k e =
+    let set : Setting = record { high = high; gray = gray } in (
+      subst⁻¹ (Comes every set job room (starting next)) (reached-judged gray job work room high (starting next) h k (between-start gray job room high next e .there))
           (runs-of every set job room (starting next)),
       λ st o p. breaks-none (caseAt set job st o) (rules room) (p .kept),
     )

@@ -14,7 +14,7 @@ use Rattle.scope.specs.Item.{scanItem, scanStep, scanFrom, scanAt, white
 use Rattle.scope.specs.Reading.{Context, Operator, Read, scanned, operatorAt}
 use Rattle.scope.specs.Session.{Setting, Place, outside, inside}
 use Rattle.scope.specs.Judge.{State, Refusal, Outcome, caseOf, after, rules, firstBroken, endAt, onRefusal, onCase, onRead, contextOf, jobStep, judgedFrom, starting}
-use Rattle.scope.specs.Verdict.{startsGray, every, outcomeOf}
+use Rattle.scope.specs.Verdict.{every, outcomeOf}
 use Rattle.scope.specs.Runs.{caseAt, next, Runs, here, then}
 use Rattle.scope.specs.Claims.{OperatorsMoved, Reached, SameFrom, moveBy, putIn, WhiteBetween}
 use Rattle.scope.proofs.Falls.{scan-step, judged-step}
@@ -137,9 +137,9 @@ from-told {a} {b} {e} h t =
       listed = subst⁻¹ (λ l. OperatorsMoved (a .at) (b .at) (a .past) (b .past) (e .state .past) l) (t .past) (h .listed);
     }
 
-module _ (u v blank : List ℕ) (room : ℕ) (high : Bool) (st : State) (at : st .at ≡ length u) (all : spaces blank ≡ length blank) where
+module _ (gray : Bool) (u v blank : List ℕ) (room : ℕ) (high : Bool) (st : State) (at : st .at ≡ length u) (all : spaces blank ≡ length blank) where
   abbrev set : Setting
-  set = record { high = high; gray = startsGray }
+  set = record { high = high; gray = gray }
 
   abbrev s : List ℕ
   s = u ++ v
@@ -179,8 +179,8 @@ module _ (u v blank : List ℕ) (room : ℕ) (high : Bool) (st : State) (at : st
 
 pub white-between : WhiteBetween
 unfolding after caseOf
-white-between job blank work room high st hw hl all r =
-    let set : Setting = record { high = high; gray = startsGray } in
+white-between gray job blank work room high st hw hl all r =
+    let set : Setting = record { high = high; gray = gray } in
     let u = take (st .at) job in
     let v = drop (st .at) job in
     let e : u ++ v ≡ job = take-append-drop (st .at) job in
@@ -191,13 +191,13 @@ white-between job blank work room high st hw hl all r =
     let lt = length-append u (blank ++ v) in
     let lb = length-append blank v in
     let le = ap length e in
-    let there : Reached (putIn (st .at) blank job) room high st = record {
+    let there : Reached gray (putIn (st .at) blank job) room high st = record {
       next = r .next;
       header = shared-header u v (blank ++ v) high (r .next) (ap headerOf e ∙ r .header) (omega arith);
       before = r .before;
       runs = shared-runs u v (blank ++ v) set room (subst⁻¹ (λ z. Runs every set z room (starting (r .next)) (r .before) st) e (r .runs)) (omega arith);
     } in
-    subst⁻¹ (λ z. SameFrom st (moveBy (length blank) st) z (outcomeOf every (putIn (st .at) blank job) work room)) (reached-judged job work room high st hw (omega arith) r)
-    (subst⁻¹ (λ z. SameFrom st (moveBy (length blank) st) (judgedFrom every set job room st) z) (reached-judged (putIn (st .at) blank job) work room high st hw hl there)
+    subst⁻¹ (λ z. SameFrom st (moveBy (length blank) st) z (outcomeOf gray every (putIn (st .at) blank job) work room)) (reached-judged gray job work room high st hw (omega arith) r)
+    (subst⁻¹ (λ z. SameFrom st (moveBy (length blank) st) (judgedFrom every set job room st) z) (reached-judged gray (putIn (st .at) blank job) work room high st hw hl there)
     (subst (λ z. SameFrom st (moveBy (length blank) st) (judgedFrom every set z room st) (judgedFrom every set (putIn (st .at) blank job) room st)) e
-    (white-alike u v blank room high st (sym lu) all)))
+    (white-alike gray u v blank room high st (sym lu) all)))

@@ -16,7 +16,7 @@ use Rattle.scope.specs.Order.{mayCome}
 use Rattle.scope.specs.Reading.{Operator, Read}
 use Rattle.scope.specs.Session.{Setting, Place, outside, inside, sessionOf, phaseOf}
 use Rattle.scope.specs.Judge.{State, Outcome, refusedAt, outer, Case, Refusal, starting, caseOf, after, endAt, rules, firstBroken, onRefusal, onCase, onRead, contextOf, jobStep, judgedFrom}
-use Rattle.scope.specs.Verdict.{startsGray, every, layout, judgedAfter, Entry, entryOf, outcomeAt, outcomeOf, verdictOf}
+use Rattle.scope.specs.Verdict.{every, layout, judgedAfter, Entry, entryOf, outcomeAt, outcomeOf, verdictOf}
 use Rattle.scope.specs.Claims.{Keeps, HasRoom, PassesExactly, Within}
 use Rattle.scope.proofs.Ends.{pick-all, Kept, kept-go, kept-stop, iterate-holds, GoodRead, read-good}
 use Rattle.scope.proofs.Falls.{judged-step}
@@ -60,18 +60,18 @@ module _ (given : ℕ → Bool) (set : Setting) (s : List ℕ) (room : ℕ) wher
       let k : 0 ≤ length s = omega arith in
       iterate-holds (jobStep given set s room) (refusedAt 5 0 outer (starting 0)) Any (AtMost s) k step-placed (λ t. length s - t .at) st tt
 
-header-outcome : (job : List ℕ) (room : ℕ) {r : Header} → HeaderIn (length job) r → AtMost job (judgedAfter every job room r)
+header-outcome : (gray : Bool) (job : List ℕ) (room : ℕ) {r : Header} → HeaderIn (length job) r → AtMost job (judgedAfter gray every job room r)
 unfolding judgedAfter
-header-outcome job room (HeaderIn.good {high = high} {next = next}) = judged-placed every (record { high = high; gray = startsGray }) job room (starting next)
-header-outcome job room (HeaderIn.ill h) = h
+header-outcome gray job room (HeaderIn.good {high = high} {next = next}) = judged-placed every (record { high = high; gray = gray }) job room (starting next)
+header-outcome gray job room (HeaderIn.ill h) = h
 
 -- the position of a verdict is a place of the job, or its end
 pub verdict-placed : Within
 unfolding verdictOf outcomeOf entryOf outcomeAt
-verdict-placed job work room =
-    pick-all (λ e. AtMost job (outcomeAt every job room e)) (ltb work 16384) (λ _. let k : 0 ≤ length job = omega arith in k)
-    (λ _. pick-all (λ e. AtMost job (outcomeAt every job room e)) (ltb 61440 (length job))
-    (λ t. let k = ltb-true 61440 (length job) t in let l : 61440 ≤ length job = omega arith in l) (λ _. header-outcome job room (header-in job)))
+verdict-placed gray job work room =
+    pick-all (λ e. AtMost job (outcomeAt gray every job room e)) (ltb work 16384) (λ _. let k : 0 ≤ length job = omega arith in k)
+    (λ _. pick-all (λ e. AtMost job (outcomeAt gray every job room e)) (ltb 61440 (length job))
+    (λ t. let k = ltb-true 61440 (length job) t in let l : 61440 ≤ length job = omega arith in l) (λ _. header-outcome gray job room (header-in job)))
 
 -- what passes, operator by operator: no layout rule is broken, and the records fit
 module _ (set : Setting) (s : List ℕ) (room : ℕ) where
@@ -124,30 +124,30 @@ module _ (set : Setting) (s : List ℕ) (room : ℕ) where
       (read-good (contextOf layout (set .high) (st .place)) s (st .at)) (read-good (contextOf every (set .high) (st .place)) s (st .at))
       (ap (λ z. z .code) (sym (judged-step every set s room st)) ∙ l))
 
-after-header : (job : List ℕ) (room : ℕ) {r : Header} → GoodHeader r → judgedAfter every job room r .code ≡ 0
-    → (judgedAfter layout job 0 r .code ≡ 0) × (judgedAfter layout job 0 r .state .records * 16 ≤ room)
+after-header : (gray : Bool) (job : List ℕ) (room : ℕ) {r : Header} → GoodHeader r → judgedAfter gray every job room r .code ≡ 0
+    → (judgedAfter gray layout job 0 r .code ≡ 0) × (judgedAfter gray layout job 0 r .state .records * 16 ≤ room)
 unfolding judgedAfter
-after-header job room (GoodHeader.good {high = high} {next = next}) l =
-    shown (record { high = high; gray = startsGray }) job room (suc (length job - next)) (starting next) (omega arith) (omega arith) l
-after-header job room (GoodHeader.ill {code = code} k) l = not-coded code k l
+after-header gray job room (GoodHeader.good {high = high} {next = next}) l =
+    shown (record { high = high; gray = gray }) job room (suc (length job - next)) (starting next) (omega arith) (omega arith) l
+after-header gray job room (GoodHeader.ill {code = code} k) l = not-coded code k l
 
 -- a job that passes keeps the layout rules and has room for its list
-module _ (job : List ℕ) (room : ℕ) where
+module _ (gray : Bool) (job : List ℕ) (room : ℕ) where
   abbrev Meets : Entry → Type 0
-  Meets e = (outcomeAt layout job 0 e .code ≡ 0) × (outcomeAt layout job 0 e .state .records * 16 ≤ room)
+  Meets e = (outcomeAt gray layout job 0 e .code ≡ 0) × (outcomeAt gray layout job 0 e .state .records * 16 ≤ room)
 
-  let-in : (short long : Bool) → outcomeAt every job room (pick short (Entry.refused 29 0) (pick long (Entry.refused 1 61440) Entry.admitted)) .code ≡ 0
+  let-in : (short long : Bool) → outcomeAt gray every job room (pick short (Entry.refused 29 0) (pick long (Entry.refused 1 61440) Entry.admitted)) .code ≡ 0
       → Meets (pick long (Entry.refused 1 61440) Entry.admitted)
   unfolding outcomeAt
   let-in true long l = absurd (omega (arith, l))
   let-in false true l = absurd (omega (arith, l))
-  let-in false false l = after-header job room (header-good job) l
+  let-in false false l = after-header gray job room (header-good job) l
 
-  pub passes-kept : (work : ℕ) → verdictOf job work room .code ≡ 0 → Keeps job × HasRoom job room
+  pub passes-kept : (work : ℕ) → verdictOf gray job work room .code ≡ 0 → Keeps gray job × HasRoom gray job room
   unfolding verdictOf outcomeOf entryOf
   passes-kept work l = let m = let-in (ltb work 16384) (ltb 61440 (length job)) l in (record { passes = m .0 }, record { fits = m .1 })
 
 -- so demand 3 leaves out no job that passes
 pub passes-exactly : PassesExactly
-passes-exactly job work room h =
-    (λ e. let k = passes-kept job room work e in (k .0, k .1, demand-3 job work room h (k .0) (k .1) .0 .0 e), λ k. demand-3 job work room h (k .0) (k .1) .0 .1 (k .2))
+passes-exactly gray job work room h =
+    (λ e. let k = passes-kept gray job room work e in (k .0, k .1, demand-3 gray job work room h (k .0) (k .1) .0 .0 e), λ k. demand-3 gray job work room h (k .0) (k .1) .0 .1 (k .2))

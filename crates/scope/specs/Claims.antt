@@ -17,42 +17,42 @@ use Rattle.scope.specs.Session.{Setting, outside, sessionOf, joinedOf, r
 use Rattle.scope.specs.Names.{BeginSession, BeginStream, ReadStream, EndStream, ExecStream, StreamName}
 use Rattle.scope.specs.Judge.{State, Case, Rule, rule, motifs-own, rules, outer, Outcome, starting}
 use Rattle.scope.specs.Runs.{caseAt, Performs, Runs, Comes}
-use Rattle.scope.specs.Verdict.{startsGray, every, layout, verdictOf, outcomeOf, attributeRecord, operatorRecord, listOf, zeros, workAfter}
+use Rattle.scope.specs.Verdict.{every, layout, verdictOf, outcomeOf, attributeRecord, operatorRecord, listOf, zeros, workAfter}
 use Rattle.scope.specs.Plain.{unfoldingOf, comes, atStart}
 
 -- what becomes of a job where 17, 23 to 26 and 28 are never given, with a work buffer that is long enough; the list plays no part then
-abbrev pub withoutTheSix : List ℕ → Outcome
-withoutTheSix job = outcomeOf layout job 16384 0
+abbrev pub withoutTheSix : (gray : Bool) → List ℕ → Outcome
+withoutTheSix gray job = outcomeOf gray layout job 16384 0
 
 -- a job keeps the layout rules: it would pass were those six never given
-pub record Keeps (job : List ℕ) : Type 0 where
-  pub passes : withoutTheSix job .code ≡ 0
+pub record Keeps (gray : Bool) (job : List ℕ) : Type 0 where
+  pub passes : withoutTheSix gray job .code ≡ 0
 
 -- there is room for its list
-pub record HasRoom (job : List ℕ) (room : ℕ) : Type 0 where
-  pub fits : withoutTheSix job .state .records * 16 ≤ room
+pub record HasRoom (gray : Bool) (job : List ℕ) (room : ℕ) : Type 0 where
+  pub fits : withoutTheSix gray job .state .records * 16 ≤ room
 
 -- demand 3
 abbrev pub Demand3 : Type 0
 Demand3 =
-    (job : List ℕ) (work room : ℕ) → 16384 ≤ work → Keeps job → HasRoom job room
-    → ((verdictOf job work room .code ≡ 0) ↔ (comes (unfoldingOf startsGray job) atStart ≡ true))
-    × (verdictOf job work room .code ≡ 0 → verdictOf job work room .performed ≡ length (unfoldingOf startsGray job))
+    (gray : Bool) (job : List ℕ) (work room : ℕ) → 16384 ≤ work → Keeps gray job → HasRoom gray job room
+    → ((verdictOf gray job work room .code ≡ 0) ↔ (comes (unfoldingOf gray job) atStart ≡ true))
+    × (verdictOf gray job work room .code ≡ 0 → verdictOf gray job work room .performed ≡ length (unfoldingOf gray job))
 
 -- demand 3 without a premise on the job: it passes exactly if it keeps the layout rules, has room for its list, and the plain arm comes to its end with no
 -- rule broken
 abbrev pub PassesExactly : Type 0
 PassesExactly =
-    (job : List ℕ) (work room : ℕ) → 16384 ≤ work
-    → (verdictOf job work room .code ≡ 0) ↔ (Keeps job × HasRoom job room × (comes (unfoldingOf startsGray job) atStart ≡ true))
+    (gray : Bool) (job : List ℕ) (work room : ℕ) → 16384 ≤ work
+    → (verdictOf gray job work room .code ≡ 0) ↔ (Keeps gray job × HasRoom gray job room × (comes (unfoldingOf gray job) atStart ≡ true))
 
 -- the position of a verdict is a place of the job, or its end
 abbrev pub Within : Type 0
-Within = (job : List ℕ) (work room : ℕ) → verdictOf job work room .position ≤ length job
+Within = (gray : Bool) (job : List ℕ) (work room : ℕ) → verdictOf gray job work room .position ≤ length job
 
 -- the code of a verdict is one of 0 to 29
 abbrev pub CodeKnown : Type 0
-CodeKnown = (job : List ℕ) (work room : ℕ) → verdictOf job work room .code ≤ 29
+CodeKnown = (gray : Bool) (job : List ℕ) (work room : ℕ) → verdictOf gray job work room .code ≤ 29
 
 -- what inner says: nothing; or the motif that was being read is faulty, by its code and at a place of its own or at its end, and the position is that of an
 -- EndStream
@@ -63,7 +63,7 @@ pub data InnerSays (job : List ℕ) (e : Outcome) : Type 0 where
 
 -- inner is 4294967295 unless a motif is faulty
 abbrev pub InnerKnown : Type 0
-InnerKnown = (job : List ℕ) (work room : ℕ) → InnerSays job (outcomeOf every job work room)
+InnerKnown = (gray : Bool) (job : List ℕ) (work room : ℕ) → InnerSays job (outcomeOf gray every job work room)
 
 -- none of these rules is broken
 pub data BreaksNone (c : Case) : List Rule → Type 0 where
@@ -75,10 +75,10 @@ pub data BreaksNone (c : Case) : List Rule → Type 0 where
 -- and there its judging ends, at the end of the job, at what reading refuses, or at an operator that a rule refuses
 abbrev pub FirstFault : Type 0
 FirstFault =
-    (job : List ℕ) (work room : ℕ) (high : Bool) (next : ℕ) → 16384 ≤ work → length job ≤ 61440 → headerOf job ≡ Header.is high next
-    → Comes every (record { high = high; gray = startsGray }) job room (starting next) (outcomeOf every job work room)
-    × ((st : State) (o : Operator) → Performs every (record { high = high; gray = startsGray }) job room st o
-    → BreaksNone (caseAt (record { high = high; gray = startsGray }) job st o) (rules room))
+    (gray : Bool) (job : List ℕ) (work room : ℕ) (high : Bool) (next : ℕ) → 16384 ≤ work → length job ≤ 61440 → headerOf job ≡ Header.is high next
+    → Comes every (record { high = high; gray = gray }) job room (starting next) (outcomeOf gray every job work room)
+    × ((st : State) (o : Operator) → Performs every (record { high = high; gray = gray }) job room st o
+    → BreaksNone (caseAt (record { high = high; gray = gray }) job st o) (rules room))
 
 -- the codes of a job that is cut off: in an item, and elsewhere
 abbrev pub cutOff : ℕ → Bool
@@ -95,14 +95,14 @@ pub data StartOf (start : List ℕ) (e f : Outcome) : Type 0 where
 -- no looking ahead: a refusal other than 5, 27 and a 2 at the end of the bytes is there whatever stands behind them, with the same verdict and the same list
 abbrev pub NoLookingAhead : Type 0
 NoLookingAhead =
-    (start rest : List ℕ) (work room : ℕ) → length (start ++ rest) ≤ 61440
-    → StartOf start (outcomeOf every start work room) (outcomeOf every (start ++ rest) work room)
+    (gray : Bool) (start rest : List ℕ) (work room : ℕ) → length (start ++ rest) ≤ 61440
+    → StartOf start (outcomeOf gray every start work room) (outcomeOf gray every (start ++ rest) work room)
 
 -- cuts: each start of a job that passes gets 2, 5 or 27, with no motif at fault, or passes, since it ends between sessions
 abbrev pub Cuts : Type 0
 Cuts =
-    (start rest : List ℕ) (work room : ℕ) → verdictOf (start ++ rest) work room .code ≡ 0
-    → (among (0 ∷ 2 ∷ 5 ∷ 27 ∷ []) (verdictOf start work room .code) ≡ true) × (verdictOf start work room .inner ≡ outer)
+    (gray : Bool) (start rest : List ℕ) (work room : ℕ) → verdictOf gray (start ++ rest) work room .code ≡ 0
+    → (among (0 ∷ 2 ∷ 5 ∷ 27 ∷ []) (verdictOf gray start work room .code) ≡ true) × (verdictOf gray start work room .inner ≡ outer)
 
 -- an attribute that has moved with the bytes from place p to place q: the same but for its two places
 pub record AttributeMoved (p q : ℕ) (a b : Attribute) : Type 0 where
@@ -133,15 +133,15 @@ pub data OperatorsMoved (p q : ℕ) (before other : List Operator) : List Operat
   more : {a b : Operator} {l m : List Operator} → OperatorMoved p q a b → OperatorsMoved p q before other l m → OperatorsMoved p q before other (a ∷ l) (b ∷ m)
 
 -- judging comes to a state: from the end of the header on it has performed some operators, none refused
-pub record Reached (job : List ℕ) (room : ℕ) (high : Bool) (st : State) : Type 0 where
+pub record Reached (gray : Bool) (job : List ℕ) (room : ℕ) (high : Bool) (st : State) : Type 0 where
   pub next : ℕ
   pub header : headerOf job ≡ Header.is high next
   pub before : List Operator
-  pub runs : Runs every (record { high = high; gray = startsGray }) job room (starting next) before st
+  pub runs : Runs every (record { high = high; gray = gray }) job room (starting next) before st
 
 -- judging stands outside a session, between two or before the first
-pub record Between (job : List ℕ) (room : ℕ) (high : Bool) (st : State) : Type 0 where
-  pub there : Reached job room high st
+pub record Between (gray : Bool) (job : List ℕ) (room : ℕ) (high : Bool) (st : State) : Type 0 where
+  pub there : Reached gray job room high st
   pub after-one : Bool
   pub stands : st .place ≡ outside after-one
 
@@ -171,7 +171,7 @@ recordsFrom m n list = drop (m * 16) (take (n * 16) list)
 
 -- a list has as many bytes as its records take
 abbrev pub ListLong : Type 0
-ListLong = (job : List ℕ) (work room : ℕ) → length (listOf job work room) ≡ verdictOf job work room .records * 16
+ListLong = (gray : Bool) (job : List ℕ) (work room : ℕ) → length (listOf gray job work room) ≡ verdictOf gray job work room .records * 16
 
 -- the first job is refused by 26 or 28 before the other ends: up to there the two are the same; and the numbers before, or the rooms, were not the same
 pub record CutShort (a b : State) (room space : ℕ) (e f : Outcome) : Type 0 where
@@ -192,17 +192,17 @@ pub data Alike (a b : State) (room space : ℕ) (e f : Outcome) : Type 0 where
 -- verdict from there on, whatever they have performed and listed before, unless 26 or 28 cuts one of them short
 abbrev pub Isolated : Type 0
 Isolated =
-    (job other : List ℕ) (work work′ room space : ℕ) (high : Bool) (a b : State) → 16384 ≤ work → 16384 ≤ work′ → length job ≤ 61440 → length other ≤ 61440
-    → Between job room high a → Between other space high b → drop (a .at) job ≡ drop (b .at) other → after job (a .at) < length job
-    → Alike a b room space (outcomeOf every job work room) (outcomeOf every other work′ space)
+    (gray : Bool) (job other : List ℕ) (work work′ room space : ℕ) (high : Bool) (a b : State) → 16384 ≤ work → 16384 ≤ work′ → length job ≤ 61440 → length other ≤ 61440
+    → Between gray job room high a → Between gray other space high b → drop (a .at) job ≡ drop (b .at) other → after job (a .at) < length job
+    → Alike a b room space (outcomeOf gray every job work room) (outcomeOf gray every other work′ space)
 
 -- where they are the same from there on, so are the bytes of both lists, record by record, but for places
 abbrev pub SameList : Type 0
 SameList =
-    (job other : List ℕ) (work work′ room space : ℕ) (high : Bool) (a b : State) → Between job room high a → Between other space high b
-    → SameFrom a b (outcomeOf every job work room) (outcomeOf every other work′ space)
-    → RecordsMoved (a .at) (b .at) (recordsFrom (a .records) (verdictOf job work room .records) (listOf job work room))
-    (recordsFrom (b .records) (verdictOf other work′ space .records) (listOf other work′ space))
+    (gray : Bool) (job other : List ℕ) (work work′ room space : ℕ) (high : Bool) (a b : State) → Between gray job room high a → Between gray other space high b
+    → SameFrom a b (outcomeOf gray every job work room) (outcomeOf gray every other work′ space)
+    → RecordsMoved (a .at) (b .at) (recordsFrom (a .records) (verdictOf gray job work room .records) (listOf gray job work room))
+    (recordsFrom (b .records) (verdictOf gray other work′ space .records) (listOf gray other work′ space))
 
 -- the same state, so many bytes further on
 abbrev pub moveBy : ℕ → State → State
@@ -216,8 +216,8 @@ putIn at bytes job = take at job ++ (bytes ++ drop at job)
 -- and list the same; positions and places behind the white bytes move along
 abbrev pub WhiteBetween : Type 0
 WhiteBetween =
-    (job blank : List ℕ) (work room : ℕ) (high : Bool) (st : State) → 16384 ≤ work → length (putIn (st .at) blank job) ≤ 61440 → spaces blank ≡ length blank
-    → Reached job room high st → SameFrom st (moveBy (length blank) st) (outcomeOf every job work room) (outcomeOf every (putIn (st .at) blank job) work room)
+    (gray : Bool) (job blank : List ℕ) (work room : ℕ) (high : Bool) (st : State) → 16384 ≤ work → length (putIn (st .at) blank job) ≤ 61440 → spaces blank ≡ length blank
+    → Reached gray job room high st → SameFrom st (moveBy (length blank) st) (outcomeOf gray every job work room) (outcomeOf gray every (putIn (st .at) blank job) work room)
 
 -- the operators performed since the last BeginSession; as everywhere, the last one stands first
 unfoldable pub ofSession : List Operator → List Operator
@@ -274,7 +274,7 @@ OwnStrokes =
 -- an ExecStream that is performed, in whatever job, names a motif that was defined in its own session
 abbrev pub OwnCalls : Type 0
 OwnCalls =
-    (job : List ℕ) (work room : ℕ) (later before : List Operator) (o : Operator) → outcomeOf every job work room .state .past ≡ later ++ (o ∷ before)
+    (gray : Bool) (job : List ℕ) (work room : ℕ) (later before : List Operator) (o : Operator) → outcomeOf gray every job work room .state .past ≡ later ++ (o ∷ before)
     → o .tag ≡ ExecStream → (bytes : List ℕ) × Defines job (bytesIn job (o .attrs) StreamName) bytes (ofSession before)
 
 -- the work buffer of a job that is judged is zero in its first 16,384 bytes, and behind them as it was

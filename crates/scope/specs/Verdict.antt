@@ -18,10 +18,6 @@ pub record Verdict : Type 0 where
   pub records : ℕ
   pub performed : ℕ
 
--- BeginPage starts with RGB
-abbrev pub startsGray : Bool
-startsGray = false
-
 -- all codes are given
 abbrev pub every : ℕ → Bool
 every k = true
@@ -30,9 +26,10 @@ every k = true
 unfoldable pub layout : ℕ → Bool
 layout k = not (among (17 ∷ 23 ∷ 24 ∷ 25 ∷ 26 ∷ 28 ∷ []) k)
 
-unfoldable pub judgedAfter : (ℕ → Bool) → List ℕ → ℕ → Header → Outcome
-judgedAfter given s room (Header.no code place) = refusedAt code place outer (starting 0)
-judgedAfter given s room (Header.is high next) = judgedFrom given (record { high = high; gray = startsGray }) s room (starting next)
+-- behind the header; a page starts in gray or in RGB, as the caller asks
+unfoldable pub judgedAfter : (gray : Bool) → (ℕ → Bool) → List ℕ → ℕ → Header → Outcome
+judgedAfter gray given s room (Header.no code place) = refusedAt code place outer (starting 0)
+judgedAfter gray given s room (Header.is high next) = judgedFrom given (record { high = high; gray = gray }) s room (starting next)
 
 -- before the job is looked at: 29, then 1, a code and a position; or it is admitted
 pub data Entry : Type 0 where
@@ -42,20 +39,20 @@ pub data Entry : Type 0 where
 unfoldable pub entryOf : (length-of-job work : ℕ) → Entry
 entryOf n work = pick (ltb work 16384) (refused 29 0) (pick (ltb 61440 n) (refused 1 61440) admitted)
 
-unfoldable pub outcomeAt : (ℕ → Bool) → List ℕ → (room : ℕ) → Entry → Outcome
-outcomeAt given job room (refused code position) = refusedAt code position outer (starting 0)
-outcomeAt given job room admitted = judgedAfter given job room (headerOf job)
+unfoldable pub outcomeAt : (gray : Bool) → (ℕ → Bool) → List ℕ → (room : ℕ) → Entry → Outcome
+outcomeAt gray given job room (refused code position) = refusedAt code position outer (starting 0)
+outcomeAt gray given job room admitted = judgedAfter gray given job room (headerOf job)
 
 -- 29, 1, then the header, then items from the left
-unfoldable pub outcomeOf : (ℕ → Bool) → List ℕ → (work room : ℕ) → Outcome
-outcomeOf given job work room = outcomeAt given job room (entryOf (length job) work)
+unfoldable pub outcomeOf : (gray : Bool) → (ℕ → Bool) → List ℕ → (work room : ℕ) → Outcome
+outcomeOf gray given job work room = outcomeAt gray given job room (entryOf (length job) work)
 
 abbrev pub told : Outcome → Verdict
 told o = record { code = o .code; position = o .position; inner = o .inner; records = o .state .records; performed = o .state .performed }
 
--- the verdict on a job, with a work buffer and a list buffer of so many bytes
-unfoldable pub verdictOf : List ℕ → (work room : ℕ) → Verdict
-verdictOf job work room = told (outcomeOf every job work room)
+-- the verdict on a job whose pages start in gray, or else in RGB, with a work buffer and a list buffer of so many bytes
+unfoldable pub verdictOf : (gray : Bool) → List ℕ → (work room : ℕ) → Verdict
+verdictOf gray job work room = told (outcomeOf gray every job work room)
 
 -- a number in four bytes, low byte first
 unfoldable pub four : ℕ → List ℕ
@@ -81,12 +78,12 @@ recordsBefore [] rest = rest
 recordsBefore (o ∷ os) rest = recordsBefore os (attributeRecords (o .attrs) ++ (operatorRecord o ++ rest))
 
 -- the list's bytes
-unfoldable pub listOf : List ℕ → (work room : ℕ) → List ℕ
-listOf job work room = recordsBefore (outcomeOf every job work room .state .past) []
+unfoldable pub listOf : (gray : Bool) → List ℕ → (work room : ℕ) → List ℕ
+listOf gray job work room = recordsBefore (outcomeOf gray every job work room .state .past) []
 
 -- the list buffer afterwards: the records, and behind them what stood there
-unfoldable pub listAfter : List ℕ → (work : ℕ) → List ℕ → List ℕ
-listAfter job work list = listOf job work (length list) ++ drop (length (listOf job work (length list))) list
+unfoldable pub listAfter : (gray : Bool) → List ℕ → (work : ℕ) → List ℕ → List ℕ
+listAfter gray job work list = listOf gray job work (length list) ++ drop (length (listOf gray job work (length list))) list
 
 -- so many zero bytes
 unfoldable pub zeros : ℕ → List ℕ

@@ -1,6 +1,7 @@
 // Judges many jobs and prints a line for each: the five numbers, then a checksum of the work buffer and one of the list.
 //
-// A job is the lengths of the job, of the work buffer and of the list, four bytes each with the low byte first, then the job.
+// A job is the lengths of the job, of the work buffer and of the list and the start asked for (0 gray, else RGB), four bytes each with the low byte first, then the
+// job.
 mod line;
 mod rooms;
 
@@ -28,6 +29,7 @@ fn judge(
     held: usize,
     list: &mut [u8],
     room: usize,
+    gray: bool,
 ) -> state::Verdict {
     if job.len() < n || work.len() < held || list.len() < room {
         return state::Verdict {
@@ -38,14 +40,14 @@ fn judge(
             performed: 0,
         };
     }
-    checker::check(&job[0..n], &mut work[0..held], &mut list[0..room])
+    checker::check(&job[0..n], &mut work[0..held], &mut list[0..room], gray)
 }
 
 // Both buffers are full of a byte that no record and no zeroed work buffer has throughout.
-fn answer(job: &[u8], n: usize, held: usize, room: usize) {
+fn answer(job: &[u8], n: usize, held: usize, room: usize, gray: bool) {
     let mut work = rooms::filled();
     let mut list = rooms::filled();
-    let verdict = judge(job, n, &mut work, held, &mut list, room);
+    let verdict = judge(job, n, &mut work, held, &mut list, room, gray);
     line::print(verdict, checksum(&work), checksum(&list));
 }
 
@@ -64,19 +66,20 @@ fn number(a: u8, b: u8, c: u8, d: u8) -> usize {
 
 // One job, and whether there was one.
 fn next() -> bool {
-    let mut head = [0u8; 12];
-    if io::read_full(0, &mut head) < 12 {
+    let mut head = [0u8; 16];
+    if io::read_full(0, &mut head) < 16 {
         return false;
     }
     let n = number(head[0], head[1], head[2], head[3]);
     let held = number(head[4], head[5], head[6], head[7]);
     let room = number(head[8], head[9], head[10], head[11]);
+    let rgb = number(head[12], head[13], head[14], head[15]);
     let mut job = rooms::job();
     if !fill(&mut job, n) {
         io::write_all(2, b"the job is cut\n");
         return false;
     }
-    answer(&job, n, held, room);
+    answer(&job, n, held, room, rgb == 0);
     true
 }
 

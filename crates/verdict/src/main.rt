@@ -1,4 +1,4 @@
-// Judges the job on standard input and prints code, position, inner, records and performed.
+// Judges the job on standard input, whose pages start in gray, and prints code, position, inner, records and performed.
 
 // The five numbers on one line.
 fn print(v: state::Verdict) {
@@ -20,5 +20,5 @@ fn main() {
     let n = io::read_full(0, &mut job);
     let mut work = rooms::work();
     let mut list = io::large_buffer();
-    print(checker::check(&job[..n], &mut work, &mut list));
+    print(checker::check(&job[..n], &mut work, &mut list, true));
 }

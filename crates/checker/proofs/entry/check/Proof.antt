@@ -15,7 +15,7 @@ told-requires c κs = search needs
 returns : tie.Need-returns
 returns c =
     let a = c .before .before .before .before .before .args in
-    let p = early (a .job .now) (a .work .now) (a .list .now) (c .told .result) 29 0 (short-work (length (a .job .now)) (length (a .work .now)) (c .before .if1 .taken)) (c .told .ensures (lit< tt) (lit< tt)) in
+    let p = early (a .gray) (a .job .now) (a .work .now) (a .list .now) (c .told .result) 29 0 (short-work (length (a .job .now)) (length (a .work .now)) (c .before .if1 .taken)) (c .told .ensures (lit< tt) (lit< tt)) in
     p
 
 told-requires-2 : tie.Need-told-requires-2
@@ -24,7 +24,7 @@ told-requires-2 c κs = search needs
 returns-2 : tie.Need-returns-2
 returns-2 c =
     let a = c .before .before .before .before .before .before .args in
-    let p = early (a .job .now) (a .work .now) (a .list .now) (c .told2 .result) 1 61440 (long-job (length (a .job .now)) (length (a .work .now)) (c .before .before .if1 .left) (c .before .if2 .taken)) (c .told2 .ensures (lit< tt) (lit< tt)) in
+    let p = early (a .gray) (a .job .now) (a .work .now) (a .list .now) (c .told2 .result) 1 61440 (long-job (length (a .job .now)) (length (a .work .now)) (c .before .before .if1 .left) (c .before .if2 .taken)) (c .told2 .ensures (lit< tt) (lit< tt)) in
     p
 
 judge-job-requires : tie.Need-judge-job-requires
@@ -46,7 +46,7 @@ returns-3 c =
     let q = g .before .before .before in
     let a = q .before .before .before .before .before .args in
     let n = g .judge-job .ensures in
-    let p = whole (a .job .now) (a .work .now) (a .list .now) (g .judge-job .result) _ _ (lets-in (length (a .job .now)) (length (a .work .now)) (q .before .if1 .left) (q .if2 .left)) (n .1 .0) (n .1 .1)
+    let p = whole (a .gray) (a .job .now) (a .work .now) (a .list .now) (g .judge-job .result) _ _ (lets-in (length (a .job .now)) (length (a .work .now)) (q .before .if1 .left) (q .if2 .left)) (n .1 .0) (n .1 .1)
     (z .zero .ensures ∙ cleared-alike _ (a .work .now) (n .0 .work-long) (q .before .if1 .left) (n .0 .rest)) in
     p
 

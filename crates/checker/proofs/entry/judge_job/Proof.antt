@@ -31,7 +31,7 @@ returns c =
     let a = st .args in
     let e = rw (c .before .before .code .given .1) at (h .header-of .ensures .0) in
     let p = header-placed (a .job .now) _ _ (sym e) in
-    (record { work-long = refl; list-long = refl; rest = refl }, header-no (a .job .now) (a .list .now) (c .told .result) _ _ e (c .told .ensures (omega (arith, p, st .pre)) (lit< tt)))
+    (record { work-long = refl; list-long = refl; rest = refl }, header-no (a .gray) (a .job .now) (a .list .now) (c .told .result) _ _ e (c .told .ensures (omega (arith, p, st .pre)) (lit< tt)))
 
 same-length : tie.Need-same-length
 same-length c = search needs
@@ -47,7 +47,7 @@ returns-2 c =
     let a = st .args in
     let e = rw (g .before .before .before .before .high .given .1) at (h .header-of .ensures .0) in
     let n = rw (g .before .before .before .before .high .given .1) at (h .header-of .ensures .1) in
-    (g .judge-items .ensures .0, header-is (a .job .now) (a .list .now) _ (g .judge-items .result) _ _ e (g .judge-items .ensures .1 (st .pre .0) (st .pre .1) n))
+    (g .judge-items .ensures .0, header-is (a .gray) (a .job .now) (a .list .now) _ (g .judge-items .result) _ _ e (g .judge-items .ensures .1 (st .pre .0) (st .pre .1) n))
 
 pub judge-job-spec : {M : Type 1} → statement M
 judge-job-spec =
