@@ -1,6 +1,6 @@
 /* A checker behind pipes: reads cases from standard input, judges each with the linked library, writes the answers to standard output.
    For machines on which the static library cannot be linked into the Rust program itself; needs no header of a C library.
-   A case: three 32-bit lengths (job, work, list), low byte first, then the bytes. An answer: five 32-bit numbers, then work, list, and one byte that is 1 if no
+   A case: four 32-bit numbers, low byte first: the lengths of job, work and list, and what is asked for the start (0 gray, else RGB); then the bytes. An answer: five 32-bit numbers, then work, list, and one byte that is 1 if no
    byte beside the three buffers was touched and the job is as it was. */
 #include "../include/dieuvakhop.h"
 
@@ -52,11 +52,11 @@ static int same(const uint8_t *a, const uint8_t *b, uint32_t n) {
 }
 
 int main(void) {
-    uint32_t n[3];
+    uint32_t n[4];
     while (got((uint8_t *)n, sizeof n)) {
         if (!lend(job, n[0]) || !lend(work, n[1]) || !lend(list, n[2])) return 1;
         for (uint32_t i = 0; i < n[0]; i++) copy[i] = job[GUARD + i];
-        struct dieuvakhop_verdict v = dieuvakhop_check(job + GUARD, n[0], work + GUARD, n[1], list + GUARD, n[2]);
+        struct dieuvakhop_verdict v = dieuvakhop_check(job + GUARD, n[0], work + GUARD, n[1], list + GUARD, n[2], n[3]);
         uint8_t fine = kept(job, n[0]) && kept(work, n[1]) && kept(list, n[2]) && same(copy, job + GUARD, n[0]);
         put(&v, sizeof v);
         put(work + GUARD, n[1]);

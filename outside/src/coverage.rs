@@ -21,7 +21,12 @@ pub struct Coverage {
     pub shown: BTreeMap<&'static str, [u64; 2]>,
     /// Attributes with a class of real, low and high byte first: taken in a passed job, or the cause of a 16.
     pub reals: BTreeMap<(u16, Class), [u64; 2]>,
+    /// Passed jobs and refusals of the colour space, by start: gray, RGB.
+    pub starts: BTreeMap<u32, [u64; 2]>,
 }
+
+/// Codes that must come up in both starts.
+const STARTS: [u32; 2] = [0, 25];
 
 /// The attributes that take reals; the first two take any that is finite, the others only those above zero.
 const REALS: [u16; 4] = [76, 69, 103, 137];
@@ -141,7 +146,11 @@ fn rules_of(bytes: &[u8], code: u32, position: usize) -> Vec<Broken> {
 }
 
 impl Coverage {
-    pub fn add(&mut self, kind: &'static str, job: &[u8], v: &Verdict) {
+    /// Counts a case, asked with this start, and its verdict.
+    pub fn add(&mut self, kind: &'static str, job: &[u8], rgb: u32, v: &Verdict) {
+        if STARTS.contains(&v.code) {
+            self.starts.entry(v.code).or_default()[usize::from(rgb != 0)] += 1;
+        }
         *self.kinds.entry(kind).or_default() += 1;
         let inside = v.inner != NO_INNER;
         let code = v.code as usize;
@@ -214,6 +223,11 @@ impl Coverage {
                 gaps.push(rule_name(&rule));
             }
         }
+        for code in STARTS {
+            if self.starts.get(&code).is_none_or(|starts| starts.contains(&0)) {
+                gaps.push(format!("code {code} in both starts"));
+            }
+        }
         for (number, class) in REALS.into_iter().flat_map(|n| CLASSES.map(|c| (n, c))) {
             if self.reals.get(&(number, class)).is_none_or(|orders| orders.contains(&0)) {
                 gaps.push(format!("{} {class:?}", attribute_name(number)));
@@ -253,6 +267,9 @@ impl Coverage {
             let name = format!("{} {sign}{:?}", attribute_name(*number), class.0);
             let _ = writeln!(out, "{name:<36} {low:>8} {high:>8}");
         }
+        for (code, [gray, rgb]) in &self.starts {
+            let _ = writeln!(out, "code {code} in jobs that start in gray {gray:>8}, in RGB {rgb:>8}");
+        }
         out.push_str("passed jobs with                      outside, in a motif\n");
         for (what, [o, i]) in &self.shown {
             let _ = writeln!(out, "{what:<36} {o:>8} {i:>8}");
@@ -276,8 +293,8 @@ mod tests {
         let mut c = Coverage::default();
         for index in 0..12_000 {
             let mut case = generate::case(1, index);
-            let verdict = plain::check(&case.job, &mut case.work, &mut case.list);
-            c.add(case.kind, &case.job, &verdict);
+            let verdict = plain::check(&case.job, &mut case.work, &mut case.list, case.rgb);
+            c.add(case.kind, &case.job, case.rgb, &verdict);
         }
         assert!(c.gaps().is_empty(), "{:?}\n{}", c.gaps(), c.table());
     }

@@ -10,14 +10,17 @@ extern "C" {
         work_len: usize,
         list: *mut u8,
         list_len: usize,
+        rgb: u32,
     ) -> Verdict;
     fn bare_loop(job: *const u8, job_len: usize, list: *mut u8, list_len: usize) -> usize;
 }
 
-/// Judges a job by the linked checker.
-pub fn check(job: &[u8], work: &mut [u8], list: &mut [u8]) -> Verdict {
+/// Judges a job by the linked checker; a page starts in gray if `rgb` is 0, else in RGB.
+pub fn check(job: &[u8], work: &mut [u8], list: &mut [u8], rgb: u32) -> Verdict {
     // Each pointer and length is of one lent slice; the two lent for writing are apart by the borrow rules.
-    unsafe { dieuvakhop_check(job.as_ptr(), job.len(), work.as_mut_ptr(), work.len(), list.as_mut_ptr(), list.len()) }
+    unsafe {
+        dieuvakhop_check(job.as_ptr(), job.len(), work.as_mut_ptr(), work.len(), list.as_mut_ptr(), list.len(), rgb)
+    }
 }
 
 /// Classifies each byte and writes a record for each that could be an operator; the number of records.

@@ -29,12 +29,12 @@ fn bridge() -> &'static Mutex<Bridge> {
     })
 }
 
-/// Judges a job by the checker behind the bridge.
-pub fn check(job: &[u8], work: &mut [u8], list: &mut [u8]) -> Verdict {
+/// Judges a job by the checker behind the bridge; a page starts in gray if `rgb` is 0, else in RGB.
+pub fn check(job: &[u8], work: &mut [u8], list: &mut [u8], rgb: u32) -> Verdict {
     let mut b = bridge().lock().expect("one at a time");
-    let mut asked = Vec::with_capacity(12 + job.len() + work.len() + list.len());
-    for n in [job.len(), work.len(), list.len()] {
-        asked.extend((n as u32).to_le_bytes());
+    let mut asked = Vec::with_capacity(16 + job.len() + work.len() + list.len());
+    for n in [job.len() as u32, work.len() as u32, list.len() as u32, rgb] {
+        asked.extend(n.to_le_bytes());
     }
     asked.extend_from_slice(job);
     asked.extend_from_slice(work);

@@ -47,7 +47,8 @@ fn fault<T>(code: u32, at: usize) -> Result<T, Fault> {
 }
 
 /// Judges one job; `work` holds motifs meanwhile and is left zero, `list` gets the records.
-pub fn check(job: &[u8], work: &mut [u8], list: &mut [u8]) -> Verdict {
+/// A page starts in gray if `rgb` is 0, else in RGB.
+pub fn check(job: &[u8], work: &mut [u8], list: &mut [u8], rgb: u32) -> Verdict {
     let early = |code, position| Verdict { code, position, inner: NO_INNER, records: 0, performed: 0 };
     if work.len() < STORE {
         return early(29, 0);
@@ -56,7 +57,7 @@ pub fn check(job: &[u8], work: &mut [u8], list: &mut [u8]) -> Verdict {
         return early(1, JOB_MAX as u32);
     }
     let store = &mut work[..STORE];
-    let mut arm = Arm::new(store, list);
+    let mut arm = Arm::new(store, list, rgb == 0);
     let end = match arm.job(job) {
         Ok(()) => Fault { code: 0, at: job.len() as u32, inner: NO_INNER },
         Err(fault) => fault,
@@ -758,6 +759,8 @@ enum Place {
 struct Arm<'b> {
     store: &'b mut [u8],
     list: &'b mut [u8],
+    /// Whether a page starts in gray.
+    starts_gray: bool,
     records: usize,
     performed: u64,
     place: Place,
@@ -773,10 +776,11 @@ struct Arm<'b> {
 }
 
 impl<'b> Arm<'b> {
-    fn new(store: &'b mut [u8], list: &'b mut [u8]) -> Self {
+    fn new(store: &'b mut [u8], list: &'b mut [u8], starts_gray: bool) -> Self {
         Arm {
             store,
             list,
+            starts_gray,
             records: 0,
             performed: 0,
             place: Place::Outside,
@@ -957,7 +961,7 @@ impl<'b> Arm<'b> {
             }
             0x43 => {
                 self.place = Place::Page;
-                self.look = Look { cursor: false, gray: false };
+                self.look = Look { cursor: false, gray: self.starts_gray };
             }
             0x44 => self.place = Place::Session,
             0x48 => self.source_open = true,
@@ -994,11 +998,11 @@ impl<'b> Arm<'b> {
 #[cfg(test)]
 mod tests {
     use super::*;
-    use crate::generate::{self, Rng};
+    use crate::generate::{self, Rng, Setting};
     use crate::text::{self, Piece, Statement};
 
-    fn judge(job: &[u8]) -> Verdict {
-        check(job, &mut vec![1; STORE], &mut vec![1; 16 * (job.len() + 1)])
+    fn judge(job: &[u8], rgb: u32) -> Verdict {
+        check(job, &mut vec![1; STORE], &mut vec![1; 16 * (job.len() + 1)], rgb)
     }
 
     #[test]
@@ -1087,6 +1091,7 @@ mod tests {
     /// The arm of demand 3: performs each operator, calls unfolded, and stops where a rule of the state breaks.
     #[derive(Default)]
     struct Slow {
+        starts_gray: bool,
         held: Vec<(Vec<u8>, Vec<u8>)>,
         open: bool,
         cursor: bool,
@@ -1119,7 +1124,7 @@ mod tests {
                         true
                     }
                     0x43 => {
-                        (self.cursor, self.gray) = (false, false);
+                        (self.cursor, self.gray) = (false, self.starts_gray);
                         true
                     }
                     0x48 | 0x49 => {
@@ -1177,18 +1182,24 @@ mod tests {
     #[test]
     fn passes_exactly_if_the_slow_arm_comes_to_the_end() {
         let mut seen = [0; 30];
-        let jobs = (0..1500u64).map(|i| generate::write(&generate::rich(&mut Rng::new(i, 5))));
-        let limits = (0..160u64).map(|i| generate::limit(&mut Rng::new(i, 6), i as usize));
-        for job in jobs.chain(limits) {
-            let v = judge(&job);
+        let setting = |i: u64| Setting { gray: i.is_multiple_of(2) };
+        let rich = |i| generate::write(&generate::rich(&mut Rng::new(i, 5), setting(i)));
+        let jobs = (0..1500u64).map(|i| (i, rich(i)));
+        let limits = (0..160u64).map(|i| (i / 3, generate::limit(&mut Rng::new(i, 6), i as usize)));
+        for (i, job) in jobs.chain(limits) {
+            let starts_gray = setting(i).gray;
+            let v = judge(&job, u32::from(!starts_gray));
             seen[v.code as usize] += 1;
             match v.code {
                 0 => {
-                    let mut slow = Slow::default();
+                    let mut slow = Slow { starts_gray, ..Slow::default() };
                     assert!(slow.perform(&job), "{v:?}\n{}", text::list(&job));
                     assert_eq!(slow.count, v.performed.into());
                 }
-                17 | 23..=26 => assert!(!Slow::default().perform(&job), "{v:?}\n{}", text::list(&job)),
+                17 | 23..=26 => {
+                    let mut slow = Slow { starts_gray, ..Slow::default() };
+                    assert!(!slow.perform(&job), "{v:?}\n{}", text::list(&job));
+                }
                 _ => {}
             }
         }
@@ -1199,9 +1210,9 @@ mod tests {
     fn lists_read_back_to_the_same_job() {
         // Each record points at its tag, and the records of a passing job are its operators in order.
         for index in 0..300 {
-            let job = generate::write(&generate::valid(&mut Rng::new(index, 8)));
+            let job = generate::write(&generate::valid(&mut Rng::new(index, 8), Setting { gray: true }));
             let mut list = vec![0; 16 * (job.len() + 1)];
-            let v = check(&job, &mut vec![0; STORE], &mut list);
+            let v = check(&job, &mut vec![0; STORE], &mut list, 0);
             let (_, high, mut at) = text::read_header(&job).unwrap();
             let mut records = list.chunks(16).take(v.records as usize);
             let word = |r: &[u8], i: usize| u32::from_le_bytes(r[i..i + 4].try_into().unwrap()) as usize;

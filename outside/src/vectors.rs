@@ -1,6 +1,7 @@
 //! Vectors decided by hand: reading the folder `vectors/`, and holding a checker against it.
 //!
-//! A file has `let NAME = text` lines, `base text` lines (the start of every job that follows) and vectors:
+//! A file has `let NAME = text` lines, `base text` lines (how every job that follows begins), `start gray` or `start rgb` lines
+//! (what its pages start in; without one RGB is asked for, as before there was a choice) and vectors:
 //! `text => code position inner records performed -- sentence`, the text over several lines if need be.
 //! `-` is 4294967295, `^` the place marked in the text, `$` the length of the job. Indented lines below add `list N` and `work N`
 //! (buffer lengths) and `record N bytes`.
@@ -17,6 +18,8 @@ pub struct Vector {
     pub job: Vec<u8>,
     pub work: usize,
     pub list: usize,
+    /// 0 if pages start in gray.
+    pub rgb: u32,
     pub want: Verdict,
     pub records: Vec<(usize, Vec<u8>)>,
     pub sentence: String,
@@ -48,6 +51,7 @@ pub fn read_folder(folder: &Path) -> Result<Vec<Vector>, String> {
 pub fn parse(file: &str, text: &str, names: &mut Macros) -> Result<Vec<Vector>, String> {
     let mut all: Vec<Vector> = Vec::new();
     let mut base = String::new();
+    let mut rgb = 1;
     let mut job = String::new();
     for (index, line) in text.lines().enumerate() {
         let place = format!("{file}:{}", index + 1);
@@ -61,6 +65,12 @@ pub fn parse(file: &str, text: &str, names: &mut Macros) -> Result<Vec<Vector>, 
             names.insert(name.trim().into(), value.into());
         } else if let Some(rest) = line.strip_prefix("base").filter(|_| !begun) {
             base = rest.trim().into();
+        } else if let Some(rest) = line.strip_prefix("start ").filter(|_| !begun) {
+            rgb = match rest.trim() {
+                "gray" => 0,
+                "rgb" => 1,
+                other => return Err(told(format!("no start: {other}"))),
+            };
         } else if let (Some(rest), Some(last)) = (line.strip_prefix("  ").filter(|_| !begun), all.last_mut()) {
             option(rest.trim(), last).map_err(told)?;
         } else if let Some((tail, rest)) = line.split_once("=> ") {
@@ -74,6 +84,7 @@ pub fn parse(file: &str, text: &str, names: &mut Macros) -> Result<Vec<Vector>, 
                 job: a.bytes,
                 work: STORE + 64,
                 list: 65_536,
+                rgb,
                 want,
                 records: Vec::new(),
                 sentence: sentence.trim().into(),
@@ -132,12 +143,12 @@ fn verdict(text: &str, length: usize, marks: &[usize], inner_marks: &[usize]) ->
 }
 
 /// Holds a checker against one vector: the verdict and every byte of both buffers that 01 fixes.
-pub fn hold(v: &Vector, check: impl Fn(&[u8], &mut [u8], &mut [u8]) -> Verdict) -> Result<(), String> {
+pub fn hold(v: &Vector, check: impl Fn(&[u8], &mut [u8], &mut [u8], u32) -> Verdict) -> Result<(), String> {
     let before_work: Vec<u8> = (0..v.work).map(|i| (i % 251) as u8 | 1).collect();
     let before_list: Vec<u8> = (0..v.list).map(|i| (i % 241) as u8 ^ 0x5a).collect();
     let mut work = before_work.clone();
     let mut list = before_list.clone();
-    let got = check(&v.job, &mut work, &mut list);
+    let got = check(&v.job, &mut work, &mut list, v.rgb);
     if got != v.want {
         return Err(format!("{}: {} -- wanted {:?}, got {:?}", v.place, v.sentence, v.want, got));
     }
@@ -192,7 +203,9 @@ mod tests {
     #[test]
     fn wrong_files_are_told() {
         let mut names = Macros::new();
-        for text in ["hex 00", "hex 00 => 2 0 - 0", "hex 00 => 2 ^ - 0 0 -- no mark", "hex 00 => 2 0 - 0 0"] {
+        for text in
+            ["hex 00", "hex 00 => 2 0 - 0", "hex 00 => 2 ^ - 0 0 -- no mark", "hex 00 => 2 0 - 0 0", "start blue"]
+        {
             assert!(parse("x", text, &mut names).is_err(), "{text}");
         }
     }

@@ -9,6 +9,8 @@ use std::time::{Duration, Instant};
 
 const LONG: usize = JOB_MAX;
 const SHORT: usize = JOB_MAX / 10;
+/// What is asked for the start.
+const GRAY: u32 = 0;
 
 /// One kind of work: its name and its jobs, all bytes together about `length`.
 fn kinds(length: usize) -> Vec<(&'static str, Vec<Vec<u8>>)> {
@@ -75,11 +77,11 @@ fn judged(
     jobs: &[Vec<u8>],
     work: &mut [u8],
     list: &mut [u8],
-    check: fn(&[u8], &mut [u8], &mut [u8]) -> Verdict,
+    check: fn(&[u8], &mut [u8], &mut [u8], u32) -> Verdict,
 ) -> Duration {
     best(|| {
         for job in jobs {
-            black_box(check(black_box(job), work, list));
+            black_box(check(black_box(job), work, list, GRAY));
         }
     })
 }
@@ -103,7 +105,7 @@ fn tower() -> Vec<u8> {
 fn on_a_small_stack(jobs: Vec<Vec<u8>>) -> usize {
     let judge = move || {
         let (mut work, mut list) = (vec![0u8; plain::STORE], vec![0u8; 16 * (LONG + 1)]);
-        jobs.iter().map(|job| black_box(ffi::check(job, &mut work, &mut list))).count()
+        jobs.iter().map(|job| black_box(ffi::check(job, &mut work, &mut list, GRAY))).count()
     };
     let thread = std::thread::Builder::new().stack_size(64 * 1024).spawn(judge);
     thread.expect("a thread").join().expect("the thread ends")
@@ -127,8 +129,8 @@ fn main() {
             continue;
         }
         for job in long.iter().take(1).chain(short.iter().take(1)) {
-            let want = plain::check(job, &mut work, &mut list);
-            let got = ffi::check(job, &mut work, &mut list);
+            let want = plain::check(job, &mut work, &mut list, GRAY);
+            let got = ffi::check(job, &mut work, &mut list, GRAY);
             if want.code != 0 || got != want {
                 println!("{name}: plain {want:?}, linked {got:?}");
                 faulty = true;
@@ -156,8 +158,8 @@ fn main() {
     println!("growth is the time for 61,440 bytes by that for 6,144; 10 is in proportion");
 
     let tower = vec![tower()];
-    let want = plain::check(&tower[0], &mut work, &mut list);
-    let got = ffi::check(&tower[0], &mut work, &mut list);
+    let want = plain::check(&tower[0], &mut work, &mut list, GRAY);
+    let got = ffi::check(&tower[0], &mut work, &mut list, GRAY);
     faulty |= want.code != 26 || got != want;
     let linked = judged(&tower, &mut work, &mut list, ffi::check);
     let own = judged(&tower, &mut work, &mut list, plain::check);

@@ -36,7 +36,7 @@ fn differs(case: &Case, want: Verdict, work: &[u8], list: &[u8]) -> Option<(Stri
     let mut job = Guarded::new(&case.job);
     let mut own_work = Guarded::new(&case.work);
     let mut own_list = Guarded::new(&case.list);
-    let got = ffi::check(job.inside(), own_work.inside(), own_list.inside());
+    let got = ffi::check(job.inside(), own_work.inside(), own_list.inside(), case.rgb);
     let first = |a: &[u8], b: &[u8]| a.iter().zip(b).position(|(x, y)| x != y);
     let what = if got != want {
         "verdict".into()
@@ -92,11 +92,12 @@ fn main() -> ExitCode {
         let lent = case(seed, index);
         let mut work = lent.work.clone();
         let mut list = lent.list.clone();
-        let want = plain::check(&lent.job, &mut work, &mut list);
-        coverage.add(lent.kind, &lent.job, &want);
+        let want = plain::check(&lent.job, &mut work, &mut list, lent.rgb);
+        coverage.add(lent.kind, &lent.job, lent.rgb, &want);
         if let Some((what, got)) = differs(&lent, want, &work, &list) {
             println!("difference in the {what}: seed {seed}, case {index} ({})", lent.kind);
-            println!("work {} bytes, list {} bytes, job {} bytes", work.len(), list.len(), lent.job.len());
+            let (job, start) = (&lent.job, if lent.rgb == 0 { "gray" } else { "RGB" });
+            println!("work {} bytes, list {} bytes, job {} bytes, start in {start}", work.len(), list.len(), job.len());
             println!("plain  {}", numbers(&want));
             println!("linked {}", numbers(&got));
             println!("job {}", text::hex(&lent.job));

@@ -8,8 +8,8 @@ fn main() {
     let mut c = Coverage::default();
     for index in 0..n {
         let mut case = generate::case(seed, index);
-        let verdict = plain::check(&case.job, &mut case.work, &mut case.list);
-        c.add(case.kind, &case.job, &verdict);
+        let verdict = plain::check(&case.job, &mut case.work, &mut case.list, case.rgb);
+        c.add(case.kind, &case.job, case.rgb, &verdict);
     }
     print!("{}", c.table());
     println!("gaps: {:?}", c.gaps());

@@ -6,7 +6,7 @@
 //! are those of the plain checker, which must hold against the vector. Behind the vectors comes every start of a job that has
 //! every operator, with the plain checker's numbers.
 
-use outside::generate::{valid, write, Rng, TAGS};
+use outside::generate::{valid, write, Rng, Setting, TAGS};
 use outside::text::assemble;
 use outside::{plain, vectors};
 use std::path::{Path, PathBuf};
@@ -28,27 +28,27 @@ fn checksum(bytes: &[u8]) -> u32 {
     bytes.iter().fold(0u32, |sum, &b| sum.wrapping_mul(16_777_619).wrapping_add(u32::from(b)))
 }
 
-/// What the program reads for a job.
-fn asked(job: &[u8], work: usize, list: usize) -> Vec<u8> {
-    let lengths = [job.len(), work, list];
-    lengths.iter().flat_map(|&n| (n as u32).to_le_bytes()).chain(job.iter().copied()).collect()
+/// What the program reads for a job: three lengths and the start, then the job.
+fn asked(job: &[u8], work: usize, list: usize, rgb: u32) -> Vec<u8> {
+    let numbers = [job.len() as u32, work as u32, list as u32, rgb];
+    numbers.iter().flat_map(|n| n.to_le_bytes()).chain(job.iter().copied()).collect()
 }
 
 /// The line that the program must print of a job, and its five numbers.
-fn told(job: &[u8], work: usize, list: usize) -> (plain::Verdict, String) {
+fn told(job: &[u8], work: usize, list: usize, rgb: u32) -> (plain::Verdict, String) {
     let (mut all_work, mut all_list) = (vec![BEFORE; BUFFER], vec![BEFORE; BUFFER]);
-    let v = plain::check(job, &mut all_work[..work], &mut all_list[..list]);
+    let v = plain::check(job, &mut all_work[..work], &mut all_list[..list], rgb);
     let (work, list) = (checksum(&all_work), checksum(&all_list));
     (v, format!("{} {} {} {} {} {work} {list}\n", v.code, v.position, v.inner, v.records, v.performed))
 }
 
-/// A job that passes and has every operator in its list, the first such one that is short.
+/// A job that passes in gray and has every operator in its list, the first such one that is short.
 fn everything() -> Vec<u8> {
     (0..)
-        .map(|index| write(&valid(&mut Rng::new(2, index))))
+        .map(|index| write(&valid(&mut Rng::new(2, index), Setting { gray: true })))
         .find(|job| {
             let mut list = vec![0; BUFFER];
-            let v = plain::check(job, &mut vec![0; plain::STORE], &mut list);
+            let v = plain::check(job, &mut vec![0; plain::STORE], &mut list, 0);
             let listed = |tag: u8| list.chunks(16).take(v.records as usize).any(|r| r[0] == 2 && r[1] == tag);
             v.code == 0 && job.len() < 1_600 && TAGS.iter().all(|&tag| listed(tag))
         })
@@ -63,13 +63,13 @@ fn of_vectors() -> Result<Vec<Made>, String> {
         if v.job.len() > LONGEST || v.work > BUFFER || v.list > BUFFER {
             return Err(format!("{}: more bytes than the program has", v.place));
         }
-        output.push_str(&told(&v.job, v.work, v.list).1);
-        input.extend(asked(&v.job, v.work, v.list));
+        output.push_str(&told(&v.job, v.work, v.list, v.rgb).1);
+        input.extend(asked(&v.job, v.work, v.list, v.rgb));
     }
     let whole = everything();
     for end in 0..=whole.len() {
-        output.push_str(&told(&whole[..end], plain::STORE, BUFFER).1);
-        input.extend(asked(&whole[..end], plain::STORE, BUFFER));
+        output.push_str(&told(&whole[..end], plain::STORE, BUFFER, 0).1);
+        input.extend(asked(&whole[..end], plain::STORE, BUFFER, 0));
     }
     Ok(vec![("crates/vectors/stdin".into(), input), ("crates/vectors/stdout".into(), output.into_bytes())])
 }
@@ -85,12 +85,12 @@ fn assembled(folder: &str) -> Result<Vec<(String, Vec<u8>)>, String> {
     Ok(all)
 }
 
-/// Files and arguments of the program `explain`; a refused job has the code that its name starts with.
+/// Files and arguments of the program `explain`; a refused job has, in gray, the code that its name starts with.
 fn of_examples() -> Result<Vec<Made>, String> {
     let (refused, jobs) = (assembled("refused")?, assembled("jobs")?);
     let mut args = String::new();
     for (name, job) in &refused {
-        let code = told(job, plain::STORE, BUFFER).0.code;
+        let code = told(job, plain::STORE, BUFFER, 0).0.code;
         if !name.starts_with(&format!("{code:02}-")) {
             return Err(format!("{name}: code {code}"));
         }

@@ -1,4 +1,5 @@
 //! `job judge` prints the five numbers for the job on standard input, `job list` its text, `job assemble` turns text into a job.
+//! Pages start in gray, with `job judge --rgb` in RGB.
 
 use outside::{plain, text};
 use std::io::{Read, Write};
@@ -12,7 +13,8 @@ fn main() -> ExitCode {
     }
     let out = match std::env::args().nth(1).as_deref() {
         Some("judge") => {
-            let v = plain::check(&input, &mut vec![0; plain::STORE], &mut vec![0; 65_536]);
+            let rgb = u32::from(std::env::args().nth(2).as_deref() == Some("--rgb"));
+            let v = plain::check(&input, &mut vec![0; plain::STORE], &mut vec![0; 65_536], rgb);
             format!("{} {} {} {} {}\n", v.code, v.position, v.inner, v.records, v.performed).into_bytes()
         }
         Some("list") => text::list(&input).into_bytes(),
@@ -24,7 +26,7 @@ fn main() -> ExitCode {
             }
         },
         _ => {
-            eprintln!("job judge | list | assemble");
+            eprintln!("job judge [--rgb] | list | assemble");
             return ExitCode::from(2);
         }
     };

@@ -1,4 +1,4 @@
-//! Prints every vector as one line: place, work length, list length, the five numbers, the job in hex.
+//! Prints every vector as one line: place, work length, list length, start (0 gray, 1 RGB), the five numbers, the job in hex.
 
 use std::path::Path;
 
@@ -11,8 +11,8 @@ fn main() {
                 let hex = if hex.is_empty() { "-".into() } else { hex };
                 let w = v.want;
                 println!(
-                    "{} {} {} {} {} {} {} {} {hex}",
-                    v.place, v.work, v.list, w.code, w.position, w.inner, w.records, w.performed
+                    "{} {} {} {} {} {} {} {} {} {hex}",
+                    v.place, v.work, v.list, v.rgb, w.code, w.position, w.inner, w.records, w.performed
                 );
             }
         }

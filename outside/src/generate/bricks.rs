@@ -83,7 +83,7 @@ pub(super) fn page_start(rng: &mut Rng) -> Vec<Node> {
         out.push(point(0x6b, 76));
     }
     if rng.one_in(2) {
-        out.push(colour_space(1));
+        out.push(colour_space(1 + rng.below(2) as u32));
     }
     out
 }

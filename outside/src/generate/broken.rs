@@ -2,11 +2,12 @@
 
 use super::bricks::colour_space;
 use super::job::{op, Job, Motif, Node, Op, Pair};
-use super::maker::{Maker, FRESH};
+use super::maker::{Maker, Page};
 use super::rng::Rng;
 use super::shapes::{
     any_type, any_value, array, bad_range, bad_type, good_value, number, shapes_of, Need, Shape, SHAPES, TAGS,
 };
+use super::Setting;
 
 /// One attribute rule of one operator, and how it is broken.
 #[derive(Debug, Clone, Copy, PartialEq, Eq, PartialOrd, Ord)]
@@ -49,14 +50,20 @@ fn page_tag(tag: u8) -> bool {
 }
 
 /// A job that breaks one rule first, in the job or, where it may stand in one, in a motif.
-pub fn broken(rng: &mut Rng, rule: Broken, inside: bool) -> Job {
-    ending_in(rng, rule, inside, |rng, made| break_op(rng, made, rule))
+pub fn broken(rng: &mut Rng, set: Setting, rule: Broken, inside: bool) -> Job {
+    ending_in(rng, set, rule, inside, |rng, made| break_op(rng, made, rule))
 }
 
 /// A job that ends in the operator of a rule, in the job or in a motif, right but for one change.
-pub(super) fn ending_in(rng: &mut Rng, rule: Broken, inside: bool, change: impl Fn(&mut Rng, &mut Op)) -> Job {
+pub(super) fn ending_in(
+    rng: &mut Rng,
+    set: Setting,
+    rule: Broken,
+    inside: bool,
+    change: impl Fn(&mut Rng, &mut Op),
+) -> Job {
     let inside = inside && page_tag(rule.tag);
-    let mut m = Maker::new(rng.clone());
+    let mut m = Maker::new(rng.clone(), set);
     rng.draw();
     if rng.one_in(3) {
         m.session(1, 1, 5);
@@ -116,7 +123,7 @@ fn right_operator(m: &mut Maker, rule: Broken, inside: bool) -> Op {
             }
             op(0x5c).with(140, number(0xc0, 3)).data(vec![1, 2, 3])
         }
-        0x5e => m.call(&mut FRESH.clone(), inside, true).unwrap_or(op(0x5e)),
+        0x5e => m.call(&mut Page::new(m.set), inside, true).unwrap_or(op(0x5e)),
         0x9b | 0x9d if matches!(rule.number, 77 | 80) && rule.code != 14 => m.points(rule.tag),
         0x63 | 0x79 => {
             let choice = shapes_of(rule.tag).position(|s| s.0 == rule.number).unwrap_or(2);
@@ -131,7 +138,7 @@ fn operators_before(m: &mut Maker, tag: u8, inside: bool) -> Vec<Node> {
     let mut before = Vec::new();
     if tag != 0x47 {
         let n = m.rng.below(6);
-        before.extend(m.page(n, &mut FRESH.clone(), inside));
+        before.extend(m.page(n, &mut Page::new(m.set), inside));
     }
     if tag == 0x60 {
         before.push(op(0x61).node());
@@ -247,7 +254,7 @@ fn put_wrong_value(rng: &mut Rng, made: &mut Op, rule: Broken) {
 #[cfg(test)]
 mod tests {
     use super::*;
-    use crate::generate::{judged, write};
+    use crate::generate::{judged, setting, write};
     use crate::{plain, text};
 
     #[test]
@@ -255,8 +262,8 @@ mod tests {
         for (i, rule) in all_rules().into_iter().enumerate() {
             for inside in [false, true] {
                 for round in 0..6 {
-                    let job = write(&broken(&mut Rng::new(round, i as u64), rule, inside));
-                    let verdict = judged(&job);
+                    let job = write(&broken(&mut Rng::new(round, i as u64), setting(round), rule, inside));
+                    let verdict = judged(&job, setting(round));
                     assert_eq!(verdict.code, rule.code, "{rule:x?} {verdict:?}\n{}", text::list(&job));
                     assert_eq!(verdict.inner != plain::NO_INNER, inside && page_tag(rule.tag));
                 }

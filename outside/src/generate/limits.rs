@@ -8,6 +8,7 @@ use super::job::{op, write, Job, Motif, Node, Op};
 use super::maker::Maker;
 use super::rng::Rng;
 use super::shapes::{array, number, TAGS};
+use super::Setting;
 use crate::text::Value;
 
 /// A job being built behind BeginSession and OpenDataSource, and what else it needs.
@@ -323,7 +324,7 @@ fn powers_of_eight(rng: &mut Rng, _: usize, edge: &mut Edge) {
 
 /// Motifs that do not end well: an image open, rows unread, saves, data or attributes left.
 fn bad_ends(rng: &mut Rng, _: usize, edge: &mut Edge) {
-    let mut maker = Maker::new(rng.clone());
+    let mut maker = Maker::new(rng.clone(), Setting { gray: true });
     rng.draw();
     let mut body = small_body(rng);
     match rng.below(5) {
@@ -347,7 +348,7 @@ fn bad_ends(rng: &mut Rng, _: usize, edge: &mut Edge) {
 
 /// Images whose operators do not come in order, in the page or in a motif.
 fn image_order(rng: &mut Rng, _: usize, edge: &mut Edge) {
-    let mut maker = Maker::new(rng.clone());
+    let mut maker = Maker::new(rng.clone(), Setting { gray: true });
     rng.draw();
     let mut image: Vec<Node> = maker.image().into_iter().map(Op::node).collect();
     let at = 1 + rng.below(image.len() - 1);
@@ -397,7 +398,7 @@ fn sessions(rng: &mut Rng, _: usize, edge: &mut Edge) {
 #[cfg(test)]
 mod tests {
     use super::*;
-    use crate::generate::judged;
+    use crate::generate::{judged, setting};
     use std::collections::BTreeSet;
 
     #[test]
@@ -405,7 +406,7 @@ mod tests {
         let mut codes = vec![BTreeSet::new(); LIMITS.len()];
         for round in 0..30 {
             for (which, seen) in codes.iter_mut().enumerate() {
-                seen.insert(judged(&limit(&mut Rng::new(round, which as u64), which)).code);
+                seen.insert(judged(&limit(&mut Rng::new(round, which as u64), which), setting(round)).code);
             }
         }
         let want: [&[u32]; LIMITS.len()] = [

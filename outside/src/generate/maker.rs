@@ -3,6 +3,7 @@
 use super::job::{op, Job, Motif, Node, Op, Pair};
 use super::rng::Rng;
 use super::shapes::{array, good_value, number, shapes_of, Need, Shape};
+use super::Setting;
 use crate::plain;
 use crate::text::Value;
 
@@ -28,6 +29,7 @@ pub(super) struct Held {
 
 pub(super) struct Maker {
     pub(super) rng: Rng,
+    pub(super) set: Setting,
     pub(super) held: Vec<Held>,
     pub(super) open: bool,
     pub(super) nodes: Vec<Node>,
@@ -35,18 +37,20 @@ pub(super) struct Maker {
     wild: usize,
 }
 
-pub(super) const FRESH: Page =
-    Page { cursor: false, gray: false, saved: Vec::new(), most: 0, reads: false, count: 0, deep: 1 };
-
 impl Page {
+    /// A page that starts as the setting says.
+    pub(super) fn new(set: Setting) -> Page {
+        Page { cursor: false, gray: set.gray, saved: Vec::new(), most: 0, reads: false, count: 0, deep: 1 }
+    }
+
     fn bring_back(&mut self) {
         (self.cursor, self.gray) = self.saved.pop().unwrap_or_default();
     }
 }
 
 impl Maker {
-    pub(super) fn new(rng: Rng) -> Maker {
-        Maker { rng, held: Vec::new(), open: false, nodes: Vec::new(), wild: 0 }
+    pub(super) fn new(rng: Rng, set: Setting) -> Maker {
+        Maker { rng, set, held: Vec::new(), open: false, nodes: Vec::new(), wild: 0 }
     }
 
     pub(super) fn pair(&mut self, tag: u8, n: u16) -> Pair {
@@ -265,7 +269,7 @@ impl Maker {
 
     /// A motif; unless wild it needs nothing of the page that calls it.
     pub(super) fn motif(&mut self, n: usize) -> Node {
-        let mut page = FRESH.clone();
+        let mut page = Page::new(self.set);
         let mut body = Vec::new();
         if self.wild == 0 || self.rng.one_in(3) {
             page.gray = self.rng.one_in(2);
@@ -322,7 +326,7 @@ impl Maker {
         let begin = self.op(0x43, 0);
         self.nodes.push(begin.node());
         let n = self.rng.below(2 * size);
-        let ops = self.page(n, &mut FRESH.clone(), false);
+        let ops = self.page(n, &mut Page::new(self.set), false);
         self.nodes.extend(ops);
         let end = self.op(0x44, 0);
         self.nodes.push(end.node());
@@ -339,8 +343,8 @@ impl Maker {
 }
 
 /// A job that passes, given room for its list.
-pub fn valid(rng: &mut Rng) -> Job {
-    let mut maker = Maker::new(rng.clone());
+pub fn valid(rng: &mut Rng, set: Setting) -> Job {
+    let mut maker = Maker::new(rng.clone(), set);
     rng.draw();
     let sessions = if rng.one_in(3) { 1 + rng.below(4) } else { 1 };
     for _ in 0..sessions {
@@ -352,8 +356,8 @@ pub fn valid(rng: &mut Rng) -> Job {
 }
 
 /// A job rich in cursor, colour, saves and calls that keeps the layout rules but not always the state's.
-pub fn rich(rng: &mut Rng) -> Job {
-    let mut maker = Maker::new(rng.clone());
+pub fn rich(rng: &mut Rng, set: Setting) -> Job {
+    let mut maker = Maker::new(rng.clone(), set);
     rng.draw();
     maker.wild = rng.pick(&[2, 4, 8, 20, 60]);
     let (motifs, pages, size) = (1 + rng.below(12), 1 + rng.below(3), 3 + rng.below(12));
@@ -364,14 +368,14 @@ pub fn rich(rng: &mut Rng) -> Job {
 #[cfg(test)]
 mod tests {
     use super::*;
-    use crate::generate::{judged, write};
+    use crate::generate::{judged, setting, write};
     use crate::text;
 
     #[test]
     fn valid_jobs_pass() {
         for index in 0..3000 {
-            let job = write(&valid(&mut Rng::new(11, index)));
-            let verdict = judged(&job);
+            let job = write(&valid(&mut Rng::new(11, index), setting(index)));
+            let verdict = judged(&job, setting(index));
             if job.len() <= plain::JOB_MAX {
                 assert_eq!(verdict.code, 0, "{index} {verdict:?}\n{}", text::list(&job));
             }

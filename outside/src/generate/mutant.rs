@@ -4,10 +4,11 @@ use super::job::{any_tag, spoil, write, Node, Op, Pair};
 use super::maker::{rich, valid, Maker};
 use super::rng::Rng;
 use super::shapes::{any_type, any_value, bad_range, good_value, shapes_of, SHAPES, TAGS};
+use super::Setting;
 
 /// One to four faults in a job, in its structure (lengths mended) or its bytes.
-pub fn mutant(rng: &mut Rng) -> Vec<u8> {
-    let mut job = if rng.one_in(3) { rich(rng) } else { valid(rng) };
+pub fn mutant(rng: &mut Rng, set: Setting) -> Vec<u8> {
+    let mut job = if rng.one_in(3) { rich(rng, set) } else { valid(rng, set) };
     let faults = 1 + rng.below(4);
     let mut in_bytes = 0;
     for _ in 0..faults {
@@ -17,17 +18,17 @@ pub fn mutant(rng: &mut Rng) -> Vec<u8> {
                 let motifs: Vec<usize> =
                     (0..job.nodes.len()).filter(|&i| matches!(job.nodes[i], Node::Motif(_))).collect();
                 if motifs.is_empty() {
-                    mutate(rng, &mut job.nodes);
+                    mutate(rng, set, &mut job.nodes);
                 } else if let Node::Motif(m) = &mut job.nodes[motifs[rng.below(motifs.len())]] {
                     match rng.below(12) {
                         0 => m.name = b"a".to_vec(),
                         1 => m.header = Some(rng.bytes(5)),
                         2 | 3 => m.spoil = Some(rng.draw()),
-                        _ => mutate(rng, &mut m.body),
+                        _ => mutate(rng, set, &mut m.body),
                     }
                 }
             }
-            _ => mutate(rng, &mut job.nodes),
+            _ => mutate(rng, set, &mut job.nodes),
         }
     }
     let mut bytes = write(&job);
@@ -37,7 +38,7 @@ pub fn mutant(rng: &mut Rng) -> Vec<u8> {
     bytes
 }
 
-fn mutate(rng: &mut Rng, nodes: &mut Vec<Node>) {
+fn mutate(rng: &mut Rng, set: Setting, nodes: &mut Vec<Node>) {
     if nodes.is_empty() {
         let kind = any_tag(rng);
         nodes.push(Node::Raw(vec![kind]));
@@ -62,7 +63,7 @@ fn mutate(rng: &mut Rng, nodes: &mut Vec<Node>) {
             nodes.insert(at, Node::Raw(bytes));
         }
         4 | 5 => {
-            let mut maker = Maker::new(rng.clone());
+            let mut maker = Maker::new(rng.clone(), set);
             rng.draw();
             let tag = rng.pick(&TAGS);
             let choice = rng.below(3);

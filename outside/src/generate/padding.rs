@@ -3,11 +3,12 @@
 use super::job::{write, write_counting, Job, Pad};
 use super::maker::valid;
 use super::rng::Rng;
+use super::Setting;
 use crate::plain::{HEADER_MAX, JOB_MAX};
 
 /// A job that passes unpadded, with zeros in one place: between items, in job or motif, or where none may stand.
-pub fn padded(rng: &mut Rng) -> Vec<u8> {
-    let mut job = valid(rng);
+pub fn padded(rng: &mut Rng, set: Setting) -> Vec<u8> {
+    let mut job = valid(rng, set);
     job.space = 0;
     match rng.below(8) {
         0 => in_header(rng, &write(&job)),
@@ -56,14 +57,14 @@ fn in_an_item(rng: &mut Rng, job: &[u8]) -> Vec<u8> {
 mod tests {
     use super::*;
     use crate::generate::job::Node;
-    use crate::generate::judged;
+    use crate::generate::{judged, setting};
     use std::collections::BTreeSet;
 
     #[test]
     fn zeros_between_items_change_no_verdict() {
         for index in 0..600 {
             let mut rng = Rng::new(21, index);
-            let mut job = valid(&mut rng);
+            let mut job = valid(&mut rng, setting(index));
             job.space = 0;
             // In one block, so that a longer motif has no more of them.
             for node in &mut job.nodes {
@@ -72,7 +73,7 @@ mod tests {
                 }
             }
             let (before, padded) = (write(&job), between_items(&mut rng, job));
-            let (before, padded) = (judged(&before), judged(&padded));
+            let (before, padded) = (judged(&before, setting(index)), judged(&padded, setting(index)));
             if !matches!(padded.code, 1 | 19) {
                 assert_eq!((padded.code, padded.records), (before.code, before.records), "{index}");
                 assert_eq!(padded.performed, before.performed, "{index}");
@@ -82,14 +83,14 @@ mod tests {
 
     #[test]
     fn every_place_may_be_padded() {
-        let mut job = valid(&mut Rng::new(3, 3));
+        let mut job = valid(&mut Rng::new(3, 3), setting(0));
         job.space = 0;
         let (bytes, places) = write_counting(&job);
         let lengths: BTreeSet<usize> = (0..places)
             .map(|place| {
                 job.pad = Some(Pad { place, length: 1 });
                 let padded = write(&job);
-                assert_eq!(judged(&padded).code, 0, "{place}");
+                assert_eq!(judged(&padded, setting(0)).code, 0, "{place}");
                 padded.len() - bytes.len()
             })
             .collect();
@@ -98,7 +99,8 @@ mod tests {
 
     #[test]
     fn padded_jobs_pass_and_break_off() {
-        let seen: BTreeSet<u32> = (0..2000).map(|i| judged(&padded(&mut Rng::new(22, i))).code).collect();
+        let seen: BTreeSet<u32> =
+            (0..2000).map(|i| judged(&padded(&mut Rng::new(22, i), setting(i)), setting(i)).code).collect();
         assert!([0, 1, 2, 6, 19].iter().all(|code| seen.contains(code)), "{seen:?}");
     }
 }

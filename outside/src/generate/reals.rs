@@ -4,6 +4,7 @@ use super::broken::{ending_in, Broken};
 use super::job::{Job, Op, Pair};
 use super::rng::Rng;
 use super::shapes::{any_value, real, Class, Shape, CLASSES, SHAPES};
+use super::Setting;
 use crate::text::Value;
 
 /// The attributes that take reals, and the others.
@@ -13,7 +14,7 @@ fn of_shapes(takes_reals: bool) -> Vec<(u8, u16)> {
 }
 
 /// Job `turn` of a row that has every attribute, class and byte order, the attributes that take reals as often as all others.
-pub fn reals(rng: &mut Rng, turn: usize) -> Job {
+pub fn reals(rng: &mut Rng, set: Setting, turn: usize) -> Job {
     let own = turn.is_multiple_of(2);
     let shapes = of_shapes(own);
     let (high_first, turn) = (turn / 2 % 2 == 1, turn / 4);
@@ -21,7 +22,7 @@ pub fn reals(rng: &mut Rng, turn: usize) -> Job {
     let class = CLASSES[turn / shapes.len() % CLASSES.len()];
     let rule = Broken { tag, number, code: 15 };
     let inside = rng.one_in(4);
-    let mut job = ending_in(rng, rule, inside, |rng, made| put_real(rng, made, number, own, class));
+    let mut job = ending_in(rng, set, rule, inside, |rng, made| put_real(rng, made, number, own, class));
     job.high_first = high_first;
     job
 }
@@ -47,12 +48,13 @@ fn put_real(rng: &mut Rng, made: &mut Op, number: u16, own: bool, class: Class) 
 #[cfg(test)]
 mod tests {
     use super::*;
-    use crate::generate::{judged, write};
+    use crate::generate::{judged, setting, write};
     use std::collections::BTreeSet;
 
     #[test]
     fn reals_are_taken_refused_by_range_and_refused_by_type() {
-        let code = |turn: u64| judged(&write(&reals(&mut Rng::new(31, turn), turn as usize))).code;
+        let code =
+            |turn: u64| judged(&write(&reals(&mut Rng::new(31, turn), setting(0), turn as usize)), setting(0)).code;
         let own: BTreeSet<u32> = (0..800).step_by(2).map(code).collect();
         let others: BTreeSet<u32> = (1..800).step_by(2).map(code).collect();
         assert!([16, 27].iter().all(|c| own.contains(c)) && !own.contains(&15), "{own:?}");

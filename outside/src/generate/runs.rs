@@ -50,7 +50,7 @@ pub fn runs(rng: &mut Rng) -> Vec<u8> {
 #[cfg(test)]
 mod tests {
     use super::*;
-    use crate::generate::judged;
+    use crate::generate::{judged, setting};
     use std::collections::BTreeSet;
 
     #[test]
@@ -58,7 +58,7 @@ mod tests {
         let mut seen = BTreeSet::new();
         let mut far = 0;
         for index in 0..4000 {
-            let verdict = judged(&runs(&mut Rng::new(12, index)));
+            let verdict = judged(&runs(&mut Rng::new(12, index)), setting(index));
             seen.insert(verdict.code);
             far = far.max(verdict.performed);
         }
