@@ -80,7 +80,7 @@ fn assembled(folder: &str) -> Result<Vec<(String, Vec<u8>)>, String> {
     for path in files(&root().join("examples").join(folder))? {
         let name = path.file_stem().expect("a file").to_string_lossy().into_owned();
         let text = std::fs::read_to_string(&path).map_err(|e| e.to_string())?;
-        all.push((name.clone(), assemble(&text).map_err(|e| format!("{name}: {e}"))?));
+        all.push((name.clone(), assemble(&text).map_err(|e| format!("{name}.txt:{e}"))?));
     }
     Ok(all)
 }
