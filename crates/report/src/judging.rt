@@ -1,10 +1,13 @@
 // The line of a job.
+use asked::Asked;
 use listing::gather;
 use state::Verdict;
 use text::number;
 use text::say;
 
 const OUTER: u32 = 4_294_967_295;
+
+const COLOUR: u32 = 25;
 
 fn passes(performed: u32) {
     say(b": passes, ");
@@ -33,7 +36,21 @@ fn inside(job: &[u8], list: &[u8], v: Verdict) {
     in_motif(job, list, &motif, n, v);
 }
 
-fn refused(job: &[u8], list: &[u8], v: Verdict) {
+// Whether a job has no fault of its colours where pages start in gray, or else in RGB.
+fn starts_well(job: &[u8], gray: bool) -> bool {
+    let mut work = rooms::work();
+    let mut list = rooms::list();
+    checker::check(job, &mut work, &mut list, gray).code != COLOUR
+}
+
+// Of such a fault: the other start, if it has none there.
+fn other_start(job: &[u8], gray: bool) {
+    if starts_well(job, !gray) {
+        asked::say_other_start(gray);
+    }
+}
+
+fn refused(job: &[u8], list: &[u8], v: Verdict, gray: bool) {
     say(b": refused at byte ");
     text::plain(v.position);
     say(b": ");
@@ -41,6 +58,9 @@ fn refused(job: &[u8], list: &[u8], v: Verdict) {
         fault::of_job(job, list, v.records as usize, v.code, v.position as usize);
     } else {
         inside(job, list, v);
+    }
+    if v.code == COLOUR {
+        other_start(job, gray);
     }
     say(b"\n");
 }
@@ -57,16 +77,16 @@ fn listed_lines(job: &[u8], list: &[u8], v: Verdict) {
 }
 
 // The verdict on a job in a line, and its operators if they are asked for; the answer is whether it passes.
-pub fn judged(job: &[u8], listed: bool) -> bool {
+pub fn judged(job: &[u8], asked: Asked) -> bool {
     let mut work = rooms::work();
     let mut list = rooms::list();
-    let v = checker::check(job, &mut work, &mut list, true);
+    let v = checker::check(job, &mut work, &mut list, asked.gray);
     if v.code == 0 {
         passes(v.performed);
     } else {
-        refused(job, &list, v);
+        refused(job, &list, v, asked.gray);
     }
-    if listed {
+    if asked.listed {
         listed_lines(job, &list, v);
     }
     v.code == 0

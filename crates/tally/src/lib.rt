@@ -15,6 +15,15 @@ pub struct Tally {
     pub unread: u32,
 }
 
+// Before the first file.
+pub fn none() -> Tally {
+    Tally {
+        passed: 0,
+        refused: 0,
+        unread: 0,
+    }
+}
+
 // One more; past a million it stays.
 fn more(n: u32) -> u32 {
     if n < 1_000_000 { n + 1 } else { n }
@@ -42,6 +51,17 @@ pub fn with(t: Tally, outcome: Outcome) -> Tally {
             unread: more(unread),
         },
     }
+}
+
+// No file was named.
+pub fn is_none(t: Tally) -> bool {
+    if t.passed != 0 {
+        return false;
+    }
+    if t.refused != 0 {
+        return false;
+    }
+    t.unread == 0
 }
 
 // More than one file was named.
