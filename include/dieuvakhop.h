@@ -2,7 +2,7 @@
  *
  * Link with libdieuvakhop.a (x86-64), made by `examples/library`.
  * The promise below is proved of the function in crates/checker/src/entry.rt,
- * for every content and every length of the three buffers.
+ * for every content and every length of the three buffers, and both starts.
  */
 #ifndef DIEUVAKHOP_H
 #define DIEUVAKHOP_H
@@ -146,6 +146,10 @@ struct dieuvakhop_verdict {
  *     attributes. With codes 1, 2 (of the job's header), 3, 4 and 29 there are
  *     no records, and the list is unchanged.
  *
+ * rgb             The colour space that every page of the job starts in: 0 is
+ *     gray, any other number RGB, for last year's lesson files. Every number
+ *     is taken, so there is nothing to test.
+ *
  * A record has 16 bytes, numbers low byte first. For each operator come its
  * attributes as given, then itself.
  *     Attribute: 1, number, type tag, 0; place of the type tag (4 bytes);
@@ -154,13 +158,13 @@ struct dieuvakhop_verdict {
  *                length of its data (4); place of its data (4), or 0 and 0.
  * Places are bytes of the job. Operators inside motifs have no records.
  *
- * The same job with buffers of the same lengths gets the same verdict and the
- * same records. Nothing is kept from one call to the next.
+ * The same job with buffers of the same lengths and the same start gets the
+ * same verdict and the same records. Nothing is kept from one call to the next.
  *
  * What it takes of the machine (`examples/measure` measures it):
- *   - stack: 4,641 bytes at most over the jobs of crates/explain/data; there is
+ *   - stack: 4,728 bytes at most over the jobs of crates/explain/data; there is
  *     no recursion, and no memory but what is lent;
- *   - code and constants: 22,773 bytes; no data that is written;
+ *   - code and constants: 21,812 bytes; no data that is written;
  *   - alignment: none, each buffer may begin at any address;
  *   - re-entrant: it may run in several threads at once, or be interrupted by
  *     another call, as long as no two calls share `work` or `list`;
@@ -169,7 +173,8 @@ struct dieuvakhop_verdict {
 struct dieuvakhop_verdict dieuvakhop_check(
     const uint8_t *job, size_t job_len,
     uint8_t *work, size_t work_len,
-    uint8_t *list, size_t list_len);
+    uint8_t *list, size_t list_len,
+    uint32_t rgb);
 
 #ifdef __cplusplus
 }

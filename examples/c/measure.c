@@ -28,7 +28,7 @@ static int many;
 static void *judge(void *given) {
     struct task *t = given;
     if (t->judges)
-        t->verdict = dieuvakhop_check(t->job, t->length, t->work, DIEUVAKHOP_WORK_LEAST, t->list, DIEUVAKHOP_LIST_ENOUGH);
+        t->verdict = dieuvakhop_check(t->job, t->length, t->work, DIEUVAKHOP_WORK_LEAST, t->list, DIEUVAKHOP_LIST_ENOUGH, 0);
     return NULL;
 }
 
@@ -54,7 +54,7 @@ static void *again(void *given) {
     if (!work || !list) exit(2);
     for (int i = 0; i < many; i++) {
         struct dieuvakhop_verdict v =
-            dieuvakhop_check(tasks[i].job, tasks[i].length, work + 1, DIEUVAKHOP_WORK_LEAST, list + 1, DIEUVAKHOP_LIST_ENOUGH);
+            dieuvakhop_check(tasks[i].job, tasks[i].length, work + 1, DIEUVAKHOP_WORK_LEAST, list + 1, DIEUVAKHOP_LIST_ENOUGH, 0);
         *differ += memcmp(&v, &tasks[i].verdict, sizeof v) != 0;
     }
     free(work), free(list);
