@@ -15,9 +15,12 @@ const CARRIAGE_RETURN: usize = 35;
 
 const FOREIGN: usize = 36;
 
+const ZEROS: usize = 69;
+
 // Two bytes that other files begin with.
 fn begun(a: u8, b: u8) -> usize {
     match a {
+        0x00 => ZEROS,
         0x1b => PJL,
         b'@' => PJL,
         b'%' => PDF,

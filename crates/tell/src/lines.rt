@@ -73,6 +73,7 @@ over 24 saved states in the motif %u that is called, or in one that it calls
 cursor not set before an operator of the motif %u that is called, or of one that it calls
 wrong colour space before an operator of the motif %u that is called, or of one that it calls
 data source not open at an operator of the motif %u that is called, or of one that it calls
+no PCL XL file: it begins with zero bytes, as an adapter pads with them
 ";
     sentence(lines, k, s, f);
 }
@@ -148,6 +149,7 @@ take a PushGS and its PopGS out of that motif
 in that motif, put a SetCursor before the first SetCursorRel, LinePath, LineRelPath or BeginImage that has none since the last NewPath or PopGS
 in that motif, put a SetColorSpace before each operator: RGB for RGBColor, gray for GrayLevel and BeginImage
 put an OpenDataSource before the BeginPage
+send it from its header on: zero bytes may stand behind the header, not before it
 ";
     sentence(lines, k, s, f);
 }
