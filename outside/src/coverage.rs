@@ -1,7 +1,7 @@
 //! What a run of cases has reached: codes outside and inside motifs, and attribute rules broken.
 
 use crate::generate::{all_rules, class_of, shapes_of, Broken, Class, Need, Size, CLASSES};
-use crate::plain::{Verdict, NO_INNER};
+use crate::plain::{Profile, Verdict, NO_INNER};
 use crate::text::{attribute_name, operator_name, read_header, read_statement, Piece, Statement};
 use std::collections::BTreeMap;
 use std::fmt::Write;
@@ -40,8 +40,16 @@ fn takes_real(number: u16, class: Class) -> bool {
     }
 }
 
-/// What some passed job must have, and some motif of one.
-pub const SHOWN: [&str; 1] = ["zero bytes between items"];
+/// What some passed job must have, and whether some motif of one too.
+pub const SHOWN: [(&str, bool); 7] = [
+    ("zero bytes between items", true),
+    ("class 2.1", true),
+    ("SetDefaultGS", true),
+    ("PadBytesMultiple", true),
+    ("BlockByteLength", true),
+    ("MediaType", false),
+    ("MediaSize as a name", false),
+];
 
 /// The operators of a string of items, as far as they can be told.
 fn statements(bytes: &[u8]) -> Vec<Statement> {
@@ -79,13 +87,31 @@ fn motifs(all: &[Statement]) -> Vec<Vec<u8>> {
     found
 }
 
-/// Which of SHOWN some operators have.
-fn shown_by(all: &[Statement]) -> Vec<&'static str> {
+/// What of SHOWN a job or motif has.
+fn shown_by(bytes: &[u8], all: &[Statement]) -> Vec<&'static str> {
     let mut shown = Vec::new();
-    let pieces = || all.iter().flat_map(|s| s.pieces.iter().map(|(_, p)| p));
-    if pieces().any(|p| matches!(p, Piece::Space(bytes) if bytes.contains(&0))) {
-        shown.push(SHOWN[0]);
+    if bytes.get(12) == Some(&b'2') {
+        shown.push("class 2.1");
     }
+    if all.iter().any(|s| s.tag == 0x57) {
+        shown.push("SetDefaultGS");
+    }
+    for pair in all.iter().flat_map(|s| s.pieces.windows(2)) {
+        match pair {
+            [(_, Piece::Value(_)), (_, Piece::Number { number: 110, .. })] => shown.push("PadBytesMultiple"),
+            [(_, Piece::Value(_)), (_, Piece::Number { number: 111, .. })] => shown.push("BlockByteLength"),
+            [(_, Piece::Value(_)), (_, Piece::Number { number: 39, .. })] => shown.push("MediaType"),
+            [(_, Piece::Value(v)), (_, Piece::Number { number: 37, .. })] if v.kind == 0xc8 => {
+                shown.push("MediaSize as a name");
+            }
+            _ => {}
+        }
+    }
+    if all.iter().flat_map(|s| &s.pieces).any(|(_, p)| matches!(p, Piece::Space(bytes) if bytes.contains(&0))) {
+        shown.push("zero bytes between items");
+    }
+    shown.sort();
+    shown.dedup();
     shown
 }
 
@@ -116,7 +142,8 @@ fn rules_of(bytes: &[u8], code: u32, position: usize) -> Vec<Broken> {
             _ => None,
         })
         .collect();
-    let rule = |number| Broken { tag: s.tag, number, code };
+    let profile = if bytes[12] == b'2' { Profile::Two } else { Profile::One };
+    let rule = |number| Broken { profile, tag: s.tag, number, code };
     match code {
         11 => vec![rule(0)],
         12 | 15 | 16 => {
@@ -128,7 +155,7 @@ fn rules_of(bytes: &[u8], code: u32, position: usize) -> Vec<Broken> {
             number.map(rule).into_iter().collect()
         }
         13 => {
-            let missing: Vec<Broken> = shapes_of(s.tag)
+            let missing: Vec<Broken> = shapes_of(profile, s.tag)
                 .filter(|(n, _, need)| *need == Need::Must && !numbers.contains(n))
                 .map(|(n, _, _)| rule(n))
                 .collect();
@@ -138,8 +165,8 @@ fn rules_of(bytes: &[u8], code: u32, position: usize) -> Vec<Broken> {
                 missing
             }
         }
-        // Which of StartLine and rows was wrong is told by the height alone, so both count.
-        14 if s.tag == 0xb1 => vec![rule(109), rule(99)],
+        // Which of StartLine, rows and length was wrong is not told, so all that were given count.
+        14 if s.tag == 0xb1 => [109, 99, 111].into_iter().filter(|n| numbers.contains(n)).map(rule).collect(),
         14 => numbers.into_iter().map(rule).collect(),
         _ => Vec::new(),
     }
@@ -189,7 +216,7 @@ impl Coverage {
         let parts = [(0, job)].into_iter().chain(inside.iter().map(|m| (1, &m[..])));
         for (place, bytes) in parts {
             let all = statements(bytes);
-            for what in shown_by(&all) {
+            for what in shown_by(bytes, &all) {
                 self.shown.entry(what).or_default()[place] += 1;
             }
             self.count_reals(bytes, all.iter().flat_map(|s| reals_of(s, None)).collect(), true);
@@ -233,9 +260,9 @@ impl Coverage {
                 gaps.push(format!("{} {class:?}", attribute_name(number)));
             }
         }
-        for what in SHOWN {
+        for (what, in_motifs) in SHOWN {
             let [o, i] = self.shown.get(what).copied().unwrap_or_default();
-            if o == 0 || i == 0 {
+            if o == 0 || i == 0 && in_motifs {
                 gaps.push(what.to_string());
             }
         }
@@ -280,7 +307,8 @@ impl Coverage {
 
 fn rule_name(rule: &Broken) -> String {
     let attribute = if rule.number == 0 { "-".into() } else { attribute_name(rule.number) };
-    format!("{} {} {}", operator_name(rule.tag), attribute, rule.code)
+    let class = if rule.profile == Profile::One { "1.1" } else { "2.1" };
+    format!("{class} {} {} {}", operator_name(rule.tag), attribute, rule.code)
 }
 
 #[cfg(test)]

@@ -75,16 +75,27 @@ pub fn check(job: &[u8], work: &mut [u8], list: &mut [u8], rgb: u32) -> Verdict 
 
 // ---------------------------------------------------------------- header
 
-/// Reads a header: whether the high byte comes first, and where the items start.
-fn header(bytes: &[u8]) -> Result<(bool, usize), Fault> {
+/// The class of a job, which decides what its attributes and operators are.
+#[derive(Debug, Clone, Copy, PartialEq, Eq, PartialOrd, Ord)]
+pub enum Profile {
+    /// Class 1;1.
+    One,
+    /// Class 2;1.
+    Two,
+}
+
+/// Reads a header: whether the high byte comes first, the class, and where the items start.
+fn header(bytes: &[u8]) -> Result<(bool, Profile, usize), Fault> {
     if bytes.first() == Some(&0x27) {
         return fault(3, 0);
     }
     let end = header_end(bytes)?;
-    if bytes[12] != b'1' || bytes[14] != b'1' {
-        return fault(4, 12);
-    }
-    Ok((bytes[0] == 0x28, end))
+    let profile = match (bytes[12], bytes[14]) {
+        (b'1', b'1') => Profile::One,
+        (b'2', b'1') => Profile::Two,
+        _ => return fault(4, 12),
+    };
+    Ok((bytes[0] == 0x28, profile, end))
 }
 
 /// The length of a well formed header, of whatever class.
@@ -154,6 +165,9 @@ struct Reader<'a> {
     bytes: &'a [u8],
     at: usize,
     high_first: bool,
+    profile: Profile,
+    /// Whether a page starts in gray.
+    starts_gray: bool,
 }
 
 /// White space between items.
@@ -302,8 +316,12 @@ enum Rule {
     Enumeration(u32, u32),
     /// One ubyte 0..=12 or 14..=16.
     MediaSize,
+    /// One ubyte 0..=21 or 96, or a ubyte array of at least one element.
+    MediaSizeOrName,
     /// One ubyte or uint16 from..=to.
     Number(u32, u32),
+    /// One ubyte, uint16 or uint32.
+    Length,
     /// Two uint16, both at least 1, or two real32 above zero.
     Sizes,
     /// Two ubyte, uint16, sint16 or real32.
@@ -315,8 +333,17 @@ enum Rule {
 }
 
 /// The rule of an attribute of an operator; none if it is not this operator's.
-fn rule(tag: u8, number: u16) -> Option<Rule> {
+fn rule(profile: Profile, tag: u8, number: u16) -> Option<Rule> {
     use Rule::*;
+    if profile == Profile::Two {
+        match (tag, number) {
+            (0x43, 37) => return Some(MediaSizeOrName),
+            (0x43, 39) => return Some(Array(0, ARRAY_MAX)),
+            (0xb1, 110) => return Some(Enumeration(1, 255)),
+            (0xb1, 111) => return Some(Length),
+            _ => {}
+        }
+    }
     Some(match (tag, number) {
         (0x41, 134) => Enumeration(0, 2),
         (0x41, 137) => Sizes,
@@ -368,7 +395,9 @@ impl Rule {
     fn takes_type(self, kind: u8) -> bool {
         match self {
             Rule::Enumeration(..) | Rule::MediaSize => kind == 0xc0,
+            Rule::MediaSizeOrName => matches!(kind, 0xc0 | 0xc8),
             Rule::Number(..) => matches!(kind, 0xc0 | 0xc1),
+            Rule::Length => matches!(kind, 0xc0..=0xc2),
             Rule::Sizes => matches!(kind, 0xd1 | REALS),
             Rule::Point => matches!(kind, 0xd0 | 0xd1 | 0xd3 | REALS),
             Rule::Box => matches!(kind, 0xe0 | 0xe1 | 0xe3),
@@ -380,38 +409,41 @@ impl Rule {
         match self {
             Rule::Enumeration(from, to) | Rule::Number(from, to) => (from..=to).contains(&reader.element(a, 0)),
             Rule::MediaSize => matches!(reader.element(a, 0), 0..=12 | 14..=16),
+            Rule::MediaSizeOrName if a.kind == 0xc8 => a.count >= 1,
+            Rule::MediaSizeOrName => matches!(reader.element(a, 0), 0..=21 | 96),
             Rule::Sizes if a.kind == REALS => [0, 1].iter().all(|&i| {
                 let bits = reader.element(a, i);
                 is_finite(bits) && is_above_zero(bits)
             }),
             Rule::Sizes => reader.element(a, 0) >= 1 && reader.element(a, 1) >= 1,
             Rule::Point if a.kind == REALS => is_finite(reader.element(a, 0)) && is_finite(reader.element(a, 1)),
-            Rule::Point | Rule::Box => true,
+            Rule::Point | Rule::Box | Rule::Length => true,
             Rule::Array(from, to) => (from..=to).contains(&a.count),
         }
     }
 }
 
 #[inline(always)]
-fn in_table(tag: u8) -> bool {
-    matches!(
-        tag,
-        0x41..=0x44 | 0x47..=0x49 | 0x5b..=0x5e | 0x60 | 0x61 | 0x63 | 0x6a..=0x6c | 0x79 | 0x7a
-            | 0x84..=0x86 | 0x9b | 0x9d | 0xa0 | 0xb0..=0xb2
-    )
+fn in_table(profile: Profile, tag: u8) -> bool {
+    tag == 0x57 && profile == Profile::Two
+        || matches!(
+            tag,
+            0x41..=0x44 | 0x47..=0x49 | 0x5b..=0x5e | 0x60 | 0x61 | 0x63 | 0x6a..=0x6c | 0x79 | 0x7a
+                | 0x84..=0x86 | 0x9b | 0x9d | 0xa0 | 0xb0..=0xb2
+        )
 }
 
 /// Operators without attributes.
 #[inline(always)]
 fn takes_none(tag: u8) -> bool {
-    matches!(tag, 0x42 | 0x49 | 0x5d | 0x60 | 0x61 | 0x84..=0x86 | 0xb2)
+    matches!(tag, 0x42 | 0x49 | 0x57 | 0x5d | 0x60 | 0x61 | 0x84..=0x86 | 0xb2)
 }
 
 /// Attributes an operator must have.
-fn required(tag: u8) -> &'static [u16] {
+fn required(profile: Profile, tag: u8) -> &'static [u16] {
     match tag {
         0x41 => &[134, 137],
-        0x43 => &[40, 37],
+        0x43 if profile == Profile::One => &[40, 37],
         0x48 => &[136, 130],
         0x5b | 0x5e => &[139],
         0x5c => &[140],
@@ -431,7 +463,7 @@ fn judge_attributes(reader: &Reader, op: &Operator) -> Result<(), Fault> {
         return Ok(());
     }
     for (index, a) in op.attributes().iter().enumerate() {
-        let Some(rule) = rule(op.tag, a.number) else {
+        let Some(rule) = rule(reader.profile, op.tag, a.number) else {
             return fault(11, a.at);
         };
         if op.room[..index].iter().any(|b| b.number == a.number) {
@@ -444,7 +476,7 @@ fn judge_attributes(reader: &Reader, op: &Operator) -> Result<(), Fault> {
             return fault(16, a.at);
         }
     }
-    if required(op.tag).iter().any(|&number| !op.has(number)) {
+    if required(reader.profile, op.tag).iter().any(|&number| !op.has(number)) {
         return fault(13, op.at);
     }
     match op.tag {
@@ -468,33 +500,43 @@ fn judge_attributes(reader: &Reader, op: &Operator) -> Result<(), Fault> {
 /// An image being read.
 #[derive(Debug, Clone, Copy)]
 struct Image {
-    row: u64,
+    width: u32,
+    depth: u32,
     height: u32,
     rows: u32,
 }
 
-/// Bytes of one row: whole bytes, then a multiple of 4.
-pub fn row_bytes(width: u32, depth: u32) -> u64 {
+/// Bytes of one row: whole bytes, then a multiple of `pad`.
+pub fn row_bytes(width: u32, depth: u32, pad: u32) -> u64 {
     let bits = match depth {
         0 => 1,
         1 => 4,
         _ => 8,
     };
-    (u64::from(width) * bits).div_ceil(8).next_multiple_of(4)
+    (u64::from(width) * bits).div_ceil(8).next_multiple_of(pad.into())
 }
 
 impl Image {
     fn begin(reader: &Reader, op: &Operator) -> Image {
-        Image { row: row_bytes(reader.scalar(op, 108), reader.scalar(op, 98)), height: reader.scalar(op, 107), rows: 0 }
+        let [width, depth, height] = [108, 98, 107].map(|number| reader.scalar(op, number));
+        Image { width, depth, height, rows: 0 }
     }
 
     fn done(&self) -> bool {
         self.rows == self.height
     }
 
-    /// StartLine is the rows read so far, and the rows never exceed the height.
+    /// Bytes of the rows that a ReadImage has; its PadBytesMultiple stands in place of the 4.
+    fn block_bytes(&self, reader: &Reader, op: &Operator) -> u64 {
+        let pad = if op.has(110) { reader.scalar(op, 110) } else { 4 };
+        row_bytes(self.width, self.depth, pad) * u64::from(reader.scalar(op, 99))
+    }
+
+    /// StartLine is the rows read so far, the rows never exceed the height, and BlockByteLength, if given, is the length due.
     fn takes_block(&self, reader: &Reader, op: &Operator) -> bool {
-        reader.scalar(op, 109) == self.rows && self.rows + reader.scalar(op, 99) <= self.height
+        reader.scalar(op, 109) == self.rows
+            && self.rows + reader.scalar(op, 99) <= self.height
+            && (!op.has(111) || u64::from(reader.scalar(op, 111)) == self.block_bytes(reader, op))
     }
 }
 
@@ -518,7 +560,7 @@ fn data_due(reader: &Reader, op: &Operator, image: Option<&Image>) -> Option<u64
             let each = if reader.scalar(op, 80) < 2 { 2 } else { 4 };
             Some(u64::from(reader.scalar(op, 77)) * each)
         }
-        0xb1 => image.map(|i| i.row * u64::from(reader.scalar(op, 99))),
+        0xb1 => image.map(|i| i.block_bytes(reader, op)),
         _ => None,
     }
 }
@@ -543,6 +585,8 @@ enum Step {
     NeedGray(bool),
     /// BeginImage needs the cursor and gray.
     NeedBoth,
+    /// Cursor not set, and gray or RGB as a page starts.
+    Start(bool),
     Call(usize),
     Other,
 }
@@ -553,6 +597,7 @@ fn step(reader: &Reader, op: &Operator) -> Step {
     match op.tag {
         0x61 => Step::Save,
         0x60 => Step::Restore,
+        0x57 => Step::Start(reader.starts_gray),
         0x6b => Step::Cursor(true),
         0x85 => Step::Cursor(false),
         0x6a => Step::Gray(reader.scalar(op, 3) == 1),
@@ -582,6 +627,7 @@ impl Step {
         match self {
             Step::Cursor(set) => look.cursor = set,
             Step::Gray(gray) => look.gray = gray,
+            Step::Start(gray) => *look = Look { cursor: false, gray },
             _ => {}
         }
     }
@@ -589,7 +635,7 @@ impl Step {
 
 /// Order inside a page: every operator that may stand there, EndPage and counts of saves apart.
 fn page_operator(tag: u8) -> bool {
-    matches!(tag, 0x47 | 0x5e | 0x60 | 0x61) || (0x63..=0xb0).contains(&tag)
+    matches!(tag, 0x47 | 0x57 | 0x5e | 0x60 | 0x61) || (0x63..=0xb0).contains(&tag)
 }
 
 // ---------------------------------------------------------------- motifs
@@ -625,16 +671,19 @@ fn find_motif(held: &[Motif], name: &[u8]) -> Option<usize> {
     held.iter().position(|m| m.name == name)
 }
 
-/// Judges the bytes of a motif at its EndStream, all but 17 and 23 to 26.
-fn judge_motif(name: Vec<u8>, bytes: &[u8], held: &[Motif]) -> Result<Motif, Fault> {
-    let (high_first, at) = header(bytes)?;
-    let mut reader = Reader { bytes, at, high_first };
+/// Judges the bytes of a motif of a job at its EndStream, all but 17 and 23 to 26.
+fn judge_motif(name: Vec<u8>, bytes: &[u8], held: &[Motif], job: &Reader) -> Result<Motif, Fault> {
+    let (high_first, profile, at) = header(bytes)?;
+    if profile != job.profile {
+        return fault(4, 12);
+    }
+    let mut reader = Reader { bytes, at, high_first, ..*job };
     let mut op = Operator::default();
     let mut motif = Motif { name, steps: Vec::new(), deep: 1, count: 0, reads: false };
     let mut image: Option<Image> = None;
     let mut saved = 0usize;
     while reader.operator(&mut op)? {
-        if !in_table(op.tag) {
+        if !in_table(profile, op.tag) {
             return fault(9, op.at);
         }
         let in_order = match (&image, op.tag) {
@@ -797,8 +846,8 @@ impl<'b> Arm<'b> {
 
     /// Reads the whole job from the left.
     fn job(&mut self, job: &[u8]) -> Result<(), Fault> {
-        let (high_first, at) = header(job)?;
-        let mut reader = Reader { bytes: job, at, high_first };
+        let (high_first, profile, at) = header(job)?;
+        let mut reader = Reader { bytes: job, at, high_first, profile, starts_gray: self.starts_gray };
         let mut op = Operator::default();
         let mut sessions = 0;
         while reader.operator(&mut op)? {
@@ -836,7 +885,7 @@ impl<'b> Arm<'b> {
 
     /// Judges one operator of the job, and if it keeps all rules lists and performs it.
     fn perform(&mut self, reader: &mut Reader, op: &Operator) -> Result<(), Fault> {
-        if !in_table(op.tag) {
+        if !in_table(reader.profile, op.tag) {
             return fault(9, op.at);
         }
         if !self.in_order(op.tag) {
@@ -869,7 +918,7 @@ impl<'b> Arm<'b> {
             0x5c if self.read_bytes + data.0 > STORE => return fault(19, op.at),
             0x5d => {
                 let bytes = &self.store[self.held_bytes..self.read_bytes];
-                match judge_motif(self.stream_name.clone(), bytes, &self.held) {
+                match judge_motif(self.stream_name.clone(), bytes, &self.held, reader) {
                     Ok(judged) => motif = Some(Box::new(judged)),
                     Err(f) => return Err(Fault { code: f.code, at: op.at as u32, inner: f.at }),
                 }
@@ -1006,9 +1055,12 @@ mod tests {
     }
 
     #[test]
-    fn rows_are_filled_to_four_bytes() {
-        assert_eq!([row_bytes(32, 0), row_bytes(33, 0), row_bytes(33, 1), row_bytes(33, 2)], [4, 8, 20, 36]);
-        assert_eq!([row_bytes(1, 0), row_bytes(8, 1), row_bytes(65_535, 2)], [4, 4, 65_536]);
+    fn rows_are_filled_up() {
+        let four = |width, depth| row_bytes(width, depth, 4);
+        assert_eq!([four(32, 0), four(33, 0), four(33, 1), four(33, 2)], [4, 8, 20, 36]);
+        assert_eq!([four(1, 0), four(8, 1), four(65_535, 2)], [4, 4, 65_536]);
+        assert_eq!([1, 2, 5, 200, 255].map(|pad| row_bytes(33, 0, pad)), [5, 6, 5, 200, 255]);
+        assert_eq!(row_bytes(65_535, 2, 200) * 65_535, 4_299_096_000);
     }
 
     #[test]
@@ -1023,8 +1075,9 @@ mod tests {
 
     #[test]
     fn headers() {
-        assert_eq!(header(b"( HP-PCL XL;1;1\nx"), Ok((true, 16)));
-        assert_eq!(header(b") HP-PCL XL;1;1;abc\n"), Ok((false, 20)));
+        assert_eq!(header(b"( HP-PCL XL;1;1\nx"), Ok((true, Profile::One, 16)));
+        assert_eq!(header(b") HP-PCL XL;2;1;abc\n"), Ok((false, Profile::Two, 20)));
+        assert_eq!(header(b") HP-PCL XL;2;0\n"), fault(4, 12));
         for cut in 0..15 {
             assert_eq!(header(&b") HP-PCL XL;1;1\n"[..cut]), fault(2, cut));
         }
@@ -1034,7 +1087,7 @@ mod tests {
     fn numbers_follow_the_byte_order() {
         let bytes = [1, 2, 3, 4];
         for (high_first, want) in [(true, [0x1, 0x102, 0x0102_0304]), (false, [0x1, 0x201, 0x0403_0201])] {
-            let reader = Reader { bytes: &bytes, at: 0, high_first };
+            let reader = Reader { bytes: &bytes, at: 0, high_first, profile: Profile::One, starts_gray: true };
             assert_eq!([1, 2, 4].map(|n| reader.number(0, n)), want.map(Some));
             assert_eq!(reader.number(1, 4), None);
         }
@@ -1127,6 +1180,10 @@ mod tests {
                         (self.cursor, self.gray) = (false, self.starts_gray);
                         true
                     }
+                    0x57 => {
+                        (self.cursor, self.gray) = (false, self.starts_gray);
+                        true
+                    }
                     0x48 | 0x49 => {
                         self.open = s.tag == 0x48;
                         true
@@ -1182,10 +1239,11 @@ mod tests {
     #[test]
     fn passes_exactly_if_the_slow_arm_comes_to_the_end() {
         let mut seen = [0; 30];
-        let setting = |i: u64| Setting { gray: i.is_multiple_of(2) };
+        let setting =
+            |i: u64| Setting { gray: i.is_multiple_of(2), profile: [Profile::One, Profile::Two][i as usize / 2 % 2] };
         let rich = |i| generate::write(&generate::rich(&mut Rng::new(i, 5), setting(i)));
         let jobs = (0..1500u64).map(|i| (i, rich(i)));
-        let limits = (0..160u64).map(|i| (i / 3, generate::limit(&mut Rng::new(i, 6), i as usize)));
+        let limits = (0..160u64).map(|i| (i / 3, generate::limit(&mut Rng::new(i, 6), setting(i / 3), i as usize)));
         for (i, job) in jobs.chain(limits) {
             let starts_gray = setting(i).gray;
             let v = judge(&job, u32::from(!starts_gray));
@@ -1210,7 +1268,10 @@ mod tests {
     fn lists_read_back_to_the_same_job() {
         // Each record points at its tag, and the records of a passing job are its operators in order.
         for index in 0..300 {
-            let job = generate::write(&generate::valid(&mut Rng::new(index, 8), Setting { gray: true }));
+            let job = generate::write(&generate::valid(
+                &mut Rng::new(index, 8),
+                Setting { gray: true, profile: Profile::Two },
+            ));
             let mut list = vec![0; 16 * (job.len() + 1)];
             let v = check(&job, &mut vec![0; STORE], &mut list, 0);
             let (_, high, mut at) = text::read_header(&job).unwrap();

@@ -12,6 +12,7 @@ use Rattle.scope.specs.Choice.{pick}
 use Rattle.scope.specs.Iterate.{go, stop, onward}
 use Rattle.scope.specs.Header.{Header, headerOf}
 use Rattle.scope.specs.Attributes.{bytesIn}
+use Rattle.scope.specs.Setting.{Setting, ofMotif, sameClass}
 use Rattle.scope.specs.Reading.{Operator, Read}
 use Rattle.scope.specs.Arm.{idle, actOf, Stroke}
 use Rattle.scope.specs.Motif.{Own, does, calls, Motif, Held, heldAs, flat, Picture, pictureAfter, savedAfter, Judged, valid, faulty, Inside, contextIn, onCall, onDeed, onEnd, onRead, motifStep, judgedInside, motifFrom, motifOf}
@@ -46,7 +47,7 @@ module _ (call : List ℕ → List Stroke) (k : ℕ) where
       ap (λ l. record { motif = k; at = at; act = idle } ∷ l)
       (ap (λ l. call n ++ l) (flat-append xs ys) ∙ sym (append-assoc (call n) (flat call k xs) (flat call k ys)))
 
-  module _ (held : List Motif) (high : Bool) (s : List ℕ) where
+  module _ (held : List Motif) (set : Setting) (s : List ℕ) where
     -- the arm where the judging stands
     abbrev going : Inside → Going
     going w = record { at = w .at; saved = w .saved; picture = w .picture; row = flat call k (w .ops) }
@@ -61,7 +62,7 @@ module _ (call : List ℕ → List Stroke) (k : ℕ) where
           go-by true f = ap (flat call k) (ops-same f)
           go-by false f = not-valid f
 
-      module _ (n : ℕ) (ih : (w : Inside) → length s - w .at < n → judgedInside held high s w ≡ valid ops d → ownFrom call k high s (going w) ≡ flat call k ops) where
+      module _ (n : ℕ) (ih : (w : Inside) → length s - w .at < n → judgedInside held set s w ≡ valid ops d → ownFrom call k set s (going w) ≡ flat call k ops) where
         module _ (w : Inside) (o : Operator) (less : length s - o .next < n) where
           abbrev name : List ℕ
           name = bytesIn s (o .attrs) 139
@@ -70,63 +71,69 @@ module _ (call : List ℕ → List Stroke) (k : ℕ) where
           after-call : ℕ → Inside
           after-call e = record { at = o .next; saved = w .saved; picture = w .picture; ops = w .ops ++ (calls (o .at) name ∷ []); depth = e }
 
-          on-call : eqb (o .tag) 0x5e ≡ true → (x : Held) → onward (judgedInside held high s) (onCall o name w x) ≡ valid ops d
-              → onward (ownFrom call k high s) (onOwn call k high s (going w) (Read.operator o)) ≡ flat call k ops
+          on-call : eqb (o .tag) 0x5e ≡ true → (x : Held) → onward (judgedInside held set s) (onCall o name w x) ≡ valid ops d
+              → onward (ownFrom call k set s) (onOwn call k set s (going w) (Read.operator o)) ≡ flat call k ops
           unfolding onCall onOwn after-call strokesOf flat
           on-call t Held.none e = not-valid e
           on-call t (Held.is m) e = go-by (leb 32 (m .depth)) e
             where
               go-by : (b : Bool)
-                  → onward (judgedInside held high s) (pick b (stop (faulty 22 (o .at))) (go (after-call (max (w .depth) (suc (m .depth)))))) ≡ valid ops d
-                  → onward (ownFrom call k high s) (onOwn call k high s (going w) (Read.operator o)) ≡ flat call k ops
+                  → onward (judgedInside held set s) (pick b (stop (faulty 22 (o .at))) (go (after-call (max (w .depth) (suc (m .depth)))))) ≡ valid ops d
+                  → onward (ownFrom call k set s) (onOwn call k set s (going w) (Read.operator o)) ≡ flat call k ops
               go-by true f = not-valid f
               go-by false f =
-                  (λ i. ownFrom call k high s (record { at = o .next; saved = call-saved (o .tag) (w .saved) t i; picture = picture-by high s o (w .picture) (eqb-true (o .tag) 0x5e t) i; row = row i }))
+                  (λ i. ownFrom call k set s (record { at = o .next; saved = call-saved (o .tag) (w .saved) t i; picture = picture-by (set .high) s o (w .picture) (eqb-true (o .tag) 0x5e t) i; row = row i }))
                   ∙ ih (after-call (max (w .depth) (suc (m .depth)))) less f
                 where
-                  row : flat call k (w .ops) ++ strokesOf call k high s o ≡ flat call k (w .ops ++ (calls (o .at) name ∷ []))
+                  row : flat call k (w .ops) ++ strokesOf call k set s o ≡ flat call k (w .ops ++ (calls (o .at) name ∷ []))
                   row =
                       rw t (ap (λ l. flat call k (w .ops) ++ (record { motif = k; at = o .at; act = idle } ∷ l)) (sym (append-nil (call name))))
                       ∙ sym (flat-append (w .ops) (calls (o .at) name ∷ []))
 
-          on-deed : eqb (o .tag) 0x5e ≡ false → onward (judgedInside held high s) (onDeed high s o w) ≡ valid ops d
-              → onward (ownFrom call k high s) (onOwn call k high s (going w) (Read.operator o)) ≡ flat call k ops
+          on-deed : eqb (o .tag) 0x5e ≡ false → onward (judgedInside held set s) (onDeed set s o w) ≡ valid ops d
+              → onward (ownFrom call k set s) (onOwn call k set s (going w) (Read.operator o)) ≡ flat call k ops
           unfolding onDeed onOwn strokesOf flat
           on-deed t e =
-              (λ i. ownFrom call k high s (record { at = o .next; saved = savedAfter (o .tag) (w .saved); picture = pictureAfter high s o (w .picture); row = row i }))
-              ∙ ih (record { at = o .next; saved = savedAfter (o .tag) (w .saved); picture = pictureAfter high s o (w .picture); ops = w .ops ++ (does (o .at) (actOf high s o) ∷ []); depth = w .depth }) less e
+              (λ i. ownFrom call k set s (record { at = o .next; saved = savedAfter (o .tag) (w .saved); picture = pictureAfter (set .high) s o (w .picture); row = row i }))
+              ∙ ih (record { at = o .next; saved = savedAfter (o .tag) (w .saved); picture = pictureAfter (set .high) s o (w .picture); ops = w .ops ++ (does (o .at) (actOf set s o) ∷ []); depth = w .depth }) less e
             where
-              row : flat call k (w .ops) ++ strokesOf call k high s o ≡ flat call k (w .ops ++ (does (o .at) (actOf high s o) ∷ []))
-              row = rw t (sym (flat-append (w .ops) (does (o .at) (actOf high s o) ∷ [])))
+              row : flat call k (w .ops) ++ strokesOf call k set s o ≡ flat call k (w .ops ++ (does (o .at) (actOf set s o) ∷ []))
+              row = rw t (sym (flat-append (w .ops) (does (o .at) (actOf set s o) ∷ [])))
 
           on-operator : (b : Bool) → eqb (o .tag) 0x5e ≡ b
-              → onward (judgedInside held high s) (pick b (onCall o name w (heldAs name held)) (onDeed high s o w)) ≡ valid ops d
-              → onward (ownFrom call k high s) (onOwn call k high s (going w) (Read.operator o)) ≡ flat call k ops
+              → onward (judgedInside held set s) (pick b (onCall o name w (heldAs name held)) (onDeed set s o w)) ≡ valid ops d
+              → onward (ownFrom call k set s) (onOwn call k set s (going w) (Read.operator o)) ≡ flat call k ops
           on-operator true t e = on-call t (heldAs name held) e
           on-operator false t e = on-deed t e
 
         on-again : (w : Inside) → length s - w .at < suc n → {may : ℕ → Bool} {r : Read} → GoodRead (length s) (w .at) may r
-            → onward (judgedInside held high s) (onRead held high s w r) ≡ valid ops d
-            → onward (ownFrom call k high s) (onOwn call k high s (going w) r) ≡ flat call k ops
+            → onward (judgedInside held set s) (onRead held set s w r) ≡ valid ops d
+            → onward (ownFrom call k set s) (onOwn call k set s (going w) r) ≡ flat call k ops
         unfolding onRead onOwn
         on-again w h (GoodRead.operator {o = o} p q m) e = let l : length s - o .next < n = omega arith in on-operator w o l (eqb (o .tag) 0x5e) refl e
         on-again w h GoodRead.ended e = ended-again w (w .picture) e
         on-again w h (GoodRead.no c) e = not-valid e
 
-      again : (n : ℕ) (w : Inside) → length s - w .at < n → judgedInside held high s w ≡ valid ops d → ownFrom call k high s (going w) ≡ flat call k ops
+      again : (n : ℕ) (w : Inside) → length s - w .at < n → judgedInside held set s w ≡ valid ops d → ownFrom call k set s (going w) ≡ flat call k ops
       unfolding motifStep ownStep contextIn
       again zero w h e = absurd (omega arith)
       again (suc n) w h e =
-          own-step call k high s (going w)
-          ∙ on-again n (again n) w h (read-good (contextIn high w) s (w .at)) (sym (motif-step held high s w) ∙ e)
+          own-step call k set s (going w)
+          ∙ on-again n (again n) w h (read-good (contextIn set w) s (w .at)) (sym (motif-step held set s w) ∙ e)
 
   -- the operators of a motif that was found valid, read again
-  again-after : (held : List Motif) (s : List ℕ) (h : Header) {ops : List Own} {d : ℕ} → motifFrom held s h ≡ valid ops d → ownAfter call k s h ≡ flat call k ops
+  again-after : (set : Setting) (held : List Motif) (s : List ℕ) (h : Header) {ops : List Own} {d : ℕ} → motifFrom set held s h ≡ valid ops d → ownAfter call k set s h ≡ flat call k ops
   unfolding motifFrom ownAfter flat
-  again-after held s (Header.no code place) e = not-valid e
-  again-after held s (Header.is high next) e =
-      again held high s (suc (length s - next)) (record { at = next; saved = 0; picture = Picture.none; ops = []; depth = 1 }) (omega arith) e
+  again-after set held s (Header.no code place) e = not-valid e
+  again-after set held s (Header.is class high next) {ops} {d} e = by (sameClass class (set .class)) e
+    where
+      start : Inside
+      start = record { at = next; saved = 0; picture = Picture.none; ops = []; depth = 1 }
 
-  pub read-again : (held : List Motif) (s : List ℕ) {ops : List Own} {d : ℕ} → motifOf held s ≡ valid ops d → ownOf call (Found.is k s) ≡ flat call k ops
+      by : (b : Bool) → pick b (judgedInside held (ofMotif set high) s start) (faulty 4 12) ≡ valid ops d → ownFrom call k (ofMotif set high) s (going held (ofMotif set high) s start) ≡ flat call k ops
+      by true f = again held (ofMotif set high) s (suc (length s - next)) start (omega arith) f
+      by false f = not-valid f
+
+  pub read-again : (set : Setting) (held : List Motif) (s : List ℕ) {ops : List Own} {d : ℕ} → motifOf set held s ≡ valid ops d → ownOf call set (Found.is k s) ≡ flat call k ops
   unfolding motifOf ownOf
-  read-again held s e = again-after held s (headerOf s) e
+  read-again set held s e = again-after set held s (headerOf s) e

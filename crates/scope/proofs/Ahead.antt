@@ -10,10 +10,11 @@ use lib.ListN.{length, getD, length-append, List·getD-append}
 use lib.Dec.{ltb, leb, eqb}
 use Rattle.scope.specs.Choice.{pick, among}
 use Rattle.scope.specs.Iterate.{onward}
-use Rattle.scope.specs.Header.{Form, ends, breaks, Header, mayStand, formFrom, classed, headerOf}
+use Rattle.scope.specs.Header.{Class, Form, ends, breaks, Header, mayStand, formFrom, classed, headerOf}
 use Rattle.scope.specs.Reading.{Operator, Read}
 use Rattle.scope.specs.Motif.{Judged}
-use Rattle.scope.specs.Session.{Setting, Place, outside, inside}
+use Rattle.scope.specs.Setting.{Setting}
+use Rattle.scope.specs.Session.{Place, outside, inside}
 use Rattle.scope.specs.Judge.{State, Outcome, Refusal, caseOf, after, rules, firstBroken, outer, endAt, onRefusal, onCase, onRead, contextOf, jobStep, judgedFrom, starting}
 use Rattle.scope.specs.Verdict.{every, judgedAfter, Entry, entryOf, outcomeAt, outcomeOf, verdictOf}
 use Rattle.scope.specs.Runs.{caseAt, next}
@@ -21,7 +22,7 @@ use Rattle.scope.specs.Claims.{cutOff, StartOf, InnerSays, NoLookingAhea
 use Rattle.scope.proofs.Ends.{pick-all, GoodRead, read-good}
 use Rattle.scope.proofs.Falls.{judged-step}
 use Rattle.scope.proofs.Codes.{GoodJudged, motif-good, not-coded}
-use Rattle.scope.proofs.Says.{Says, LikePlace, same-place, uncounted, case-like, place-like}
+use Rattle.scope.proofs.Says.{akin-refl, Says, LikePlace, same-place, uncounted, case-like, place-like}
 use Rattle.scope.proofs.Beside.{equal-broken}
 use Rattle.scope.proofs.AheadRead.{OpIn, CutRead, ShortRead, value-in-cut, bytes-cut, stretch-cut, read-cut}
 use Rattle.scope.proofs.Told.{inner-known}
@@ -48,15 +49,15 @@ module _ (u v : List ℕ) where
     -- so it is judged the same, and the state after it is the same
     pub broken-same : (st : State) (o : Operator) → OpIn u v o → firstBroken every (caseAt set u st o) (rules room) ≡ firstBroken every (caseAt set w st o) (rules room)
     broken-same st o i =
-        equal-broken every every (λ k _. refl) room room (case-like set set refl u w o o (op-says (set .high) o i) st st refl) (λ _. refl) refl refl refl
+        equal-broken every every (λ k _. refl) room room (case-like set set akin-refl u w o o (op-says (set .high) o i) st st refl) (λ _. refl) refl refl refl
 
     pub next-same : (st : State) (o : Operator) → OpIn u v o → next set u st o ≡ next set w st o
     unfolding after caseOf uncounted
     next-same st o i =
         let z = op-says (set .high) o i in
-        let c = case-like set set refl u w o o z st st refl in
+        let c = case-like set set akin-refl u w o o z st st refl in
         let q : LikePlace (Unit {0}) (st .place) (st .place) = same-place in
-        let p = place-like set set refl u w o o z (caseAt set u st o .seen .page) (caseAt set w st o .seen .page) (ap (λ x. x .page) (c .seen)) q in
+        let p = place-like set set akin-refl u w o o z (caseAt set u st o .seen .page) (caseAt set w st o .seen .page) (ap (λ x. x .page) (c .seen)) q in
         let k = c .count in
         let n : caseAt set u st o .seen .count ≡ caseAt set w st o .seen .count = omega arith in
         λ j. record { at = o .next; place = p j; performed = n j; records = caseAt set u st o .records; past = o ∷ st .past }
@@ -103,7 +104,7 @@ module _ (u v : List ℕ) where
     unfolding jobStep
     cut-from zero st h k = absurd (omega arith)
     cut-from (suc n) st h k =
-        let c = contextOf every (set .high) (st .place) in
+        let c = contextOf every set (st .place) in
         subst⁻¹ (λ x. StartOf u x (of-whole st)) (judged-step every set u room st)
         (subst⁻¹ (λ y. StartOf u (onward of-start (jobStep every set u room st)) y) (judged-step every set w room st)
         (on-cut n (cut-from n) st k (read-good c u (st .at)) (read-cut u v c (st .at) h)))
@@ -165,29 +166,35 @@ form-cut i (b ∷ bs) v = by (mayStand i b) (leb 15 i && eqb b 0x0a) refl (form-
 
 -- a header that is there ends behind a place
 abbrev pub HeaderPast : ℕ → Header → Type 0
-HeaderPast i (Header.is high next) = i < next
+HeaderPast i (Header.is class high next) = i < next
 HeaderPast i (Header.no code place) = Unit {0}
 
 -- the same header in both, within u; the same refusal; or the end of u cuts it off
 pub data HeaderCut (u : List ℕ) : Header → Header → Type 0 where
-  alike : {high : Bool} {next : ℕ} → next ≤ length u → HeaderCut u (Header.is high next) (Header.is high next)
+  alike : {class : Class} {high : Bool} {next : ℕ} → next ≤ length u → HeaderCut u (Header.is class high next) (Header.is class high next)
   refused : {code place : ℕ} → HeaderCut u (Header.no code place) (Header.no code place)
   header-short : {h : Header} → HeaderPast (length u) h → HeaderCut u (Header.no 2 (length u)) h
 
 classed-past : (i : ℕ) (s : List ℕ) (f : Form) → FormPast i f → HeaderPast i (classed s f)
 unfolding classed
-classed-past i s (ends n) h = pick-all (HeaderPast i) (eqb (getD s 12 0) 0x31 && eqb (getD s 14 0) 0x31) (λ _. h) (λ _. tt)
+classed-past i s (ends n) h =
+    pick-all (HeaderPast i) (eqb (getD s 12 0) 0x31 && eqb (getD s 14 0) 0x31) (λ _. h)
+    (λ _. pick-all (HeaderPast i) (eqb (getD s 12 0) 0x32 && eqb (getD s 14 0) 0x31) (λ _. h) (λ _. tt))
 classed-past i s (breaks k) h = tt
 
 classed-cut : (u v : List ℕ) {f g : Form} → FormCut 0 u f g → HeaderCut u (classed u f) (classed (u ++ v) g)
 unfolding classed
 classed-cut u v (ended {n = n} h k) =
     rw (List·getD-append u v 0 0 (omega arith), List·getD-append u v 0 12 (omega arith), List·getD-append u v 0 14 (omega arith))
-    (by (eqb (getD u 12 0) 0x31 && eqb (getD u 14 0) 0x31))
+    (by (eqb (getD u 12 0) 0x31 && eqb (getD u 14 0) 0x31) (eqb (getD u 12 0) 0x32 && eqb (getD u 14 0) 0x31))
   where
-    by : (b : Bool) → HeaderCut u (pick b (Header.is (eqb (getD u 0 0) 0x28) n) (Header.no 4 12)) (pick b (Header.is (eqb (getD u 0 0) 0x28) n) (Header.no 4 12))
-    by true = let l : n ≤ length u = omega arith in alike l
-    by false = refused
+    said : Bool → Bool → Header
+    said a b = pick a (Header.is Class.one (eqb (getD u 0 0) 0x28) n) (pick b (Header.is Class.two (eqb (getD u 0 0) 0x28) n) (Header.no 4 12))
+
+    by : (a b : Bool) → HeaderCut u (said a b) (said a b)
+    by true b = let l : n ≤ length u = omega arith in alike l
+    by false true = let l : n ≤ length u = omega arith in alike l
+    by false false = refused
 classed-cut u v broken = refused
 classed-cut u v (cut-short {f = f} h) =
     let e : 0 + length u ≡ length u = omega arith in
@@ -204,8 +211,8 @@ header-cut (b ∷ bs) v = by (eqb b 0x27)
 
 after-header : (gray : Bool) (u v : List ℕ) (room : ℕ) {g h : Header} → HeaderCut u g h → StartOf u (judgedAfter gray every u room g) (judgedAfter gray every (u ++ v) room h)
 unfolding judgedAfter
-after-header gray u v room (alike {high = high} {next = next} k) =
-    cut-from u v (record { high = high; gray = gray }) room (suc (length u - next)) (starting next) k (omega arith)
+after-header gray u v room (alike {class = class} {high = high} {next = next} k) =
+    cut-from u v (record { class = class; high = high; gray = gray }) room (suc (length u - next)) (starting next) k (omega arith)
 after-header gray u v room refused = StartOf.same refl
 after-header gray u v room (header-short h) = StartOf.in-header refl refl refl
 
@@ -231,9 +238,9 @@ let-in gray job work room pass = by (ltb work 16384) (ltb 61440 (length job)) re
     by false false e k = ltb-false 61440 (length job) e
 
 -- with a pass no motif is at fault
-passes-outer : (job : List ℕ) (e : Outcome) → InnerSays job e → e .code ≡ 0 → e .inner ≡ outer
-passes-outer job e (InnerSays.nothing h) k = h
-passes-outer job e (InnerSays.of-motif m i t) k = by (subst GoodJudged m (motif-good _ _))
+passes-outer : (set : Setting) (job : List ℕ) (e : Outcome) → InnerSays set job e → e .code ≡ 0 → e .inner ≡ outer
+passes-outer set job e (InnerSays.nothing h) k = h
+passes-outer set job e (InnerSays.of-motif m i t) k = by (subst GoodJudged m (motif-good set _ _))
   where
     by : GoodJudged (Judged.faulty (e .code) (e .inner)) → e .inner ≡ outer
     by (GoodJudged.ill c) = not-coded (e .code) c k
@@ -249,15 +256,15 @@ early-code k e = by (eqb k 0) (eqb k 2) (eqb k 5) (eqb k 27) e
     by false false false true e = refl
     by false false false false e = e
 
-cuts-of : (start : List ℕ) (e f : Outcome) → InnerSays start e → StartOf start e f → f .code ≡ 0 → (among (0 ∷ 2 ∷ 5 ∷ 27 ∷ []) (e .code) ≡ true) × (e .inner ≡ outer)
+cuts-of : (set : Setting) (start : List ℕ) (e f : Outcome) → InnerSays set start e → StartOf start e f → f .code ≡ 0 → (among (0 ∷ 2 ∷ 5 ∷ 27 ∷ []) (e .code) ≡ true) × (e .inner ≡ outer)
 unfolding among
-cuts-of start e f i (StartOf.same s) k = let z : e .code ≡ 0 = ap (λ x. x .code) s ∙ k in (rw z refl, passes-outer start e i z)
-cuts-of start e f i (StartOf.passes s) k = (rw s refl, passes-outer start e i s)
-cuts-of start e f i (StartOf.cut s o) k = (early-code (e .code) s, o)
-cuts-of start e f i (StartOf.in-header s p o) k = (rw s refl, o)
+cuts-of set start e f i (StartOf.same s) k = let z : e .code ≡ 0 = ap (λ x. x .code) s ∙ k in (rw z refl, passes-outer set start e i z)
+cuts-of set start e f i (StartOf.passes s) k = (rw s refl, passes-outer set start e i s)
+cuts-of set start e f i (StartOf.cut s o) k = (early-code (e .code) s, o)
+cuts-of set start e f i (StartOf.in-header s p o) k = (rw s refl, o)
 
 pub cuts : Cuts
 unfolding verdictOf
 cuts gray start rest work room pass =
-    cuts-of start (outcomeOf gray every start work room) (outcomeOf gray every (start ++ rest) work room) (inner-known gray start work room)
+    cuts-of _ start (outcomeOf gray every start work room) (outcomeOf gray every (start ++ rest) work room) (inner-known gray start work room)
     (no-looking-ahead gray start rest work room (let-in gray (start ++ rest) work room pass)) pass

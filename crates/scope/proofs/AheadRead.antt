@@ -12,10 +12,10 @@ use lib.Dec.{leb, eqb}
 use Rattle.scope.specs.Choice.{pick, between}
 use Rattle.scope.specs.Number.{place, number}
 use Rattle.scope.specs.Item.{Attribute, Scan, kindOf, widthOf}
-use Rattle.scope.specs.Table.{Takes, E, N, P, B, A, D, M, Rule, Row, Line, Ruled, table, lineIn, ruleIn}
-use Rattle.scope.specs.Attributes.{Fault, fine, bad, has, Two, reals, twoAt, wholeIn, pointIn, sizesIn, firstOf, typeTaken, inRange, attributeCode, oneByOne, valueIn, bytesIn}
-use Rattle.scope.specs.Data.{Image, Due, Found, dueOf, blockOf, blockAt}
-use Rattle.scope.specs.Order.{mayCome, imageOf, rowsFit}
+use Rattle.scope.specs.Table.{Takes, E, N, P, B, A, D, M, M2, L, Rule, Row, Line, Ruled, table, lineIn, ruleIn}
+use Rattle.scope.specs.Attributes.{wholeBytes, Fault, fine, bad, has, Two, reals, twoAt, wholeIn, pointIn, sizesIn, firstOf, typeTaken, inRange, attributeCode, oneByOne, valueIn, bytesIn}
+use Rattle.scope.specs.Data.{padOf, blockDue, Image, Due, Found, dueOf, blockOf, blockAt}
+use Rattle.scope.specs.Order.{lengthFits, mayCome, imageOf, rowsFit}
 use Rattle.scope.specs.Reading.{Context, Operator, Read, withBlock, withData, asWhole, withAttributes, withLine, scanned, operatorAt}
 use Rattle.scope.specs.Claims.{cutOff}
 use Rattle.scope.proofs.Ends.{pick-all, GoodRead, with-line-good}
@@ -27,9 +27,6 @@ module _ (u v : List ℕ) where
   w = u ++ v
 
   -- what is looked at of attributes that stand in u
-  two-at-most : (t : ℕ) → pick (eqb t 0xc0) 1 2 ≤ 2
-  two-at-most t = pick-all (λ k. k ≤ 2) (eqb t 0xc0) (λ _. omega arith) (λ _. omega arith)
-
   pick-when : {A : Type 0} (b : Bool) (x y z : A) → (b ≡ true → x ≡ y) → pick b x z ≡ pick b y z
   pick-when true x y z h = h refl
   pick-when false x y z h = refl
@@ -54,11 +51,19 @@ module _ (u v : List ℕ) where
         let y = number-cut u v high 4 (a .first + 4) (omega arith) in
         (λ j. reals (x j) (y j))
 
+    -- a whole number lies in u, all its bytes
+    whole-in : {a : Attribute} → Inside (length u) a → a .first + wholeBytes (a .tag) ≤ length u
+    unfolding kindOf widthOf
+    whole-in {a} i =
+        let y = i .word in
+        pick-all (λ k. a .first + k ≤ length u) (eqb (a .tag) 0xc0) (λ _. omega arith)
+        (λ _. pick-all (λ k. a .first + k ≤ length u) (eqb (a .tag) 0xc2) (λ t. let z = i .words 1 4 (rw (eqb-true (a .tag) 0xc2 t) refl) in omega arith) (λ _. omega arith))
+
     first-cut : {a : Attribute} → Inside (length u) a → firstOf high u a ≡ firstOf high w a
     unfolding firstOf twoAt
     first-cut {a} i =
         pick-two wholeIn (eqb (a .tag) 0xd5) (λ _. refl)
-        (λ _. let x = two-at-most (a .tag) in let y = i .word in number-cut u v high (pick (eqb (a .tag) 0xc0) 1 2) (a .first) (omega arith))
+        (λ _. number-cut u v high (wholeBytes (a .tag)) (a .first) (whole-in i))
 
     second-cut : {a : Attribute} → Inside (length u) a → a .tag ≡ 0xd1 → number high 2 u (a .first + 2) ≡ number high 2 w (a .first + 2)
     unfolding kindOf widthOf
@@ -73,9 +78,7 @@ module _ (u v : List ℕ) where
     unfolding twoAt
     sizes-cut low {a} i e =
         pick-two (sizesIn low) (eqb (a .tag) 0xd5) (λ t. ap (sizesIn low) (real-cut i (eqb-true (a .tag) 0xd5 t)))
-        (λ f. let x = two-at-most (a .tag) in
-        let y = i .word in
-        let one = number-cut u v high (pick (eqb (a .tag) 0xc0) 1 2) (a .first) (omega arith) in
+        (λ f. let one = number-cut u v high (wholeBytes (a .tag)) (a .first) (whole-in i) in
         let two = second-cut i (eqb-true (a .tag) 0xd1 (or-left (eqb (a .tag) 0xd1) (eqb (a .tag) 0xd5) e f)) in
         (λ j. leb low (one j) && leb low (two j)))
 
@@ -88,6 +91,8 @@ module _ (u v : List ℕ) where
     range-cut (A low up) a i e = refl
     range-cut (D low) a i e = sizes-cut low i e
     range-cut M a i e = ap (λ z. between 0 12 z || between 14 16 z) (first-cut i)
+    range-cut M2 a i e = ap (λ z. pick (eqb (a .tag) 0xc8) (between 1 1024 (a .count)) (between 0 21 z || eqb z 96)) (first-cut i)
+    range-cut L a i e = refl
 
     code-cut : (before : List Attribute) (a : Attribute) → Inside (length u) a → (r : Ruled) → attributeCode high u before a r ≡ attributeCode high w before a r
     unfolding attributeCode
@@ -108,13 +113,17 @@ module _ (u v : List ℕ) where
     value-in-cut n none = refl
     value-in-cut n (more {a = a} i k) = let e = first-cut i in let f = value-in-cut n k in (λ j. pick (eqb (a .number) n) (e j) (f j))
 
+    block-due-cut : (i : Image) {l : List Attribute} → AllIn (length u) l → blockDue high u i l ≡ blockDue high w i l
+    unfolding blockDue padOf
+    block-due-cut i k = rw (value-in-cut 99 k, value-in-cut 110 k) refl
+
     rows-cut : (i : Image) (tag : ℕ) {l : List Attribute} → AllIn (length u) l → rowsFit high u i tag l ≡ rowsFit high w i tag l
-    unfolding rowsFit
-    rows-cut i tag k = rw (value-in-cut 109 k, value-in-cut 99 k) refl
+    unfolding rowsFit lengthFits
+    rows-cut i tag k = rw (value-in-cut 109 k, value-in-cut 99 k, value-in-cut 111 k, block-due-cut i k) refl
 
     due-cut : (i : Image) (tag : ℕ) {l : List Attribute} → AllIn (length u) l → dueOf high u i tag l ≡ dueOf high w i tag l
     unfolding dueOf
-    due-cut i tag k = rw (value-in-cut 140 k, value-in-cut 99 k, value-in-cut 80 k, value-in-cut 77 k) refl
+    due-cut i tag k = rw (value-in-cut 140 k, block-due-cut i k, value-in-cut 80 k, value-in-cut 77 k) refl
 
   pub stretch-cut : (k at : ℕ) → at + k ≤ length u → take k (drop at u) ≡ take k (drop at w)
   stretch-cut k at h =
@@ -215,14 +224,14 @@ module _ (u v : List ℕ) where
     unfolding withData
     with-data-cut Due.none = let z : 0 + 0 ≤ length u = omega arith in both (record { ends = h; attrs = all-in; block = z })
     with-data-cut (Due.reads due) =
-        pick-both CutRead (c .asked && not (c .opened)) (λ _. same) (λ _. with-block-cut due (block-cut (c .high) p due (after-cut u v (suc p) h)))
+        pick-both CutRead (c .asked && not (c .opened)) (λ _. same) (λ _. with-block-cut due (block-cut (c .set .high) p due (after-cut u v (suc p) h)))
 
     whole-cut : (code : ℕ) → CutRead (asWhole c u tag p l code) (asWhole c w tag p l code)
     unfolding asWhole
     whole-cut code =
-        rw (rows-cut (c .high) (imageOf (c .phase)) tag all-in, due-cut (c .high) (imageOf (c .phase)) tag all-in)
+        rw (rows-cut (c .set .high) (imageOf (c .phase)) tag all-in, due-cut (c .set .high) (imageOf (c .phase)) tag all-in)
         (pick-both CutRead (eqb code 0)
-        (λ _. pick-both CutRead (rowsFit (c .high) w (imageOf (c .phase)) tag l) (λ _. with-data-cut (dueOf (c .high) w (imageOf (c .phase)) tag l)) (λ _. same)) (λ _. same))
+        (λ _. pick-both CutRead (rowsFit (c .set .high) w (imageOf (c .phase)) tag l) (λ _. with-data-cut (dueOf (c .set .high) w (imageOf (c .phase)) tag l)) (λ _. same)) (λ _. same))
 
     attributes-cut : (r : Row) (f : Fault) → CutRead (withAttributes c u tag p l r f) (withAttributes c w tag p l r f)
     unfolding withAttributes
@@ -234,8 +243,8 @@ module _ (u v : List ℕ) where
     line-cut Line.none = same
     line-cut (Line.is r) =
         pick-both CutRead (mayCome (c .phase) (c .opened) tag)
-        (λ _. subst (λ f. CutRead (withAttributes c u tag p l r (oneByOne (c .high) u (r .rules) [] l)) (withAttributes c w tag p l r f)) (one-cut (c .high) (r .rules) [] l all-in)
-        (attributes-cut r (oneByOne (c .high) u (r .rules) [] l))) (λ _. same)
+        (λ _. subst (λ f. CutRead (withAttributes c u tag p l r (oneByOne (c .set .high) u (r .rules) [] l)) (withAttributes c w tag p l r f)) (one-cut (c .set .high) (r .rules) [] l all-in)
+        (attributes-cut r (oneByOne (c .set .high) u (r .rules) [] l))) (λ _. same)
 
   good-beyond : (p : ℕ) → length u ≤ p → {may : ℕ → Bool} {r : Read} → GoodRead (length w) p may r → BeyondRead r
   good-beyond p h (GoodRead.operator x y z) = omega arith
@@ -250,19 +259,19 @@ module _ (u v : List ℕ) where
 
   scanned-beyond : (c : Context) (y : Scan) → BeyondScan u v y → BeyondRead (scanned c w y)
   unfolding scanned
-  scanned-beyond c (Scan.tagged tag p l) h = good-beyond p (h .0) (with-line-good c w p tag p l (omega arith) (h .1) (lineIn table tag))
+  scanned-beyond c (Scan.tagged tag p l) h = good-beyond p (h .0) (with-line-good c w p tag p l (omega arith) (h .1) (lineIn (table (c .set .class)) tag))
   scanned-beyond c Scan.ended h = tt
   scanned-beyond c (Scan.no code place) h = tt
 
   scanned-cut : (c : Context) {x y : Scan} → CutScan u v x y → CutRead (scanned c u x) (scanned c w y)
   unfolding scanned
-  scanned-cut c (CutScan.both {tag = tag} {p = p} {l = l} h k) = line-cut c tag p l h k (lineIn table tag)
+  scanned-cut c (CutScan.both {tag = tag} {p = p} {l = l} h k) = line-cut c tag p l h k (lineIn (table (c .set .class)) tag)
   scanned-cut c CutScan.same = same
   scanned-cut c (CutScan.lost {x = x} {y = y} a b) = lost (scanned-short c x a) (scanned-beyond c y b)
 
   pub read-cut : (c : Context) (at : ℕ) → at ≤ length u → CutRead (operatorAt c u at) (operatorAt c w at)
   unfolding operatorAt
-  read-cut c at h = scanned-cut c (scan-cut u v (c .high) at h)
+  read-cut c at h = scanned-cut c (scan-cut u v (c .set .high) at h)
 
   -- an operator that is read in u is read in u with anything behind it
   pub read-longer : (c : Context) (at : ℕ) (o : Operator) → at ≤ length u → operatorAt c u at ≡ Read.operator o → (operatorAt c w at ≡ Read.operator o) × OpIn o

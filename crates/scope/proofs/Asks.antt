@@ -14,6 +14,7 @@ use Rattle.scope.specs.Attributes.{Fault, fine, bad, has}
 use Rattle.scope.specs.Data.{Image, Due, Found, dueOf}
 use Rattle.scope.specs.Order.{Phase, mayCome, imageOf, rowsFit}
 use Rattle.scope.proofs.Ends.{pick-all}
+use Rattle.scope.specs.Setting.{Setting}
 use Rattle.scope.specs.Reading.{Context, Operator, Read, withBlock, withData, asWhole, withAttributes, withLine, scanned, operatorAt}
 
 -- the first reading never asks for an open source, the second does
@@ -27,8 +28,8 @@ pick-two : {A : Type 0} (Q : A → A → Type 0) (b : Bool) {x y v w : A} → Q 
 pick-two Q true f g = f
 pick-two Q false f g = g
 
-abbrev pub asking : Bool → Phase → Bool → Bool → Context
-asking high phase opened b = record { high = high; phase = phase; opened = opened; asked = b }
+abbrev pub asking : Setting → Phase → Bool → Bool → Context
+asking set phase opened b = record { set = set; phase = phase; opened = opened; asked = b }
 
 block-asks : (tag p due : ℕ) (l : List Attribute) → eqb tag 0x5e ≡ false → (f : Found) → Asks false (withBlock tag p l due f) (Read.no 17 p)
 unfolding withBlock
@@ -56,41 +57,41 @@ due-no-call high s i tag l =
     (λ _. pick-all (NoCall tag) (eqb tag 0x9b || eqb tag 0x9d)
     (λ t. pick-all (NoCall tag) (has 77 l) (λ _. reading (line-too tag (eqb tag 0x9b) (eqb tag 0x9d) refl refl t)) (λ _. quiet)) (λ _. quiet)))
 
-module _ (high : Bool) (phase : Phase) (s : List ℕ) where
+module _ (set : Setting) (phase : Phase) (s : List ℕ) where
   data-asks : (opened : Bool) (tag p : ℕ) (l : List Attribute) {d : Due} → NoCall tag d
-      → Asks opened (withData (asking high phase opened false) s tag p l d) (withData (asking high phase opened true) s tag p l d)
+      → Asks opened (withData (asking set phase opened false) s tag p l d) (withData (asking set phase opened true) s tag p l d)
   unfolding withData
   data-asks opened tag p l quiet = alike
   data-asks true tag p l (reading n) = alike
   data-asks false tag p l (reading {n = due} n) = block-asks tag p due l n _
 
   whole-asks : (opened : Bool) (tag p : ℕ) (l : List Attribute) (code : ℕ)
-      → Asks opened (asWhole (asking high phase opened false) s tag p l code) (asWhole (asking high phase opened true) s tag p l code)
+      → Asks opened (asWhole (asking set phase opened false) s tag p l code) (asWhole (asking set phase opened true) s tag p l code)
   unfolding asWhole
   whole-asks opened tag p l code =
       pick-two (Asks opened) (eqb code 0)
-      (pick-two (Asks opened) (rowsFit high s (imageOf phase) tag l) (data-asks opened tag p l (due-no-call high s (imageOf phase) tag l)) alike) alike
+      (pick-two (Asks opened) (rowsFit (set .high) s (imageOf phase) tag l) (data-asks opened tag p l (due-no-call (set .high) s (imageOf phase) tag l)) alike) alike
 
   attributes-asks : (opened : Bool) (tag p : ℕ) (l : List Attribute) (r : Row) (f : Fault)
-      → Asks opened (withAttributes (asking high phase opened false) s tag p l r f) (withAttributes (asking high phase opened true) s tag p l r f)
+      → Asks opened (withAttributes (asking set phase opened false) s tag p l r f) (withAttributes (asking set phase opened true) s tag p l r f)
   unfolding withAttributes
   attributes-asks opened tag p l r (bad code place) = alike
   attributes-asks opened tag p l r fine = whole-asks opened tag p l _
 
   line-asks : (opened : Bool) (tag p : ℕ) (l : List Attribute) (r : Line)
-      → Asks opened (withLine (asking high phase opened false) s tag p l r) (withLine (asking high phase opened true) s tag p l r)
+      → Asks opened (withLine (asking set phase opened false) s tag p l r) (withLine (asking set phase opened true) s tag p l r)
   unfolding withLine
   line-asks opened tag p l Line.none = alike
   line-asks opened tag p l (Line.is r) = pick-two (Asks opened) (mayCome phase opened tag) (attributes-asks opened tag p l r _) alike
 
   scanned-asks : (opened : Bool) (r : Scan)
-      → Asks opened (scanned (asking high phase opened false) s r) (scanned (asking high phase opened true) s r)
+      → Asks opened (scanned (asking set phase opened false) s r) (scanned (asking set phase opened true) s r)
   unfolding scanned
   scanned-asks opened (Scan.tagged tag p l) = line-asks opened tag p l _
   scanned-asks opened Scan.ended = alike
   scanned-asks opened (Scan.no code place) = alike
 
   pub read-asks : (opened : Bool) (at : ℕ)
-      → Asks opened (operatorAt (asking high phase opened false) s at) (operatorAt (asking high phase opened true) s at)
+      → Asks opened (operatorAt (asking set phase opened false) s at) (operatorAt (asking set phase opened true) s at)
   unfolding operatorAt
-  read-asks opened at = scanned-asks opened (scanAt high s at)
+  read-asks opened at = scanned-asks opened (scanAt (set .high) s at)

@@ -9,11 +9,11 @@ use native.Mathlib.Omega.{arith}
 use lib.Dec.{ltb}
 use Rattle.scope.specs.Choice.{pick}
 use Rattle.scope.specs.Reading.{Operator, Read}
-use Rattle.scope.specs.Session.{Setting}
+use Rattle.scope.specs.Setting.{Setting}
 use Rattle.scope.specs.Judge.{State, Case, Refusal, caseOf, rules, firstBroken, outer, countOver, roomOver, after}
 use Rattle.scope.specs.Claims.{limit}
 use Rattle.scope.specs.Runs.{readAt, caseAt, next}
-use Rattle.scope.proofs.Says.{Says, LikePlace, same-place, session-same, uncounted, LikeCase, chain, limits, broken-is, Splits, silent, speaks, chain-splits, AlikeGiven, chain-like, case-like, place-like}
+use Rattle.scope.proofs.Says.{Akin, Says, LikePlace, same-place, session-same, uncounted, LikeCase, chain, limits, broken-is, Splits, silent, speaks, chain-splits, AlikeGiven, chain-like, case-like, place-like}
 
 -- the first is, one by one, a start of the second
 pub data Starts (Op : Operator → Operator → Type 0) : List Operator → List Operator → Type 0 where
@@ -74,7 +74,7 @@ module _ (given other : ℕ → Bool) (alike : AlikeGiven given other) where
       ∙ sym (broken-is other space d)
 
 -- two jobs; their places that belong together; m and n operators, r and q records before
-module _ (given other : ℕ → Bool) (alike : AlikeGiven given other) (set turned : Setting) (same-gray : set .gray ≡ turned .gray) (s t : List ℕ)
+module _ (given other : ℕ → Bool) (alike : AlikeGiven given other) (set turned : Setting) (akin : Akin set turned) (s t : List ℕ)
     (At : ℕ → ℕ → Type 0) (m n r q : ℕ) where
   -- two states that are the same but for their places in the bytes and for what went before
   pub record LikeState (x y : State) : Type 0 where
@@ -87,15 +87,15 @@ module _ (given other : ℕ → Bool) (alike : AlikeGiven given other) (set turn
   pub next-place : (x y : State) (a b : Operator) → LikeState x y → Says (set .high) (turned .high) s t a b → next set s x a .place ≡ next turned t y b .place
   unfolding after caseOf uncounted
   next-place x y a b l h =
-      let c = case-like set turned same-gray s t a b h x y (session-same (l .place)) in
-      place-like set turned same-gray s t a b h (caseAt set s x a .seen .page) (caseAt turned t y b .seen .page) (ap (λ w. w .page) (c .seen)) (l .place)
+      let c = case-like set turned akin s t a b h x y (session-same (l .place)) in
+      place-like set turned akin s t a b h (caseAt set s x a .seen .page) (caseAt turned t y b .seen .page) (ap (λ w. w .page) (c .seen)) (l .place)
 
   -- and so is the state, in that sense
   pub next-like : (x y : State) (a b : Operator) → LikeState x y → Says (set .high) (turned .high) s t a b → At (a .next) (b .next)
       → LikeState (next set s x a) (next turned t y b)
   unfolding after caseOf uncounted
   next-like x y a b l h e =
-      let c = case-like set turned same-gray s t a b h x y (session-same (l .place)) in
+      let c = case-like set turned akin s t a b h x y (session-same (l .place)) in
       let u = l .performed in
       let v = l .records in
       let cu = c .count in

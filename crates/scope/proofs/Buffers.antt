@@ -12,7 +12,8 @@ use lib.Dec.{ltb, eqb}
 use Rattle.scope.specs.Choice.{pick}
 use Rattle.scope.specs.Header.{Header, headerOf}
 use Rattle.scope.specs.Reading.{Read}
-use Rattle.scope.specs.Session.{Setting, Place, outside, inside as within, sessionOf}
+use Rattle.scope.specs.Setting.{Setting}
+use Rattle.scope.specs.Session.{Place, outside, inside as within, sessionOf}
 use Rattle.scope.specs.Judge.{State, Outcome, Case, Refusal, starting, outer, refusedAt, caseOf, endAt, onRefusal, onCase, onRead, contextOf, jobStep, judgedFrom}
 use Rattle.scope.specs.Verdict.{every, Entry, refused, admitted, entryOf, judgedAfter, outcomeAt, outcomeOf, verdictOf, zeros, clearedBy, workAfter}
 use Rattle.scope.specs.Claims.{NoMotifLeft, Zeroed}
@@ -54,13 +55,13 @@ module _ (set : Setting) (s : List ℕ) (room : ℕ) where
   read-late : (st : State) {at len : ℕ} {may : ℕ → Bool} {r : Read} → GoodRead len at may r → Kept Any Late (onRead every set s room st r)
   unfolding onRead onCase caseOf
   read-late st (GoodRead.operator {o = o} x y z) =
-      refusal-late st _ (broken-coded every room (caseOf (set .high) s st (sessionOf (st .place)) o) (judged-good _ _ (o .tag)))
+      refusal-late st _ (broken-coded every room (caseOf set s st (sessionOf (st .place)) o) (judged-good set _ _ (o .tag)))
   read-late st GoodRead.ended = kept-stop (end-late st (st .place))
   read-late st (GoodRead.no k) = kept-stop (late (given k))
 
   step-late : (st : State) → Any st → Kept Any Late (jobStep every set s room st)
   unfolding jobStep
-  step-late st u = read-late st (read-good (contextOf every (set .high) (st .place)) s (st .at))
+  step-late st u = read-late st (read-good (contextOf every set (st .place)) s (st .at))
 
   judged-late : (st : State) → Late (judgedFrom every set s room st)
   unfolding judgedFrom
@@ -69,7 +70,7 @@ module _ (set : Setting) (s : List ℕ) (room : ℕ) where
 
 pub header-late : (gray : Bool) (job : List ℕ) (room : ℕ) {r : Header} → GoodHeader r → Late (judgedAfter gray every job room r)
 unfolding judgedAfter
-header-late gray job room (GoodHeader.good {high = high} {next = next}) = judged-late (record { high = high; gray = gray }) job room (starting next)
+header-late gray job room (GoodHeader.good {class = class} {high = high} {next = next}) = judged-late (record { class = class; high = high; gray = gray }) job room (starting next)
 header-late gray job room (GoodHeader.ill k) = late (given k)
 
 neither : (k : ℕ) → ZeroOr k → (eqb k 1 || eqb k 29) ≡ false

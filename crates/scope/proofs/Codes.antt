@@ -8,7 +8,8 @@ use borrow.Author.Tests.{ltb-false, le-ltb}
 use lib.ListN.{length, getD}
 use lib.Dec.{leb, eqb}
 use Rattle.scope.specs.Choice.{pick, among}
-use Rattle.scope.specs.Header.{Header, Form, ends, breaks, headerOf, classed, formFrom}
+use Rattle.scope.specs.Header.{Class, Header, Form, ends, breaks, headerOf, classed, formFrom}
+use Rattle.scope.specs.Setting.{Setting, ofMotif, sameClass}
 use Rattle.scope.specs.Reading.{Operator, Read}
 use Rattle.scope.specs.Motif.{Own, Motif, Held, Inside, Picture, Judged, valid, faulty, contextIn, onCall, onDeed, onEnd, onRead, motifStep, judgedInside, motifFrom, motifOf}
 use Rattle.scope.specs.Session.{Place, outside, inside}
@@ -23,13 +24,14 @@ pub data GoodJudged : Judged → Type 0 where
   ill : {code inner : ℕ} → Coded code → GoodJudged (faulty code inner)
 
 pub data GoodHeader : Header → Type 0 where
-  good : {high : Bool} {next : ℕ} → GoodHeader (Header.is high next)
+  good : {class : Class} {high : Bool} {next : ℕ} → GoodHeader (Header.is class high next)
   ill : {code place : ℕ} → Coded code → GoodHeader (Header.no code place)
 
 classed-good : (s : List ℕ) (f : Form) → GoodHeader (classed s f)
 unfolding classed
 classed-good s (breaks i) = ill tt
-classed-good s (ends n) = pick-all GoodHeader (eqb (getD s 12 0) 0x31 && eqb (getD s 14 0) 0x31) (λ _. good) (λ _. ill tt)
+classed-good s (ends n) = pick-all GoodHeader (eqb (getD s 12 0) 0x31 && eqb (getD s 14 0) 0x31) (λ _. good)
+    (λ _. pick-all GoodHeader (eqb (getD s 12 0) 0x32 && eqb (getD s 14 0) 0x31) (λ _. good) (λ _. ill tt))
 
 pub header-good : (s : List ℕ) → GoodHeader (headerOf s)
 unfolding headerOf
@@ -38,7 +40,7 @@ header-good s = pick-all GoodHeader (eqb (getD s 0 0) 0x27) (λ _. ill tt) (λ _
 abbrev Any : Inside → Type 0
 Any w = Unit {0}
 
-module _ (held : List Motif) (high : Bool) (s : List ℕ) where
+module _ (held : List Motif) (set : Setting) (s : List ℕ) where
   call-good : (o : Operator) (n : List ℕ) (w : Inside) (x : Held) → Kept Any GoodJudged (onCall o n w x)
   unfolding onCall
   call-good o n w Held.none = kept-stop (ill tt)
@@ -49,29 +51,32 @@ module _ (held : List Motif) (high : Bool) (s : List ℕ) where
   end-good w (Picture.being i) = ill tt
   end-good w Picture.none = pick-all GoodJudged (eqb (w .saved) 0) (λ _. good) (λ _. ill tt)
 
-  on-read-good : (w : Inside) {at len : ℕ} {may : ℕ → Bool} {r : Read} → GoodRead len at may r → Kept Any GoodJudged (onRead held high s w r)
+  on-read-good : (w : Inside) {at len : ℕ} {may : ℕ → Bool} {r : Read} → GoodRead len at may r → Kept Any GoodJudged (onRead held set s w r)
   unfolding onRead onDeed
   on-read-good w (GoodRead.operator {o = o} h k m) =
       pick-all (Kept Any GoodJudged) (eqb (o .tag) 0x5e) (λ _. call-good o _ w _) (λ _. kept-go tt)
   on-read-good w GoodRead.ended = kept-stop (end-good w (w .picture))
   on-read-good w (GoodRead.no k) = kept-stop (ill k)
 
-  step-good : (w : Inside) → Any w → Kept Any GoodJudged (motifStep held high s w)
+  step-good : (w : Inside) → Any w → Kept Any GoodJudged (motifStep held set s w)
   unfolding motifStep
-  step-good w u = on-read-good w (read-good (contextIn high w) s (w .at))
+  step-good w u = on-read-good w (read-good (contextIn set w) s (w .at))
 
-from-good : (held : List Motif) (s : List ℕ) {r : Header} → GoodHeader r → GoodJudged (motifFrom held s r)
+from-good : (set : Setting) (held : List Motif) (s : List ℕ) {r : Header} → GoodHeader r → GoodJudged (motifFrom set held s r)
 unfolding motifFrom judgedInside
-from-good held s (good {high = high} {next = next}) = iterate-holds (motifStep held high s) (faulty 5 0) Any GoodJudged (ill tt) (step-good held high s) (λ w. length s - w .at) (record { at = next; saved = 0; picture = Picture.none; ops = []; depth = 1 }) tt
-from-good held s (ill k) = ill k
+from-good set held s (good {class = class} {high = high} {next = next}) =
+    pick-all GoodJudged (sameClass class (set .class))
+    (λ _. iterate-holds (motifStep held (ofMotif set high) s) (faulty 5 0) Any GoodJudged (ill tt) (step-good held (ofMotif set high) s) (λ w. length s - w .at)
+    (record { at = next; saved = 0; picture = Picture.none; ops = []; depth = 1 }) tt) (λ _. ill tt)
+from-good set held s (ill k) = ill k
 
-pub motif-good : (held : List Motif) (s : List ℕ) → GoodJudged (motifOf held s)
+pub motif-good : (set : Setting) (held : List Motif) (s : List ℕ) → GoodJudged (motifOf set held s)
 unfolding motifOf
-motif-good held s = from-good held s (header-good s)
+motif-good set held s = from-good set held s (header-good s)
 
-pub judged-good : (held : List Motif) (joined : List ℕ) (tag : ℕ) → GoodJudged (judgedAt held joined tag)
+pub judged-good : (set : Setting) (held : List Motif) (joined : List ℕ) (tag : ℕ) → GoodJudged (judgedAt set held joined tag)
 unfolding judgedAt
-judged-good held joined tag = pick-all GoodJudged (eqb tag 0x5d) (λ _. motif-good held joined) (λ _. good)
+judged-good set held joined tag = pick-all GoodJudged (eqb tag 0x5d) (λ _. motif-good set held joined) (λ _. good)
 
 pub data Refuses : Refusal → Type 0 where
   not-so : Refuses Refusal.none

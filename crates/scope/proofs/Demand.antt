@@ -17,7 +17,8 @@ use Rattle.scope.specs.Order.{mayCome}
 use Rattle.scope.specs.Reading.{Operator, Read, operatorAt}
 use Rattle.scope.specs.Arm.{Page, Seen, actOf, step, walk, from, Stroke}
 use Rattle.scope.specs.Motif.{Motif}
-use Rattle.scope.specs.Session.{Setting, sessionOf, phaseOf, pageOf, rowFor}
+use Rattle.scope.specs.Setting.{Setting}
+use Rattle.scope.specs.Session.{sessionOf, phaseOf, pageOf, rowFor}
 use Rattle.scope.specs.Judge.{State, Outcome, refusedAt, outer, Case, Refusal, starting, caseOf, after, endAt, rules, firstBroken, onRefusal, onCase, onRead, contextOf, jobStep, judgedFrom}
 use Rattle.scope.specs.Verdict.{every, layout, judgedAfter, Entry, entryOf, outcomeAt, outcomeOf, verdictOf}
 use Rattle.scope.specs.Plain.{Turn, Deed, comes, deeds, turnOf, performed, contextAt, onOperator, onNext, unrollStep, unfoldedAfter, unfoldingOf, atStart}
@@ -42,11 +43,11 @@ module _ (set : Setting) (s : List ℕ) where
 
   -- the state after an operator
   abbrev next : State → Operator → State
-  next st o = after set s st (caseOf (set .high) s st (sessionOf (st .place)) o)
+  next st o = after set s st (caseOf set s st (sessionOf (st .place)) o)
 
   -- the row of an operator
   abbrev rowOf : State → Operator → List Stroke
-  rowOf st o = rowFor (set .high) s (sessionOf (st .place) .held) o
+  rowOf st o = rowFor set s (sessionOf (st .place) .held) o
 
   -- records only grow
   grows : (st : State) → st .records ≤ lay st .state .records
@@ -72,10 +73,10 @@ both-true false b e = e
 no-source : (a b : Bool) → (a && not b) ≡ false → b ≡ false → a ≡ true → _≡_ {A = ℕ} 0 1
 no-source a b e f g = cc
 
-read-source : (high : Bool) (s : List ℕ) (held : List Motif) (o : Operator) (p : Page) (n : ℕ) → eqb (o .tag) 0x5e ≡ false → o .reads ≡ true
-    → walk (rowFor high s held o) (from p n) .source ≡ true
+read-source : (set : Setting) (s : List ℕ) (held : List Motif) (o : Operator) (p : Page) (n : ℕ) → eqb (o .tag) 0x5e ≡ false → o .reads ≡ true
+    → walk (rowFor set s held o) (from p n) .source ≡ true
 unfolding rowFor walk step from actOf
-read-source high s held o p n e f = rw (e, f) refl
+read-source set s held o p n e f = rw (e, f) refl
 
 module _ (set : Setting) (s : List ℕ) (room : ℕ) where
   abbrev full : State → Outcome
@@ -89,12 +90,12 @@ module _ (set : Setting) (s : List ℕ) (room : ℕ) where
 
   abbrev Shown : ℕ → Type 0
   Shown n =
-      (st : State) → Steady (sessionOf (st .place)) → length s - st .at < n → st .performed ≤ 1_000_000 → lay set s st .code ≡ 0 → lay set s st .state .records * 16 ≤ room
+      (st : State) → Steady set (sessionOf (st .place)) → length s - st .at < n → st .performed ≤ 1_000_000 → lay set s st .code ≡ 0 → lay set s st .state .records * 16 ≤ room
       → Result (full st) (unrolled set s (at-state st [])) st
 
   module _ (st : State) (o : Operator) (may : mayCome (phaseOf (st .place)) (sessionOf (st .place) .opened) (o .tag) ≡ true) where
     abbrev case-of : Case
-    case-of = caseOf (set .high) s st (sessionOf (st .place)) o
+    case-of = caseOf set s st (sessionOf (st .place)) o
 
     abbrev st′ : State
     st′ = next set s st o
@@ -120,14 +121,14 @@ module _ (set : Setting) (s : List ℕ) (room : ℕ) where
     unfolding caseOf from
     own-clean h e =
         let x = sessionOf (st .place) in
-        shaped-clean (x .opened) (from (pageOf (x .busy)) (st .performed)) (row-shaped (set .gray) (set .high) s (x .held) o) (start-clean (x .opened) (pageOf (x .busy)) (st .performed) h)
+        shaped-clean (x .opened) (from (pageOf (x .busy)) (st .performed)) (row-shaped set s (x .held) o) (start-clean (x .opened) (pageOf (x .busy)) (st .performed) h)
         (both-true (comes own (standing st)) (comes later (standing st′)) (sym comes-all ∙ e))
 
     clean-own : Clean (case-of .session .opened) (case-of .seen) → comes own (standing st) ≡ true
     unfolding caseOf from
     clean-own h =
         let x = sessionOf (st .place) in
-        clean-shaped (x .opened) (from (pageOf (x .busy)) (st .performed)) (row-shaped (set .gray) (set .high) s (x .held) o) h
+        clean-shaped (x .opened) (from (pageOf (x .busy)) (st .performed)) (row-shaped set s (x .held) o) h
 
     counted : st′ .performed ≡ st .performed + length (rowOf set s st o)
     unfolding after caseOf from
@@ -152,10 +153,10 @@ module _ (set : Setting) (s : List ℕ) (room : ℕ) where
           count = λ k. let a = r .count k in let b = counted in let c = all-length in omega arith;
         }
 
-  module _ (n : ℕ) (ih : Shown n) (st : State) (steady : Steady (sessionOf (st .place))) (h : length s - st .at < suc n) (few : st .performed ≤ 1_000_000) where
+  module _ (n : ℕ) (ih : Shown n) (st : State) (steady : Steady set (sessionOf (st .place))) (h : length s - st .at < suc n) (few : st .performed ≤ 1_000_000) where
     module _ (o : Operator) (less : length s - o .next < n) (may : mayCome (phaseOf (st .place)) (sessionOf (st .place) .opened) (o .tag) ≡ true) where
       abbrev c : Case
-      c = caseOf (set .high) s st (sessionOf (st .place)) o
+      c = caseOf set s st (sessionOf (st .place)) o
 
       fits-here : lay set s (next set s st o) .state .records * 16 ≤ room → c .records * 16 ≤ room
       unfolding after caseOf
@@ -175,7 +176,7 @@ module _ (set : Setting) (s : List ℕ) (room : ℕ) where
 
       made-good : GoodJudged (c .made)
       unfolding caseOf
-      made-good = judged-good _ _ (o .tag)
+      made-good = judged-good set _ _ (o .tag)
 
       -- the row that the plain arm performs from here on, where no layout rule is broken
       all-here : Laid c → unrolled set s (onOperator set s (at-state st []) o) ≡ all st o may
@@ -210,7 +211,7 @@ module _ (set : Setting) (s : List ℕ) (room : ℕ) where
           subst⁻¹ (λ z. Result (refusedAt 17 place outer st) z st) (all-here (laid c e))
           (stopped st o may 17 place outer tt
           (λ q. let z = no-source (c .seen .source) (sessionOf (st .place) .opened) (q .source) b
-          (read-source (set .high) s (sessionOf (st .place) .held) o (pageOf (sessionOf (st .place) .busy)) (st .performed) d a) in omega arith) few)
+          (read-source set s (sessionOf (st .place) .held) o (pageOf (sessionOf (st .place) .busy)) (st .performed) d a) in omega arith) few)
       closed-by place a b d (Refusal.refused code inner) e (so k) l = not-coded code k l
 
       on-closed : (place : ℕ) → o .reads ≡ true → sessionOf (st .place) .opened ≡ false → eqb (o .tag) 0x5e ≡ false
@@ -243,10 +244,10 @@ module _ (set : Setting) (s : List ℕ) (room : ℕ) where
   shown (suc n) st steady h few l r =
       let a = judged-step layout set s 0 st in
       let x = sessionOf (st .place) in
-      let g = on-both n (shown n) st steady h few (read-asks (set .high) (phaseOf (st .place)) s (x .opened) (st .at))
-      (read-good (contextOf layout (set .high) (st .place)) s (st .at)) (ap (λ z. z .code) (sym a) ∙ l) (subst (λ z. z .state .records * 16 ≤ room) a r) in
-      let p : unrollStep set s (at-state st []) ≡ onNext set s (at-state st []) (operatorAt (contextOf layout (set .high) (st .place)) s (st .at)) =
-      ap (λ f. onNext set s (at-state st []) (operatorAt (record { high = set .high; phase = f; opened = x .opened; asked = false }) s (st .at))) (phase-same (st .place)) in
+      let g = on-both n (shown n) st steady h few (read-asks set (phaseOf (st .place)) s (x .opened) (st .at))
+      (read-good (contextOf layout set (st .place)) s (st .at)) (ap (λ z. z .code) (sym a) ∙ l) (subst (λ z. z .state .records * 16 ≤ room) a r) in
+      let p : unrollStep set s (at-state st []) ≡ onNext set s (at-state st []) (operatorAt (contextOf layout set (st .place)) s (st .at)) =
+      ap (λ f. onNext set s (at-state st []) (operatorAt (record { set = set; phase = f; opened = x .opened; asked = false }) s (st .at))) (phase-same (st .place)) in
       subst⁻¹ (λ z. Result z (unrolled set s (at-state st [])) st) (judged-step every set s room st)
       (subst⁻¹ (λ z. Result (onward full (jobStep every set s room st)) z st) (unrolled-step set s (at-state st []) ∙ ap (onward (unrolled set s)) p) g)
 
@@ -257,8 +258,8 @@ Meets e row = ((e .code ≡ 0) ↔ (comes row atStart ≡ true)) × (e .code ≡
 at-header : (gray : Bool) (job : List ℕ) (room : ℕ) {r : Header} → GoodHeader r → judgedAfter gray layout job 0 r .code ≡ 0
     → judgedAfter gray layout job 0 r .state .records * 16 ≤ room → Meets (judgedAfter gray every job room r) (unfoldedAfter gray job r)
 unfolding judgedAfter unfoldedAfter knownOf
-at-header gray job room (GoodHeader.good {high = high} {next = next}) l r =
-    let k = shown (record { high = high; gray = gray }) job room (suc (length job - next)) (starting next) (steady-start false) (omega arith) (omega arith) l r in
+at-header gray job room (GoodHeader.good {class = class} {high = high} {next = next}) l r =
+    let k = shown (record { class = class; high = high; gray = gray }) job room (suc (length job - next)) (starting next) (steady-start _ false) (omega arith) (omega arith) l r in
     ((k .passes, k .back), λ e. k .count e ∙ zero-add _)
 at-header gray job room (GoodHeader.ill {code = code} k) l r = not-coded code k l
 

@@ -250,16 +250,16 @@ module _ (c : Context) (s : List ℕ) (at : ℕ) where
       unfolding withData
       with-data-good Due.none = let z : at < suc p = omega arith in operator z k may
       with-data-good (Due.reads due) =
-          let z = after-le (c .high) s (suc p) in
+          let z = after-le (c .set .high) s (suc p) in
           let y : p < after s (suc p) = omega arith in
           pick-all Good (c .asked && not (c .opened)) (λ _. no tt)
-          (λ _. with-block-good due (after s (suc p)) y (block-good (c .high) s p due (after s (suc p))))
+          (λ _. with-block-good due (after s (suc p)) y (block-good (c .set .high) s p due (after s (suc p))))
 
       as-whole-good : {code : ℕ} → ZeroOr code → Good (asWhole c s tag p l code)
       unfolding asWhole
       as-whole-good {code} z =
           pick-all Good (eqb code 0)
-          (λ _. pick-all Good (rowsFit (c .high) s (imageOf (c .phase)) tag l) (λ _. with-data-good _) (λ _. no tt)) (λ t. no (coded z t))
+          (λ _. pick-all Good (rowsFit (c .set .high) s (imageOf (c .phase)) tag l) (λ _. with-data-good _) (λ _. no tt)) (λ t. no (coded z t))
 
       with-attributes-good : (r : Row) {f : Fault} → GoodFault f → Good (withAttributes c s tag p l r f)
       unfolding withAttributes
@@ -271,7 +271,7 @@ module _ (c : Context) (s : List ℕ) (at : ℕ) where
     with-line-good Line.none = no tt
     with-line-good (Line.is r) =
         pick-all Good (mayCome (c .phase) (c .opened) tag)
-        (λ t. with-attributes-good t r (one-by-one-good (c .high) s (r .rules) [] l)) (λ _. no tt)
+        (λ t. with-attributes-good t r (one-by-one-good (c .set .high) s (r .rules) [] l)) (λ _. no tt)
 
   scanned-good : {r : Scan} → GoodScan (length s) at r → Good (scanned c s r)
   unfolding scanned
@@ -282,4 +282,4 @@ module _ (c : Context) (s : List ℕ) (at : ℕ) where
   -- an operator that was read ends past where reading began, and within the bytes; it may come here; and a refusal has a code
   pub read-good : GoodRead (length s) at (mayCome (c .phase) (c .opened)) (operatorAt c s at)
   unfolding operatorAt
-  read-good = scanned-good (scan-good (c .high) s at)
+  read-good = scanned-good (scan-good (c .set .high) s at)

@@ -13,7 +13,7 @@ use Rattle.scope.specs.Item.{Attribute, Pair, Walk, onPair, scanItem, sc
 use Rattle.scope.specs.Reading.{Operator, Read}
 use Rattle.scope.specs.Arm.{Stroke}
 use Rattle.scope.specs.Motif.{Motif, Held, Inside, phaseIn, contextIn, onCall, onDeed, onRead as motifRead, motifStep, judgedInside}
-use Rattle.scope.specs.Session.{Setting}
+use Rattle.scope.specs.Setting.{Setting}
 use Rattle.scope.specs.Judge.{State, Case, Refusal, caseOf, after, onRefusal, onCase, onRead, contextOf, jobStep, judgedFrom}
 use Rattle.scope.specs.Plain.{Going, onOwn, ownStep, ownFrom, Unrolled, contextAt, onOperator, onNext, unrollStep}
 use Rattle.scope.proofs.Ends.{pick-all, GoodPair, pair-good, after-le, GoodRead, read-good}
@@ -53,7 +53,7 @@ module _ (high : Bool) (s : List ℕ) where
   unfolding scanFrom
   scan-step w = unroll (scanStep high s) _ _ scan-falls w
 
-module _ (held : List Motif) (high : Bool) (s : List ℕ) where
+module _ (held : List Motif) (set : Setting) (s : List ℕ) where
   leftIn : Inside → ℕ
   leftIn w = length s - w .at
 
@@ -62,7 +62,7 @@ module _ (held : List Motif) (high : Bool) (s : List ℕ) where
   call-below o n w Held.none h = below-stop
   call-below o n w (Held.is m) h = pick-all (Below leftIn (length s - w .at)) (leb 32 (m .depth)) (λ _. below-stop) (λ _. below-go h)
 
-  read-below : (w : Inside) {r : Read} {may : ℕ → Bool} → GoodRead (length s) (w .at) may r → Below leftIn (length s - w .at) (motifRead held high s w r)
+  read-below : (w : Inside) {r : Read} {may : ℕ → Bool} → GoodRead (length s) (w .at) may r → Below leftIn (length s - w .at) (motifRead held set s w r)
   unfolding motifRead onDeed leftIn
   read-below w (GoodRead.operator {o = o} h k m) =
       let z : length s - o .next < length s - w .at = omega arith in
@@ -70,14 +70,14 @@ module _ (held : List Motif) (high : Bool) (s : List ℕ) where
   read-below w GoodRead.ended = below-stop
   read-below w (GoodRead.no k) = below-stop
 
-  pub motif-falls : (w t : Inside) → motifStep held high s w ≡ go t → length s - t .at < length s - w .at
+  pub motif-falls : (w t : Inside) → motifStep held set s w ≡ go t → length s - t .at < length s - w .at
   unfolding motifStep leftIn
-  motif-falls w t e = below-falls (rw e at (read-below w (read-good (contextIn high w) s (w .at))))
+  motif-falls w t e = below-falls (rw e at (read-below w (read-good (contextIn set w) s (w .at))))
 
   -- judging a motif is one operator, and judging from there
-  pub motif-step : (w : Inside) → judgedInside held high s w ≡ onward (judgedInside held high s) (motifStep held high s w)
+  pub motif-step : (w : Inside) → judgedInside held set s w ≡ onward (judgedInside held set s) (motifStep held set s w)
   unfolding judgedInside
-  motif-step w = unroll (motifStep held high s) _ _ motif-falls w
+  motif-step w = unroll (motifStep held set s) _ _ motif-falls w
 
 module _ (given : ℕ → Bool) (set : Setting) (s : List ℕ) (room : ℕ) where
   leftOf : State → ℕ
@@ -99,18 +99,18 @@ module _ (given : ℕ → Bool) (set : Setting) (s : List ℕ) (room : ℕ) wher
 
   pub job-falls : (st t : State) → jobStep given set s room st ≡ go t → length s - t .at < length s - st .at
   unfolding jobStep leftOf
-  job-falls st t e = below-falls (rw e at (job-below st (read-good (contextOf given (set .high) (st .place)) s (st .at))))
+  job-falls st t e = below-falls (rw e at (job-below st (read-good (contextOf given set (st .place)) s (st .at))))
 
   -- judging is one operator, and judging from there
   pub judged-step : (st : State) → judgedFrom given set s room st ≡ onward (judgedFrom given set s room) (jobStep given set s room st)
   unfolding judgedFrom
   judged-step st = unroll (jobStep given set s room) _ _ job-falls st
 
-module _ (call : List ℕ → List Stroke) (k : ℕ) (high : Bool) (s : List ℕ) where
+module _ (call : List ℕ → List Stroke) (k : ℕ) (set : Setting) (s : List ℕ) where
   leftFor : Going → ℕ
   leftFor g = length s - g .at
 
-  own-below : (g : Going) {r : Read} {may : ℕ → Bool} → GoodRead (length s) (g .at) may r → Below leftFor (length s - g .at) (onOwn call k high s g r)
+  own-below : (g : Going) {r : Read} {may : ℕ → Bool} → GoodRead (length s) (g .at) may r → Below leftFor (length s - g .at) (onOwn call k set s g r)
   unfolding onOwn leftFor
   own-below g (GoodRead.operator {o = o} h l m) =
       let z : length s - o .next < length s - g .at = omega arith in
@@ -118,14 +118,14 @@ module _ (call : List ℕ → List Stroke) (k : ℕ) (high : Bool) (s : List ℕ
   own-below g GoodRead.ended = below-stop
   own-below g (GoodRead.no c) = below-stop
 
-  own-falls : (g t : Going) → ownStep call k high s g ≡ go t → length s - t .at < length s - g .at
+  own-falls : (g t : Going) → ownStep call k set s g ≡ go t → length s - t .at < length s - g .at
   unfolding ownStep leftFor
-  own-falls g t e = below-falls (rw e at (own-below g (read-good (record { high = high; phase = phaseIn (g .saved) (g .picture); opened = true; asked = false }) s (g .at))))
+  own-falls g t e = below-falls (rw e at (own-below g (read-good (record { set = set; phase = phaseIn (g .saved) (g .picture); opened = true; asked = false }) s (g .at))))
 
   -- the plain arm's way through a motif is one operator, and the way from there
-  pub own-step : (g : Going) → ownFrom call k high s g ≡ onward (ownFrom call k high s) (ownStep call k high s g)
+  pub own-step : (g : Going) → ownFrom call k set s g ≡ onward (ownFrom call k set s) (ownStep call k set s g)
   unfolding ownFrom
-  own-step g = unroll (ownStep call k high s) _ _ own-falls g
+  own-step g = unroll (ownStep call k set s) _ _ own-falls g
 
 module _ (set : Setting) (s : List ℕ) where
   leftTo : Unrolled → ℕ
@@ -141,4 +141,4 @@ module _ (set : Setting) (s : List ℕ) where
 
   pub unroll-falls : (u t : Unrolled) → unrollStep set s u ≡ go t → length s - t .at < length s - u .at
   unfolding unrollStep leftTo
-  unroll-falls u t e = below-falls (rw e at (next-below u (read-good (contextAt (set .high) u) s (u .at))))
+  unroll-falls u t e = below-falls (rw e at (next-below u (read-good (contextAt set u) s (u .at))))

@@ -13,7 +13,8 @@ use Rattle.scope.specs.Order.{mayCome, drawn, in-stream, in-page, in-ima
 use Rattle.scope.specs.Reading.{Operator}
 use Rattle.scope.specs.Arm.{Page}
 use Rattle.scope.specs.Motif.{Motif, Held, heldAs, isHeld, Picture, Judged, valid, motifOf}
-use Rattle.scope.specs.Session.{Setting, Busy, resting, reading, drawing, Session, Place, outside, inside, sessionOf, phaseOf, phaseBusy, phaseDrawing, pageOf, joinedOf, rowFor, keptAs, sessionAfter, placeAfter}
+use Rattle.scope.specs.Setting.{Setting}
+use Rattle.scope.specs.Session.{Busy, resting, reading, drawing, Session, Place, outside, inside, sessionOf, phaseOf, phaseBusy, phaseDrawing, pageOf, joinedOf, rowFor, keptAs, sessionAfter, placeAfter}
 use Rattle.scope.specs.Judge.{State, caseOf, after, judgedAt, nameHeld, nameMissing}
 use Rattle.scope.specs.Plain.{Known, Doing, doingAfter, knownAfter, Unrolled, deeds, turnOf, Deed, deedsFor, onOperator, phaseAt, performed}
 use Rattle.scope.proofs.Codes.{Valid, Laid}
@@ -53,12 +54,12 @@ Fresh resting l = Unit {0}
 Fresh (reading n j) l = heldAs n l ≡ Held.none
 Fresh (drawing p i) l = Unit {0}
 
-pub record Steady (x : Session) : Type 0 where
-  pub sound : Sound (x .held)
+pub record Steady (set : Setting) (x : Session) : Type 0 where
+  pub sound : Sound set (x .held)
   pub fresh : Fresh (x .busy) (x .held)
 
-pub steady-start : (b : Bool) → Steady (sessionOf (outside b))
-steady-start b = record { sound = none; fresh = tt }
+pub steady-start : (set : Setting) (b : Bool) → Steady set (sessionOf (outside b))
+steady-start set b = record { sound = none; fresh = tt }
 
 not-held : (x : Held) → isHeld x ≡ false → x ≡ Held.none
 unfolding isHeld
@@ -66,26 +67,26 @@ not-held (Held.is m) e = clash-of e
 not-held Held.none e = refl
 
 -- what a place has become
-record Follows (d : Doing) (l : List Known) (q : Place) : Type 0 where
+record Follows (set : Setting) (d : Doing) (l : List Known) (q : Place) : Type 0 where
   doing : d ≡ doingOf q
   known : l ≡ knownOf (sessionOf q .held)
-  steady : Steady (sessionOf q)
+  steady : Steady set (sessionOf q)
 
 module _ (set : Setting) (s : List ℕ) (o : Operator) (p : Page) where
-  by-reading : (n j : List ℕ) (x : Session) → Sound (x .held) → heldAs n (x .held) ≡ Held.none → (b : Bool) → {m : Judged} → motifOf (x .held) j ≡ m → (b ≡ false → Valid m)
-      → Follows (pick b (Doing.reading n (j ++ take (o .length) (drop (o .first) s))) Doing.resting) (pick b (knownOf (x .held)) (record { name = n; bytes = j } ∷ knownOf (x .held)))
+  by-reading : (n j : List ℕ) (x : Session) → Sound set (x .held) → heldAs n (x .held) ≡ Held.none → (b : Bool) → {m : Judged} → motifOf set (x .held) j ≡ m → (b ≡ false → Valid m)
+      → Follows set (pick b (Doing.reading n (j ++ take (o .length) (drop (o .first) s))) Doing.resting) (pick b (knownOf (x .held)) (record { name = n; bytes = j } ∷ knownOf (x .held)))
       (inside (pick b (record { held = x .held; opened = x .opened; busy = reading n (j ++ take (o .length) (drop (o .first) s)) })
       (record { held = keptAs n j m (x .held); opened = x .opened; busy = resting })))
   unfolding keptAs knownOf
   by-reading n j x k f true e v = record { doing = refl; known = refl; steady = record { sound = k; fresh = f } }
   by-reading n j x k f false {m} e v = ended m e (v refl)
     where
-      ended : (m : Judged) → motifOf (x .held) j ≡ m → Valid m
-          → Follows Doing.resting (record { name = n; bytes = j } ∷ knownOf (x .held)) (inside (record { held = keptAs n j m (x .held); opened = x .opened; busy = resting }))
+      ended : (m : Judged) → motifOf set (x .held) j ≡ m → Valid m
+          → Follows set Doing.resting (record { name = n; bytes = j } ∷ knownOf (x .held)) (inside (record { held = keptAs n j m (x .held); opened = x .opened; busy = resting }))
       ended (valid ops d) g h = record { doing = refl; known = refl; steady = record { sound = more g refl f k; fresh = tt } }
 
-  by-resting : (x : Session) → Sound (x .held) → (a b c d : Bool) → (c ≡ true → heldAs (bytesIn s (o .attrs) 139) (x .held) ≡ Held.none)
-      → Follows (pick a Doing.outside (pick b (Doing.drawing Picture.none) (pick c (Doing.reading (bytesIn s (o .attrs) 139) []) Doing.resting))) (pick a [] (knownOf (x .held)))
+  by-resting : (x : Session) → Sound set (x .held) → (a b c d : Bool) → (c ≡ true → heldAs (bytesIn s (o .attrs) 139) (x .held) ≡ Held.none)
+      → Follows set (pick a Doing.outside (pick b (Doing.drawing Picture.none) (pick c (Doing.reading (bytesIn s (o .attrs) 139) []) Doing.resting))) (pick a [] (knownOf (x .held)))
       (pick a (outside true) (inside (record { held = x .held; opened = d; busy = pick b (drawing (record { cursor = false; gray = set .gray; saved = [] }) Picture.none) (pick c (reading (bytesIn s (o .attrs) 139) []) resting) })))
   unfolding knownOf
   by-resting x k true b c d f = record { doing = refl; known = refl; steady = record { sound = none; fresh = tt } }
@@ -93,8 +94,8 @@ module _ (set : Setting) (s : List ℕ) (o : Operator) (p : Page) where
   by-resting x k false false true d f = record { doing = refl; known = refl; steady = record { sound = k; fresh = f refl } }
   by-resting x k false false false d f = record { doing = refl; known = refl; steady = record { sound = k; fresh = tt } }
 
-  by-drawing : (x : Session) → Sound (x .held) → (i : Picture) (b : Bool)
-      → Follows (pick b Doing.resting (Doing.drawing i)) (knownOf (x .held))
+  by-drawing : (x : Session) → Sound set (x .held) → (i : Picture) (b : Bool)
+      → Follows set (pick b Doing.resting (Doing.drawing i)) (knownOf (x .held))
       (inside (pick b (record { held = x .held; opened = x .opened; busy = resting }) (record { held = x .held; opened = x .opened; busy = drawing p i })))
   by-drawing x k i true = record { doing = refl; known = refl; steady = record { sound = k; fresh = tt } }
   by-drawing x k i false = record { doing = refl; known = refl; steady = record { sound = k; fresh = tt } }
@@ -103,9 +104,9 @@ module _ (set : Setting) (s : List ℕ) (o : Operator) (p : Page) where
   either true b e f = clash-of f
   either false b e f = e
 
-  follow-busy : (x : Session) (b : Busy) → Sound (x .held) → Fresh b (x .held) → mayCome (phaseBusy b) (x .opened) (o .tag) ≡ true
-      → (eqb (o .tag) 0x5b && isHeld (heldAs (bytesIn s (o .attrs) 139) (x .held))) ≡ false → Valid (judgedAt (x .held) (joinedOf b) (o .tag))
-      → Follows (doingAfter (set .high) s o (doingBusy b)) (knownAfter o (doingBusy b) (knownOf (x .held)))
+  follow-busy : (x : Session) (b : Busy) → Sound set (x .held) → Fresh b (x .held) → mayCome (phaseBusy b) (x .opened) (o .tag) ≡ true
+      → (eqb (o .tag) 0x5b && isHeld (heldAs (bytesIn s (o .attrs) 139) (x .held))) ≡ false → Valid (judgedAt set (x .held) (joinedOf b) (o .tag))
+      → Follows set (doingAfter (set .high) s o (doingBusy b)) (knownAfter o (doingBusy b) (knownOf (x .held)))
       (pick (eqb (o .tag) 0x42) (outside true) (inside (sessionAfter set s o p b x)))
   unfolding doingAfter knownAfter sessionAfter phaseBusy phaseDrawing mayCome drawn among judgedAt
   follow-busy x resting k f h g v =
@@ -118,34 +119,34 @@ module _ (set : Setting) (s : List ℕ) (o : Operator) (p : Page) where
   follow-busy x (drawing q (Picture.being i)) k f h g v =
       rw (differs (mayCome (in-image i) (x .opened)) (o .tag) 0x42 h refl) (by-drawing x k _ (eqb (o .tag) 0x44))
 
-  follow : (q : Place) → Steady (sessionOf q) → mayCome (phaseOf q) (sessionOf q .opened) (o .tag) ≡ true
+  follow : (q : Place) → Steady set (sessionOf q) → mayCome (phaseOf q) (sessionOf q .opened) (o .tag) ≡ true
       → (eqb (o .tag) 0x5b && isHeld (heldAs (bytesIn s (o .attrs) 139) (sessionOf q .held))) ≡ false
-      → Valid (judgedAt (sessionOf q .held) (joinedOf (sessionOf q .busy)) (o .tag))
-      → Follows (doingAfter (set .high) s o (doingOf q)) (knownAfter o (doingOf q) (knownOf (sessionOf q .held))) (placeAfter set s o p q)
+      → Valid (judgedAt set (sessionOf q .held) (joinedOf (sessionOf q .busy)) (o .tag))
+      → Follows set (doingAfter (set .high) s o (doingOf q)) (knownAfter o (doingOf q) (knownOf (sessionOf q .held))) (placeAfter set s o p q)
   unfolding placeAfter phaseOf doingAfter knownAfter knownOf
   follow (outside b) k h g v = record { doing = refl; known = refl; steady = record { sound = none; fresh = tt } }
   follow (inside x) k h g v = follow-busy x (x .busy) (k .sound) (k .fresh) h g v
 
-module _ (set : Setting) (s : List ℕ) (st : State) (o : Operator) (k : Steady (sessionOf (st .place)))
-    (may : mayCome (phaseOf (st .place)) (sessionOf (st .place) .opened) (o .tag) ≡ true) (l : Laid (caseOf (set .high) s st (sessionOf (st .place)) o)) where
+module _ (set : Setting) (s : List ℕ) (st : State) (o : Operator) (k : Steady set (sessionOf (st .place)))
+    (may : mayCome (phaseOf (st .place)) (sessionOf (st .place) .opened) (o .tag) ≡ true) (l : Laid (caseOf set s st (sessionOf (st .place)) o)) where
   abbrev next : State
-  next = after set s st (caseOf (set .high) s st (sessionOf (st .place)) o)
+  next = after set s st (caseOf set s st (sessionOf (st .place)) o)
 
-  followed : Follows (doingAfter (set .high) s o (doingOf (st .place))) (knownAfter o (doingOf (st .place)) (knownOf (sessionOf (st .place) .held))) (next .place)
+  followed : Follows set (doingAfter (set .high) s o (doingOf (st .place))) (knownAfter o (doingOf (st .place)) (knownOf (sessionOf (st .place) .held))) (next .place)
   unfolding after caseOf nameHeld
   followed = follow set s o _ (st .place) k may (l .fresh) (l .made)
 
-  pub steady-after : Steady (sessionOf (next .place))
+  pub steady-after : Steady set (sessionOf (next .place))
   steady-after = followed .steady
 
   row-found : deedsFor set s (knownOf (sessionOf (st .place) .held)) o
-      ≡ deeds (turnOf (set .gray) (o .tag)) (rowFor (set .high) s (sessionOf (st .place) .held) o)
+      ≡ deeds (turnOf (set .gray) (o .tag)) (rowFor set s (sessionOf (st .place) .held) o)
   unfolding deedsFor caseOf nameMissing
-  row-found = ap (deeds (turnOf (set .gray) (o .tag))) (row-again (set .high) s o (k .sound) (l .found))
+  row-found = ap (deeds (turnOf (set .gray) (o .tag))) (row-again set s o (k .sound) (l .found))
 
   -- the plain arm after an operator
   pub operator-on : (row : List Deed) → onOperator set s (at-state st row) o
-      ≡ at-state next (row ++ deeds (turnOf (set .gray) (o .tag)) (rowFor (set .high) s (sessionOf (st .place) .held) o))
+      ≡ at-state next (row ++ deeds (turnOf (set .gray) (o .tag)) (rowFor set s (sessionOf (st .place) .held) o))
   unfolding onOperator after caseOf
   operator-on row =
       let a = ap (λ d. performed d (standing st)) row-found ∙ stands set s st o may in

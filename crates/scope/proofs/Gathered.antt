@@ -8,7 +8,7 @@ use native.Mathlib.Omega.{arith}
 use lib.ListN.{length}
 use Rattle.scope.specs.Iterate.{onward, iterate, unroll}
 use Rattle.scope.specs.Reading.{Read}
-use Rattle.scope.specs.Session.{Setting}
+use Rattle.scope.specs.Setting.{Setting}
 use Rattle.scope.specs.Plain.{Deed, Unrolled, contextAt, onOperator, onNext, deedsFor, unrollStep}
 use Rattle.scope.proofs.Ends.{GoodRead, read-good}
 use Rattle.scope.proofs.Falls.{unroll-falls}
@@ -42,5 +42,5 @@ module _ (set : Setting) (s : List ℕ) where
   unfolding unrollStep contextAt
   gathered zero u row h = absurd (omega arith)
   gathered (suc n) u row h =
-      unrolled-step (with-row u row) ∙ gather-on n (gathered n) u row h (read-good (contextAt (set .high) u) s (u .at))
+      unrolled-step (with-row u row) ∙ gather-on n (gathered n) u row h (read-good (contextAt set u) s (u .at))
       ∙ ap (λ t. row ++ t) (sym (unrolled-step (with-row u [])))

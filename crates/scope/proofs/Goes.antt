@@ -72,7 +72,7 @@ GoesOn (Read.operator o) = Unit {0}
 GoesOn Read.ended = ⊥
 GoesOn (Read.no code place) = Unit {0}
 
-scanned-goes : (c : Context) (s : List ℕ) (r : Scan) → Goes (c .high) s r → GoesOn (scanned c s r)
+scanned-goes : (c : Context) (s : List ℕ) (r : Scan) → Goes (c .set .high) s r → GoesOn (scanned c s r)
 unfolding scanned
 scanned-goes c s (Scan.tagged tag at l) h = through GoesOn (λ _ _. tt) c s tag at l (λ _ _ _ _. tt) _
 scanned-goes c s Scan.ended h = h
@@ -80,4 +80,4 @@ scanned-goes c s (Scan.no code place) h = tt
 
 pub read-goes : (c : Context) (s : List ℕ) (at : ℕ) → blackAfter s at < length s → operatorAt c s at ≡ Read.ended → ⊥
 unfolding operatorAt
-read-goes c s at h e = subst GoesOn e (scanned-goes c s (scanAt (c .high) s at) (scan-goes (c .high) s at h))
+read-goes c s at h e = subst GoesOn e (scanned-goes c s (scanAt (c .set .high) s at) (scan-goes (c .set .high) s at h))

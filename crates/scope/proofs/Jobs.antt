@@ -9,6 +9,7 @@ use Rattle.scope.specs.Choice
 use Rattle.scope.specs.Iterate
 use Rattle.scope.specs.Number
 use Rattle.scope.specs.Header
+use Rattle.scope.specs.Setting.{Setting}
 use Rattle.scope.specs.Item
 use Rattle.scope.specs.Table
 use Rattle.scope.specs.Attributes
@@ -70,10 +71,14 @@ withData = all (H ∷ S ∷ O ∷ (N 0x61) ∷ (0xc0 ∷ 0x02 ∷ 0xf8 ∷ 0x8c 
 abbrev recordOfData : List ℕ
 recordOfData = 0x02 ∷ 0x5c ∷ 0x01 ∷ 0x00 ∷ 0x30 ∷ 0x00 ∷ 0x00 ∷ 0x00 ∷ 0x02 ∷ 0x00 ∷ 0x00 ∷ 0x00 ∷ 0x33 ∷ 0x00 ∷ 0x00 ∷ 0x00 ∷ []
 
+-- class 1;1, low byte first, pages in RGB
+abbrev ordinary : Setting
+ordinary = record { class = Header.one; high = false; gray = false }
+
 -- J's session from a state with 999,999 performed, since no job that comes there can be unfolded here
 abbrev nearTheLimit : (ℕ → Bool) → Judge.Outcome
 nearTheLimit codes =
-    Judge.judgedFrom codes (record { high = false; gray = false }) J 65536
+    Judge.judgedFrom codes ordinary J 65536
     (record { at = 16; place = Session.outside true; performed = 999_999; records = 0; past = [] })
 
 -- the plain arm with so many operators performed
@@ -131,7 +136,7 @@ calling = H ++ X 0x61
 -- performs; the layout rules kept and another broken; how deep motifs nest
 proved-jobs : (answers (joined tables) ≡ expecteds (joined tables))
     × (listOf false J 16384 65536 ≡ recordsOfJ)
-    × (Data.rowOf 32 0 ∷ Data.rowOf 33 0 ∷ Data.rowOf 33 1 ∷ Data.rowOf 33 2 ∷ [] ≡ 4 ∷ 8 ∷ 20 ∷ 36 ∷ [])
+    × (Data.rowOf 32 0 4 ∷ Data.rowOf 33 0 4 ∷ Data.rowOf 33 1 4 ∷ Data.rowOf 33 2 4 ∷ [] ≡ 4 ∷ 8 ∷ 20 ∷ 36 ∷ [])
     × (Verd.told (nearTheLimit Verd.every) ≡ record { code = 26; position = 28; inner = 4294967295; records = 3; performed = 1_000_000 })
     × (drop 144 (listOf false withData 16384 65536) ≡ recordOfData)
     × (nearTheLimit Verd.layout .code ≡ 0)
@@ -141,7 +146,7 @@ proved-jobs : (answers (joined tables) ≡ expecteds (joined tables))
     ≡ 0 ∷ 27 ∷ 0 ∷ 36 ∷ 0 ∷ 43 ∷ 0 ∷ 49 ∷ 0 ∷ 70 ∷ 0 ∷ 77 ∷ 0 ∷ 83 ∷ 0 ∷ 111 ∷ 0 ∷ 120
     ∷ 0 ∷ 127 ∷ 2 ∷ 16 ∷ 2 ∷ 23 ∷ 1 ∷ 16 ∷ 1 ∷ 17 ∷ 2 ∷ 24 ∷ 0 ∷ 128 ∷ 0 ∷ 129 ∷ 0 ∷ 130 ∷ 0 ∷ 131 ∷ [])
     × (looked broken ≡ breaking 23 ∷ breaking 24 ∷ breaking 25 ∷ breaking 17 ∷ breaking 24 ∷ [])
-    × (Motif.motifOf (holding 31) calling ≡ Motif.valid (Motif.calls 22 (0x61 ∷ []) ∷ []) 32)
-    × (Motif.motifOf (holding 32) calling ≡ Motif.faulty 22 22)
-unfolding Choice.among Choice.same Iterate.run Iterate.iterate Number.digits Number.number Header.mayStand Header.formFrom Header.classed Header.headerOf Item.white Item.spaces Item.after Item.widthOf Item.kindOf Item.numbersAt Item.elementsAt Item.countedAt Item.arrayAt Item.valueOf Item.numbered Item.numberAt Item.pairOf Item.pairAt Item.endedWith Item.onPair Item.scanItem Item.scanStep Item.scanFrom Item.scanAt Table.table Table.lineIn Table.ruleIn Attributes.has Attributes.twoAt Attributes.finite Attributes.above Attributes.firstOf Attributes.typeTaken Attributes.inRange Attributes.attributeCode Attributes.oneByOne Attributes.allThere Attributes.howMany Attributes.choiceCode Attributes.formCode Attributes.valueIn Attributes.bytesIn Data.bitsOf Data.rowOf Data.pointBytes Data.dueOf Data.blockOf Data.blockAt Order.drawn Order.mayCome Order.rowsFit Reading.withBlock Reading.withData Reading.asWhole Reading.withAttributes Reading.withLine Reading.scanned Reading.operatorAt Arm.needsCursor Arm.needsSpace Arm.effectOf Arm.actOf Arm.done Arm.risen Arm.step Arm.walk Arm.from Motif.heldAs Motif.isHeld Motif.flat Motif.unfolded Motif.bytesHeld Motif.begun Motif.readOn Motif.pictureAfter Motif.savedAfter Motif.phaseIn Motif.contextIn Motif.onCall Motif.onDeed Motif.onEnd Motif.onRead Motif.motifStep Motif.judgedInside Motif.motifFrom Motif.motifOf Session.phaseDrawing Session.phaseBusy Session.phaseOf Session.rowFor Session.keptAs Session.sessionAfter Session.placeAfter Judge.judgedAt Judge.caseOf Judge.tooMuch Judge.nameHeld Judge.nameMissing Judge.sourceClosed Judge.savedOver Judge.cursorUnset Judge.spaceWrong Judge.countOver Judge.roomOver Judge.rules Judge.firstBroken Judge.after Judge.endAt Judge.onRefusal Judge.onCase Judge.onRead Judge.contextOf Judge.jobStep Judge.judgedFrom Verd.layout Verd.judgedAfter Verd.entryOf Verd.outcomeAt Verd.outcomeOf Verd.verdictOf Verd.four Verd.attributeRecord Verd.operatorRecord Verd.attributeRecords Verd.recordsBefore Verd.listOf Verd.listAfter Verd.zeros Verd.clearedBy Verd.workAfter Plain.turnOf Plain.performs Plain.performed Plain.deeds Plain.knownAs Plain.strokesOf Plain.onOwn Plain.ownStep Plain.ownFrom Plain.ownAfter Plain.ownOf Plain.called Plain.doingAfter Plain.knownAfter Plain.deedsFor Plain.onOperator Plain.onNext Plain.phaseAt Plain.contextAt Plain.unrollStep Plain.unfoldedAfter Plain.unfoldingOf Plain.breaks Plain.comes all times joined answers expecteds traceOf looked
+    × (Motif.motifOf ordinary (holding 31) calling ≡ Motif.valid (Motif.calls 22 (0x61 ∷ []) ∷ []) 32)
+    × (Motif.motifOf ordinary (holding 32) calling ≡ Motif.faulty 22 22)
+unfolding Choice.among Choice.same Iterate.run Iterate.iterate Number.digits Number.number Header.mayStand Header.formFrom Header.classed Header.headerOf Item.white Item.spaces Item.after Item.widthOf Item.kindOf Item.numbersAt Item.elementsAt Item.countedAt Item.arrayAt Item.valueOf Item.numbered Item.numberAt Item.pairOf Item.pairAt Item.endedWith Item.onPair Item.scanItem Item.scanStep Item.scanFrom Item.scanAt Table.tableOne Table.tableTwo Table.table Table.lineIn Table.ruleIn Attributes.has Attributes.twoAt Attributes.finite Attributes.above Attributes.firstOf Attributes.typeTaken Attributes.inRange Attributes.attributeCode Attributes.oneByOne Attributes.allThere Attributes.howMany Attributes.choiceCode Attributes.formCode Attributes.valueIn Attributes.bytesIn Data.bitsOf Data.rowOf Data.padOf Data.blockDue Data.pointBytes Data.dueOf Data.blockOf Data.blockAt Order.drawn Order.mayCome Order.lengthFits Order.rowsFit Reading.withBlock Reading.withData Reading.asWhole Reading.withAttributes Reading.withLine Reading.scanned Reading.operatorAt Arm.needsCursor Arm.needsSpace Arm.effectOf Arm.actOf Arm.done Arm.risen Arm.step Arm.walk Arm.from Motif.heldAs Motif.isHeld Motif.flat Motif.unfolded Motif.bytesHeld Motif.begun Motif.readOn Motif.pictureAfter Motif.savedAfter Motif.phaseIn Motif.contextIn Motif.onCall Motif.onDeed Motif.onEnd Motif.onRead Motif.motifStep Motif.judgedInside Motif.motifFrom Motif.motifOf Session.phaseDrawing Session.phaseBusy Session.phaseOf Session.rowFor Session.keptAs Session.sessionAfter Session.placeAfter Judge.judgedAt Judge.caseOf Judge.tooMuch Judge.nameHeld Judge.nameMissing Judge.sourceClosed Judge.savedOver Judge.cursorUnset Judge.spaceWrong Judge.countOver Judge.roomOver Judge.rules Judge.firstBroken Judge.after Judge.endAt Judge.onRefusal Judge.onCase Judge.onRead Judge.contextOf Judge.jobStep Judge.judgedFrom Verd.layout Verd.judgedAfter Verd.entryOf Verd.outcomeAt Verd.outcomeOf Verd.verdictOf Verd.four Verd.attributeRecord Verd.operatorRecord Verd.attributeRecords Verd.recordsBefore Verd.listOf Verd.listAfter Verd.zeros Verd.clearedBy Verd.workAfter Plain.turnOf Plain.performs Plain.performed Plain.deeds Plain.knownAs Plain.strokesOf Plain.onOwn Plain.ownStep Plain.ownFrom Plain.ownAfter Plain.ownOf Plain.called Plain.doingAfter Plain.knownAfter Plain.deedsFor Plain.onOperator Plain.onNext Plain.phaseAt Plain.contextAt Plain.unrollStep Plain.unfoldedAfter Plain.unfoldingOf Plain.breaks Plain.comes all times joined answers expecteds traceOf looked
 proved-jobs = (refl, refl, refl, refl, refl, refl, refl, refl, refl, refl, refl, refl)

@@ -19,8 +19,8 @@ given =
     (H ∷ []) gets 27 at 16 listed 0 performed 0
     ∷  -- e
     (H ∷ S ∷ []) gets 27 at 28 listed 3 performed 1
-    ∷  -- f
-    ((H with 0x32 at 12) ∷ []) gets 4 at 12 listed 0 performed 0
+    ∷  -- f, since request 6
+    ((H with 0x32 at 12) ∷ []) gets 27 at 16 listed 0 performed 0
     ∷  -- g
     ((J with 0xc6 at 16) ∷ []) gets 6 at 16 listed 0 performed 0
     ∷  -- h
@@ -35,7 +35,7 @@ read =
     ∷  -- CR
     ((H with 0x0d at 15) ∷ (0x0a ∷ []) ∷ S ∷ E ∷ []) gets 2 at 15 listed 0 performed 0
     ∷  -- 2 before 4
-    (((H with 0x32 at 12) with 0x58 at 15) ∷ []) gets 2 at 15 listed 0 performed 0
+    (((H with 0x33 at 12) with 0x58 at 15) ∷ []) gets 2 at 15 listed 0 performed 0
     ∷  -- value value
     (H ∷ (0xc0 ∷ 0x00 ∷ 0xc1 ∷ 0x05 ∷ []) ∷ []) gets 6 at 18 listed 0 performed 0
     ∷  -- c8 c2

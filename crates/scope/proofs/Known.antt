@@ -14,7 +14,8 @@ use Rattle.scope.specs.Order.{mayCome, drawn}
 use Rattle.scope.specs.Reading.{Operator}
 use Rattle.scope.specs.Arm.{Page, Stroke, idle}
 use Rattle.scope.specs.Motif.{Own, Motif, flat, unfolded, Held, heldAs, isHeld, Picture, Judged, motifOf}
-use Rattle.scope.specs.Session.{Setting, Busy, resting, reading, drawing, Session, Place, outside, inside, keptAs, sessionOf, rowFor, phaseOf, phaseBusy, phaseDrawing, sessionAfter, placeAfter}
+use Rattle.scope.specs.Setting.{Setting}
+use Rattle.scope.specs.Session.{Busy, resting, reading, drawing, Session, Place, outside, inside, keptAs, sessionOf, rowFor, phaseOf, phaseBusy, phaseDrawing, sessionAfter, placeAfter}
 use Rattle.scope.specs.Judge.{State, Case, Refusal, caseOf, rules, firstBroken, ownOr, outer, tooMuch, nameHeld, nameMissing, after, judgedFrom, starting}
 use Rattle.scope.specs.Verdict.{every, judgedAfter, Entry, entryOf, outcomeAt, outcomeOf}
 use Rattle.scope.specs.Runs.{caseAt, next, Performs, Runs, here, then}
@@ -25,12 +26,12 @@ use Rattle.scope.proofs.Runs.{performs-may, runs-of, ends-state}
 use Rattle.scope.proofs.Says.{chain, broken-is}
 
 module _ (s : List ℕ) where
-  known-later : {since : List Operator} {held : List Motif} (o : Operator) → AllDefined s since held → AllDefined s (o ∷ since) held
+  known-later : {set : Setting} {since : List Operator} {held : List Motif} (o : Operator) → AllDefined set s since held → AllDefined set s (o ∷ since) held
   known-later o AllDefined.none = AllDefined.none
   known-later o (AllDefined.more d e k) = AllDefined.more (Defines.before d) e (known-later o k)
 
   -- the motif of a name is defined under that name
-  found-defined : (n : List ℕ) {since : List Operator} {held : List Motif} → AllDefined s since held → (m : Motif) → heldAs n held ≡ Held.is m → Defines s n (m .bytes) since
+  found-defined : {set : Setting} (n : List ℕ) {since : List Operator} {held : List Motif} → AllDefined set s since held → (m : Motif) → heldAs n held ≡ Held.is m → Defines s n (m .bytes) since
   unfolding heldAs
   found-defined n AllDefined.none m e = not-held-as e
   found-defined n {since = since} (AllDefined.more {m = x} {ms = ms} d c k) m e = by (found-defined n k m) (same (x .name) n) refl e
@@ -61,13 +62,13 @@ module _ (s : List ℕ) where
   owned-at [] before o (Owned.more h k) e = h e
   owned-at (x ∷ later) before o (Owned.more h k) e = owned-at later before o k e
 
-  pub record Fine (st : State) : Type 0 where
-    pub known : AllDefined s (ofSession (st .past)) (sessionOf (st .place) .held)
+  pub record Fine (set : Setting) (st : State) : Type 0 where
+    pub known : AllDefined set s (ofSession (st .past)) (sessionOf (st .place) .held)
     pub collected : Collected (ofSession (st .past)) (sessionOf (st .place) .busy)
     pub owned : Owned (st .past)
 
-  starts-fine : (at : ℕ) → Fine (starting at)
-  starts-fine at = record { known = AllDefined.none; collected = tt; owned = Owned.none }
+  starts-fine : (set : Setting) (at : ℕ) → Fine set (starting at)
+  starts-fine set at = record { known = AllDefined.none; collected = tt; owned = Owned.none }
 
   -- the operators since, behind one that is no BeginSession
   since-more : (o : Operator) (os : List Operator) → eqb (o .tag) 0x41 ≡ false → ofSession (o ∷ os) ≡ o ∷ ofSession os
@@ -79,10 +80,10 @@ module _ (s : List ℕ) where
     since = ofSession past
 
     record After (x : Session) : Type 0 where
-      known : AllDefined s (o ∷ since) (x .held)
+      known : AllDefined set s (o ∷ since) (x .held)
       collected : Collected (o ∷ since) (x .busy)
 
-    rest-after : (x : Session) → AllDefined s since (x .held) → After (sessionAfter set s o p resting x)
+    rest-after : (x : Session) → AllDefined set s since (x .held) → After (sessionAfter set s o p resting x)
     unfolding sessionAfter
     rest-after x k = record { known = known-later o k; collected = by (eqb (o .tag) 0x43) (eqb (o .tag) 0x5b) refl }
       where
@@ -92,30 +93,30 @@ module _ (s : List ℕ) where
         by false true e = Collects.begins (eqb-true (o .tag) 0x5b e) refl
         by false false e = tt
 
-    kept-after : (n j : List ℕ) (held : List Motif) → o .tag ≡ 0x5d → AllDefined s since held → Collects s n j since → (w : Judged) → motifOf held j ≡ w
-        → AllDefined s (o ∷ since) (keptAs n j w held)
+    kept-after : (n j : List ℕ) (held : List Motif) → o .tag ≡ 0x5d → AllDefined set s since held → Collects s n j since → (w : Judged) → motifOf set held j ≡ w
+        → AllDefined set s (o ∷ since) (keptAs n j w held)
     unfolding keptAs
     kept-after n j held e k c (Judged.valid ops d) f = AllDefined.more (Defines.ends e c) f (known-later o k)
     kept-after n j held e k c (Judged.faulty code inner) f = known-later o k
 
-    read-after : (n j : List ℕ) (x : Session) → (eqb (o .tag) 0x5c || eqb (o .tag) 0x5d) ≡ true → AllDefined s since (x .held) → Collects s n j since
+    read-after : (n j : List ℕ) (x : Session) → (eqb (o .tag) 0x5c || eqb (o .tag) 0x5d) ≡ true → AllDefined set s since (x .held) → Collects s n j since
         → After (sessionAfter set s o p (reading n j) x)
     unfolding sessionAfter
     read-after n j x m k c = by (eqb (o .tag) 0x5c) (eqb (o .tag) 0x5d) refl refl m
       where
         by : (a b : Bool) → eqb (o .tag) 0x5c ≡ a → eqb (o .tag) 0x5d ≡ b → (a || b) ≡ true
             → After (pick a (record { held = x .held; opened = x .opened; busy = reading n (j ++ take (o .length) (drop (o .first) s)) })
-            (record { held = keptAs n j (motifOf (x .held) j) (x .held); opened = x .opened; busy = resting }))
+            (record { held = keptAs n j (motifOf set (x .held) j) (x .held); opened = x .opened; busy = resting }))
         by true b e f g = record { known = known-later o k; collected = Collects.reads (eqb-true (o .tag) 0x5c e) c }
-        by false true e f g = record { known = kept-after n j (x .held) (eqb-true (o .tag) 0x5d f) k c (motifOf (x .held) j) refl; collected = tt }
+        by false true e f g = record { known = kept-after n j (x .held) (eqb-true (o .tag) 0x5d f) k c (motifOf set (x .held) j) refl; collected = tt }
         by false false e f g = clash-of (sym g)
 
-    draw-after : (q : Page) (i : Picture) (x : Session) → AllDefined s since (x .held) → After (sessionAfter set s o p (drawing q i) x)
+    draw-after : (q : Page) (i : Picture) (x : Session) → AllDefined set s since (x .held) → After (sessionAfter set s o p (drawing q i) x)
     unfolding sessionAfter
     draw-after q i x k =
         pick-all After (eqb (o .tag) 0x44) (λ _. record { known = known-later o k; collected = tt }) (λ _. record { known = known-later o k; collected = tt })
 
-    session-after : (b : Busy) (x : Session) → mayCome (phaseBusy b) (x .opened) (o .tag) ≡ true → AllDefined s since (x .held) → Collected since b
+    session-after : (b : Busy) (x : Session) → mayCome (phaseBusy b) (x .opened) (o .tag) ≡ true → AllDefined set s since (x .held) → Collected since b
         → After (sessionAfter set s o p b x)
     unfolding phaseBusy mayCome
     session-after resting x m k c = rest-after x k
@@ -132,9 +133,9 @@ module _ (s : List ℕ) where
     no-begin (drawing q (Picture.being i)) opened m = differs (mayCome (phaseBusy (drawing q (Picture.being i))) opened) (o .tag) 0x41 m refl
 
     abbrev Stays : Place → Type 0
-    Stays w = AllDefined s (ofSession (o ∷ past)) (sessionOf w .held) × Collected (ofSession (o ∷ past)) (sessionOf w .busy)
+    Stays w = AllDefined set s (ofSession (o ∷ past)) (sessionOf w .held) × Collected (ofSession (o ∷ past)) (sessionOf w .busy)
 
-    place-stays : (w : Place) → mayCome (phaseOf w) (sessionOf w .opened) (o .tag) ≡ true → AllDefined s since (sessionOf w .held) → Collected since (sessionOf w .busy)
+    place-stays : (w : Place) → mayCome (phaseOf w) (sessionOf w .opened) (o .tag) ≡ true → AllDefined set s since (sessionOf w .held) → Collected since (sessionOf w .busy)
         → Stays (placeAfter set s o p w)
     unfolding placeAfter phaseOf
     place-stays (outside b) m k c = (AllDefined.none, tt)
@@ -142,7 +143,7 @@ module _ (s : List ℕ) where
         pick-all Stays (eqb (o .tag) 0x42) (λ _. (AllDefined.none, tt))
         (λ _. let h = session-after (x .busy) x m k c in
         let e = since-more o past (no-begin (x .busy) (x .opened) m) in
-        (subst⁻¹ (λ z. AllDefined s z (sessionAfter set s o p (x .busy) x .held)) e (h .known), subst⁻¹ (λ z. Collected z (sessionAfter set s o p (x .busy) x .busy)) e (h .collected)))
+        (subst⁻¹ (λ z. AllDefined set s z (sessionAfter set s o p (x .busy) x .held)) e (h .known), subst⁻¹ (λ z. Collected z (sessionAfter set s o p (x .busy) x .busy)) e (h .collected)))
 
   -- an operator that is performed is not refused by 21
   not-missing : (a b d x : Bool) (m : Judged) (r : Refusal)
@@ -169,7 +170,7 @@ module _ (s : List ℕ) where
       by Held.none h u v = clash-of (sym (ap (λ z. not (isHeld z)) h) ∙ sym u ∙ v)
 
   module _ (given : ℕ → Bool) (names : given 21 ≡ true) (set : Setting) (room : ℕ) where
-    performs-fine : (st : State) (o : Operator) → Performs given set s room st o → Fine st → Fine (next set s st o)
+    performs-fine : (st : State) (o : Operator) → Performs given set s room st o → Fine set st → Fine set (next set s st o)
     unfolding after caseOf
     performs-fine st o p f =
         let m = performs-may given set s room p in
@@ -181,21 +182,21 @@ module _ (s : List ℕ) where
             let h = call-found given room (caseAt set s st o) names (p .kept) e in
             (h .0 .bytes, found-defined (bytesIn s (o .attrs) 139) (f .known) (h .0) (h .1))
 
-    pub runs-fine : {a b : State} {os : List Operator} → Runs given set s room a os b → Fine a → Fine b
+    pub runs-fine : {a b : State} {os : List Operator} → Runs given set s room a os b → Fine set a → Fine set b
     runs-fine here f = f
     runs-fine (then {a = a} {o = o} p r) f = runs-fine r (performs-fine a o p f)
 
 pub own-motifs : OwnMotifs
-own-motifs set job room next os st r = runs-fine job every refl set room r (starts-fine job next) .known
+own-motifs set job room next os st r = runs-fine job every refl set room r (starts-fine job set next) .known
 
 judged-owned : (set : Setting) (job : List ℕ) (room next : ℕ) → Owned job (judgedFrom every set job room (starting next) .state .past)
 judged-owned set job room next =
     let c = runs-of every set job room (starting next) in
-    subst⁻¹ (λ z. Owned job (z .past)) (ends-state every set job room (c .ends)) (runs-fine job every refl set room (c .runs) (starts-fine job next) .owned)
+    subst⁻¹ (λ z. Owned job (z .past)) (ends-state every set job room (c .ends)) (runs-fine job every refl set room (c .runs) (starts-fine job set next) .owned)
 
 header-owned : (gray : Bool) (job : List ℕ) (room : ℕ) (h : Header) → Owned job (judgedAfter gray every job room h .state .past)
 unfolding judgedAfter
-header-owned gray job room (Header.is high next) = judged-owned (record { high = high; gray = gray }) job room next
+header-owned gray job room (Header.is class high next) = judged-owned (record { class = class; high = high; gray = gray }) job room next
 header-owned gray job room (Header.no code place) = Owned.none
 
 entry-owned : (gray : Bool) (job : List ℕ) (room : ℕ) (e : Entry) → Owned job (outcomeAt gray every job room e .state .past)
@@ -224,7 +225,7 @@ module _ (s : List ℕ) (since : List Operator) where
       AllDrawn.more (Drawn.of-motif m refl (u (record { motif = m .number; at = at; act = idle }) Among.calls-it) d)
       (drawn-append (h n) (flat-drawn m d f h os (λ x k. u x (Among.later k))))
 
-  unfolded-drawn : {held : List Motif} → AllDefined s since held → (n : List ℕ) → AllDrawn s since (unfolded held n)
+  unfolded-drawn : {set : Setting} {held : List Motif} → AllDefined set s since held → (n : List ℕ) → AllDrawn s since (unfolded held n)
   unfolding unfolded
   unfolded-drawn AllDefined.none n = AllDrawn.none
   unfolded-drawn (AllDefined.more {m = m} {ms = ms} d c k) n = by (λ z. unfolded-drawn k z) (same (m .name) n)
@@ -234,11 +235,11 @@ module _ (s : List ℕ) (since : List Operator) where
       by ih true = flat-drawn m d (unfolded ms) ih (m .ops) (λ x h. h)
       by ih false = ih n
 
-  row-drawn : (high : Bool) {held : List Motif} → AllDefined s since held → (o : Operator) → AllDrawn s since (rowFor high s held o)
+  row-drawn : (set : Setting) {held : List Motif} → AllDefined set s since held → (o : Operator) → AllDrawn s since (rowFor set s held o)
   unfolding rowFor
-  row-drawn high k o =
+  row-drawn set k o =
       pick-all (AllDrawn s since) (eqb (o .tag) 0x5e) (λ _. AllDrawn.more (Drawn.itself refl) (unfolded-drawn k (bytesIn s (o .attrs) 139)))
       (λ _. AllDrawn.more (Drawn.itself refl) AllDrawn.none)
 
 pub own-strokes : OwnStrokes
-own-strokes set job room next os st o r = row-drawn job (ofSession (st .past)) (set .high) (own-motifs set job room next os st r) o
+own-strokes set job room next os st o r = row-drawn job (ofSession (st .past)) set (own-motifs set job room next os st r) o

@@ -14,10 +14,10 @@ use Rattle.scope.specs.Number.{digits, place, number}
 use Rattle.scope.specs.Iterate.{Next, go, stop, onward, run, iterate}
 use Rattle.scope.specs.Item.{Kind, plain, array, other, Value, numbersAt, elementsAt, countedAt, arrayAt, valueOf, kindOf}
 use Rattle.scope.specs.Item.{Attribute, Pair, numbered, numberAt, pairOf, pairAt, Scan, Walk, endedWith, onPair, scanItem, scanStep, scanFrom, scanAt, spaces, after}
-use Rattle.scope.specs.Table.{Takes, E, N, P, B, A, D, M, Rule, Row, Line, Ruled, Form, each, one, line, table, lineIn, ruleIn}
-use Rattle.scope.specs.Attributes.{Fault, fine, bad, has, twoAt, twoOf, wholeIn, pointIn, sizesIn, firstOf, inRange, attributeCode, oneByOne, allThere, howMany, formCode, valueIn, bytesIn}
-use Rattle.scope.specs.Data.{Image, Due, Found, dueOf, blockOf, blockAt}
-use Rattle.scope.specs.Order.{mayCome, imageOf, rowsFit}
+use Rattle.scope.specs.Table.{Takes, E, N, P, B, A, D, M, M2, L, Rule, Row, Line, Ruled, Form, each, one, line, table, lineIn, ruleIn}
+use Rattle.scope.specs.Attributes.{wholeBytes, Fault, fine, bad, has, twoAt, twoOf, wholeIn, pointIn, sizesIn, firstOf, inRange, attributeCode, oneByOne, allThere, howMany, formCode, valueIn, bytesIn}
+use Rattle.scope.specs.Data.{padOf, blockDue, Image, Due, Found, dueOf, blockOf, blockAt}
+use Rattle.scope.specs.Order.{lengthFits, mayCome, imageOf, rowsFit}
 use Rattle.scope.specs.Reading.{Context, Operator, Read, withBlock, withData, asWhole, withAttributes, withLine, scanned, operatorAt}
 
 -- a choice by equal tests
@@ -254,7 +254,7 @@ module _ (s t : List ℕ) (p q : ℕ) (hp : p ≤ length s) (hq : q ≤ length t
     two-like : {a b : Attribute} → LikeAttr a b → twoOf high s a ≡ twoOf high t b
     unfolding twoAt
     two-like {a} {b} h =
-        rw (h .tag, number-like high 4 (h .first), number-like high 4 (far-add 4 (h .first)), number-like high (pick (eqb (b .tag) 0xc0) 1 2) (h .first), number-like high 2 (far-add 2 (h .first))) refl
+        rw (h .tag, number-like high 4 (h .first), number-like high 4 (far-add 4 (h .first)), number-like high (wholeBytes (b .tag)) (h .first), number-like high 2 (far-add 2 (h .first))) refl
 
     first-like : {a b : Attribute} → LikeAttr a b → firstOf high s a ≡ firstOf high t b
     unfolding firstOf
@@ -269,6 +269,9 @@ module _ (s t : List ℕ) (p q : ℕ) (hp : p ≤ length s) (hq : q ≤ length t
     range-like (A low up) h = ap (between low up) (h .count)
     range-like (D low) h = ap (sizesIn low) (two-like h)
     range-like M h = ap (λ z. between 0 12 z || between 14 16 z) (first-like h)
+    range-like M2 {a} {b} h =
+        (λ i. pick (eqb (h .tag i) 0xc8) (between 1 1024 (h .count i)) (between 0 21 (first-like h i) || eqb (first-like h i) 96))
+    range-like L h = refl
 
     code-like : {l m : List Attribute} → LikeAttrs l m → {a b : Attribute} → LikeAttr a b → (r : Ruled)
         → attributeCode high s l a r ≡ attributeCode high t m b r
@@ -343,13 +346,17 @@ module _ (s t : List ℕ) (p q : ℕ) (hp : p ≤ length s) (hq : q ≤ length t
     no : {k x y : ℕ} → Far x y → LikeRead (Read.no k x) (Read.no k y)
 
   module _ (high : Bool) where
+    block-due-like : (i : Image) {l m : List Attribute} → LikeAttrs l m → blockDue high s i l ≡ blockDue high t i m
+    unfolding blockDue padOf
+    block-due-like i k = rw (value-in-like high 99 k, value-in-like high 110 k) refl
+
     rows-like : (i : Image) (tag : ℕ) {l m : List Attribute} → LikeAttrs l m → rowsFit high s i tag l ≡ rowsFit high t i tag m
-    unfolding rowsFit
-    rows-like i tag k = rw (value-in-like high 109 k, value-in-like high 99 k) refl
+    unfolding rowsFit lengthFits
+    rows-like i tag k = rw (value-in-like high 109 k, value-in-like high 99 k, has-like 111 k, value-in-like high 111 k, block-due-like i k) refl
 
     due-like : (i : Image) (tag : ℕ) {l m : List Attribute} → LikeAttrs l m → dueOf high s i tag l ≡ dueOf high t i tag m
     unfolding dueOf
-    due-like i tag k = rw (value-in-like high 140 k, value-in-like high 99 k, has-like 77 k, value-in-like high 80 k, value-in-like high 77 k) refl
+    due-like i tag k = rw (value-in-like high 140 k, block-due-like i k, has-like 77 k, value-in-like high 80 k, value-in-like high 77 k) refl
 
     block-of-like : {o v x y : ℕ} (due w : ℕ) → Far o v → Far x y → LikeFound due (blockOf high s o due x w) (blockOf high t v due y w)
     unfolding blockOf
@@ -383,7 +390,7 @@ module _ (s t : List ℕ) (p q : ℕ) (hp : p ≤ length s) (hq : q ≤ length t
         operator (record { tag = refl; at = h; attrs = k; reads = refl; size = refl; block = refl; where-data = nowhere; next = far-suc h })
     with-data-like tag h k (Due.reads due) =
         pick-like LikeRead (c .asked && not (c .opened)) (c .asked && not (c .opened)) refl (no h)
-        (with-block-like tag due h k (block-like (c .high) due h (after-like (far-suc h))))
+        (with-block-like tag due h k (block-like (c .set .high) due h (after-like (far-suc h))))
 
     whole-like : (tag : ℕ) {x y : ℕ} {l m : List Attribute} → Far x y → LikeAttrs l m → (code : ℕ)
         → LikeRead (asWhole c s tag x l code) (asWhole c t tag y m code)
@@ -391,8 +398,8 @@ module _ (s t : List ℕ) (p q : ℕ) (hp : p ≤ length s) (hq : q ≤ length t
     whole-like tag {x} {y} {l} {m} h k code =
         let i = imageOf (c .phase) in
         pick-like LikeRead (eqb code 0) (eqb code 0) refl
-        (pick-like LikeRead (rowsFit (c .high) s i tag l) (rowsFit (c .high) t i tag m) (rows-like (c .high) i tag k)
-        (rw (due-like (c .high) i tag k) (with-data-like tag h k (dueOf (c .high) t i tag m))) (no h)) (no h)
+        (pick-like LikeRead (rowsFit (c .set .high) s i tag l) (rowsFit (c .set .high) t i tag m) (rows-like (c .set .high) i tag k)
+        (rw (due-like (c .set .high) i tag k) (with-data-like tag h k (dueOf (c .set .high) t i tag m))) (no h)) (no h)
 
     attributes-like : (tag : ℕ) {x y : ℕ} {l m : List Attribute} → Far x y → LikeAttrs l m → (r : Row) {f g : Fault} → LikeFault f g
         → LikeRead (withAttributes c s tag x l r f) (withAttributes c t tag y m r g)
@@ -406,14 +413,14 @@ module _ (s t : List ℕ) (p q : ℕ) (hp : p ≤ length s) (hq : q ≤ length t
     line-like tag h k Line.none = no h
     line-like tag h k (Line.is r) =
         pick-like LikeRead (mayCome (c .phase) (c .opened) tag) (mayCome (c .phase) (c .opened) tag) refl
-        (attributes-like tag h k r (one-like (c .high) (r .rules) nil k)) (no h)
+        (attributes-like tag h k r (one-like (c .set .high) (r .rules) nil k)) (no h)
 
     scanned-like : {v w : Scan} → LikeScan v w → LikeRead (scanned c s v) (scanned c t w)
     unfolding scanned
-    scanned-like (tagged {h = g} e x k) = rw e (line-like g x k (lineIn table g))
+    scanned-like (tagged {h = g} e x k) = rw e (line-like g x k (lineIn (table (c .set .class)) g))
     scanned-like ended = ended
     scanned-like (no x) = no x
 
     pub read-like : {a b : ℕ} → Far a b → LikeRead (operatorAt c s a) (operatorAt c t b)
     unfolding operatorAt
-    read-like h = scanned-like (scan-like (c .high) h)
+    read-like h = scanned-like (scan-like (c .set .high) h)

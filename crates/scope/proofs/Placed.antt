@@ -11,13 +11,14 @@ use lib.Dec.{ltb, leb, eqb}
 use native.Mathlib.Nat.{zero-add}
 use Rattle.scope.specs.Choice.{between}
 use Rattle.scope.specs.Number.{number}
-use Rattle.scope.specs.Header.{Header, Form, ends, breaks, mayStand, formFrom, classed, headerOf}
+use Rattle.scope.specs.Header.{Class, Header, Form, ends, breaks, mayStand, formFrom, classed, headerOf}
 use Rattle.scope.specs.Item.{Kind, plain, array, other, Value, numbersAt, elementsAt, countedAt, arrayAt, valueOf, kindOf}
 use Rattle.scope.specs.Item.{Attribute, Pair, numbered, numberAt, pairOf, pairAt, Scan, Walk, endedWith, onPair, scanItem, scanStep, scanFrom, scanAt, after}
 use Rattle.scope.specs.Table.{Rule, Row, Line, ruleIn}
 use Rattle.scope.specs.Attributes.{Fault, fine, bad, attributeCode, oneByOne}
 use Rattle.scope.specs.Data.{Due, Found, blockOf, blockAt}
 use Rattle.scope.specs.Order.{mayCome, imageOf, rowsFit}
+use Rattle.scope.specs.Setting.{Setting, ofMotif, sameClass}
 use Rattle.scope.specs.Reading.{Context, Operator, Read, withBlock, withData, asWhole, withAttributes, withLine, scanned, operatorAt}
 use Rattle.scope.specs.Motif.{Own, Motif, Held, Inside, Picture, Judged, valid, faulty, contextIn, onCall, onDeed, onEnd, onRead, motifStep, judgedInside, motifFrom, motifOf}
 use Rattle.scope.proofs.Ends.{pick-all, Kept, kept-go, kept-stop, iterate-holds}
@@ -167,13 +168,13 @@ module _ (c : Context) (s : List ℕ) (tag p : ℕ) (l : List Attribute) (h : p 
   with-data-in : (d : Due) → ReadIn (length s) (withData c s tag p l d)
   unfolding withData
   with-data-in Due.none = operator h
-  with-data-in (Due.reads due) = pick-all (ReadIn (length s)) (c .asked && not (c .opened)) (λ _. no h) (λ _. with-block-in due (block-in (c .high) s p due (after s (suc p)) h))
+  with-data-in (Due.reads due) = pick-all (ReadIn (length s)) (c .asked && not (c .opened)) (λ _. no h) (λ _. with-block-in due (block-in (c .set .high) s p due (after s (suc p)) h))
 
   whole-in : (code : ℕ) → ReadIn (length s) (asWhole c s tag p l code)
   unfolding asWhole
   whole-in code =
       pick-all (ReadIn (length s)) (eqb code 0)
-      (λ _. pick-all (ReadIn (length s)) (rowsFit (c .high) s (imageOf (c .phase)) tag l) (λ _. with-data-in _) (λ _. no h)) (λ _. no h)
+      (λ _. pick-all (ReadIn (length s)) (rowsFit (c .set .high) s (imageOf (c .phase)) tag l) (λ _. with-data-in _) (λ _. no h)) (λ _. no h)
 
   attributes-in : (r : Row) {f : Fault} → FaultIn (length s) f → ReadIn (length s) (withAttributes c s tag p l r f)
   unfolding withAttributes
@@ -184,7 +185,7 @@ module _ (c : Context) (s : List ℕ) (tag p : ℕ) (l : List Attribute) (h : p 
   unfolding withLine
   line-in Line.none i = no h
   line-in (Line.is r) i =
-      pick-all (ReadIn (length s)) (mayCome (c .phase) (c .opened) tag) (λ _. attributes-in r (one-in (length s) (c .high) s (r .rules) [] i)) (λ _. no h)
+      pick-all (ReadIn (length s)) (mayCome (c .phase) (c .opened) tag) (λ _. attributes-in r (one-in (length s) (c .set .high) s (r .rules) [] i)) (λ _. no h)
 
 scanned-in : (c : Context) (s : List ℕ) {r : Scan} → ScanIn (length s) r → ReadIn (length s) (scanned c s r)
 unfolding scanned
@@ -195,7 +196,7 @@ scanned-in c s (no k) = no k
 -- a refusal of reading stands within the bytes, or right behind them
 pub read-in : (c : Context) (s : List ℕ) (at : ℕ) → ReadIn (length s) (operatorAt c s at)
 unfolding operatorAt
-read-in c s at = scanned-in c s (scan-in (c .high) s at)
+read-in c s at = scanned-in c s (scan-in (c .set .high) s at)
 
 pub read-placed : (c : Context) (s : List ℕ) (at code place : ℕ) → operatorAt c s at ≡ Read.no code place → place ≤ length s
 read-placed c s at code place e = placed (subst (λ r. ReadIn (length s) r) e (read-in c s at))
@@ -204,7 +205,7 @@ read-placed c s at code place e = placed (subst (λ r. ReadIn (length s) r) e (r
     placed (no k) = k
 
 pub data HeaderIn (len : ℕ) : Header → Type 0 where
-  good : {high : Bool} {next : ℕ} → HeaderIn len (Header.is high next)
+  good : {class : Class} {high : Bool} {next : ℕ} → 12 ≤ len → HeaderIn len (Header.is class high next)
   ill : {code place : ℕ} → place ≤ len → HeaderIn len (Header.no code place)
 
 data FormIn (n : ℕ) : Form → Type 0 where
@@ -238,7 +239,8 @@ classed-in : (s : List ℕ) {f : Form} → FormIn (length s) f → HeaderIn (len
 unfolding classed
 classed-in s (whole {k = k} g h) =
     let l : 12 ≤ length s = omega arith in
-    pick-all (HeaderIn (length s)) (eqb (getD s 12 0) 0x31 && eqb (getD s 14 0) 0x31) (λ _. good) (λ _. ill l)
+    pick-all (HeaderIn (length s)) (eqb (getD s 12 0) 0x31 && eqb (getD s 14 0) 0x31) (λ _. good l)
+    (λ _. pick-all (HeaderIn (length s)) (eqb (getD s 12 0) 0x32 && eqb (getD s 14 0) 0x31) (λ _. good l) (λ _. ill l))
 classed-in s (broken k) = ill k
 
 pub header-in : (s : List ℕ) → HeaderIn (length s) (headerOf s)
@@ -260,7 +262,7 @@ data JudgedIn (len : ℕ) : Judged → Type 0 where
 abbrev Any : Inside → Type 0
 Any w = Unit {0}
 
-module _ (held : List Motif) (high : Bool) (s : List ℕ) where
+module _ (held : List Motif) (set : Setting) (s : List ℕ) where
   call-in : (o : Operator) (n : List ℕ) (w : Inside) (x : Held) → o .at ≤ length s → Kept Any (JudgedIn (length s)) (onCall o n w x)
   unfolding onCall
   call-in o n w Held.none h = kept-stop (ill h)
@@ -271,28 +273,29 @@ module _ (held : List Motif) (high : Bool) (s : List ℕ) where
   end-in w (Picture.being i) = let k : length s ≤ length s = omega arith in ill k
   end-in w Picture.none = let k : length s ≤ length s = omega arith in pick-all (JudgedIn (length s)) (eqb (w .saved) 0) (λ _. good) (λ _. ill k)
 
-  on-read-in : (w : Inside) {r : Read} → ReadIn (length s) r → Kept Any (JudgedIn (length s)) (onRead held high s w r)
+  on-read-in : (w : Inside) {r : Read} → ReadIn (length s) r → Kept Any (JudgedIn (length s)) (onRead held set s w r)
   unfolding onRead onDeed
   on-read-in w (operator {o = o} h) = pick-all (Kept Any (JudgedIn (length s))) (eqb (o .tag) 0x5e) (λ _. call-in o _ w _ h) (λ _. kept-go tt)
   on-read-in w ended = kept-stop (end-in w (w .picture))
   on-read-in w (no k) = kept-stop (ill k)
 
-  step-in : (w : Inside) → Any w → Kept Any (JudgedIn (length s)) (motifStep held high s w)
+  step-in : (w : Inside) → Any w → Kept Any (JudgedIn (length s)) (motifStep held set s w)
   unfolding motifStep
-  step-in w u = on-read-in w (read-in (contextIn high w) s (w .at))
+  step-in w u = on-read-in w (read-in (contextIn set w) s (w .at))
 
-from-in : (held : List Motif) (s : List ℕ) {r : Header} → HeaderIn (length s) r → JudgedIn (length s) (motifFrom held s r)
+from-in : (set : Setting) (held : List Motif) (s : List ℕ) {r : Header} → HeaderIn (length s) r → JudgedIn (length s) (motifFrom set held s r)
 unfolding motifFrom judgedInside
-from-in held s (good {high = high} {next = next}) =
+from-in set held s (good {class = class} {high = high} {next = next} l) =
     let k : 0 ≤ length s = omega arith in
-    iterate-holds (motifStep held high s) (faulty 5 0) Any (JudgedIn (length s)) (ill k) (step-in held high s) (λ w. length s - w .at)
-    (record { at = next; saved = 0; picture = Picture.none; ops = []; depth = 1 }) tt
-from-in held s (ill k) = ill k
+    pick-all (JudgedIn (length s)) (sameClass class (set .class))
+    (λ _. iterate-holds (motifStep held (ofMotif set high) s) (faulty 5 0) Any (JudgedIn (length s)) (ill k) (step-in held (ofMotif set high) s) (λ w. length s - w .at)
+    (record { at = next; saved = 0; picture = Picture.none; ops = []; depth = 1 }) tt) (λ _. ill l)
+from-in set held s (ill k) = ill k
 
 -- the place inside a faulty motif lies within it, or right behind it
-pub motif-placed : (held : List Motif) (s : List ℕ) (code place : ℕ) → motifOf held s ≡ faulty code place → place ≤ length s
+pub motif-placed : (set : Setting) (held : List Motif) (s : List ℕ) (code place : ℕ) → motifOf set held s ≡ faulty code place → place ≤ length s
 unfolding motifOf
-motif-placed held s code place e = placed (subst (λ r. JudgedIn (length s) r) e (from-in held s (header-in s)))
+motif-placed set held s code place e = placed (subst (λ r. JudgedIn (length s) r) e (from-in set held s (header-in s)))
   where
     placed : JudgedIn (length s) (faulty code place) → place ≤ length s
     placed (ill k) = k

@@ -8,7 +8,8 @@ use lib.ListN.{length}
 use Rattle.scope.specs.Header.{Header, headerOf}
 use Rattle.scope.specs.Order.{mayCome}
 use Rattle.scope.specs.Reading.{Operator}
-use Rattle.scope.specs.Session.{Setting, Place, outside, inside, sessionOf, phaseOf, placeAfter}
+use Rattle.scope.specs.Setting.{Setting, headed}
+use Rattle.scope.specs.Session.{Place, outside, inside, sessionOf, phaseOf, placeAfter}
 use Rattle.scope.specs.Judge.{State, caseOf, after, judgedFrom, starting}
 use Rattle.scope.specs.Verdict.{every, outcomeOf}
 use Rattle.scope.specs.Runs.{caseAt, next, Performs, Runs, here, then, Comes, onto}
@@ -28,29 +29,26 @@ module _ (given : ℕ → Bool) (set : Setting) (s : List ℕ) (room : ℕ) wher
       by (inside x) g = rw e refl
 
 -- before the first item of a job it stands outside a session
-pub between-start : (gray : Bool) (job : List ℕ) (room : ℕ) (high : Bool) (next : ℕ) → headerOf job ≡ Header.is high next → Between gray job room high (starting next)
-between-start gray job room high next e = record { there = record { next = next; header = e; before = []; runs = here }; after-one = false; stands = refl }
+pub between-start : (set : Setting) (job : List ℕ) (room next : ℕ) → headerOf job ≡ headed set next → Between set job room (starting next)
+between-start set job room next e = record { there = record { next = next; header = e; before = []; runs = here }; after-one = false; stands = refl }
 
 -- behind each EndSession that a job performs it stands between two sessions
-module _ (gray : Bool) (job : List ℕ) (work room : ℕ) (high : Bool) (start : ℕ) (h : 16384 ≤ work) (k : length job ≤ 61440) (e : headerOf job ≡ Header.is high start) where
+module _ (set : Setting) (job : List ℕ) (work room start : ℕ) (h : 16384 ≤ work) (k : length job ≤ 61440) (e : headerOf job ≡ headed set start) where
   pub record Behind (o : Operator) (past : List Operator) : Type 0 where
     pub state : State
-    pub stands : Between gray job room high state
+    pub stands : Between set job room state
     pub at : state .at ≡ o .next
     pub past-is : state .past ≡ o ∷ past
-
-  abbrev pub set : Setting
-  set = record { high = high; gray = gray }
 
   pub all-ops : Comes every set job room (starting start) (judgedFrom every set job room (starting start))
   all-ops = runs-of every set job room (starting start)
 
-  past-ops : outcomeOf gray every job work room .state .past ≡ onto (all-ops .ops) []
+  past-ops : outcomeOf (set .gray) every job work room .state .past ≡ onto (all-ops .ops) []
   past-ops =
-      ap (λ z. z .state .past) (reached-judged gray job work room high (starting start) h k (between-start gray job room high start e .there))
+      ap (λ z. z .state .past) (reached-judged set job work room (starting start) h k (between-start set job room start e .there))
       ∙ ap (λ z. z .past) (ends-state every set job room (all-ops .ends)) ∙ runs-past every set job room (all-ops .runs)
 
-  pub ops-are : (ops : List Operator) → outcomeOf gray every job work room .state .past ≡ onto ops [] → all-ops .ops ≡ ops
+  pub ops-are : (ops : List Operator) → outcomeOf (set .gray) every job work room .state .past ≡ onto ops [] → all-ops .ops ≡ ops
   ops-are ops f = sym (onto-back (all-ops .ops)) ∙ ap (λ l. onto l []) (sym past-ops ∙ f) ∙ onto-back ops
 
   by-run : (front later : List Operator) (o : Operator) → Halves every set job room (starting start) (all-ops .last) front (o ∷ later) → o .tag ≡ 0x42 → Behind o (onto front [])
@@ -70,7 +68,7 @@ module _ (gray : Bool) (job : List ℕ) (work room : ℕ) (high : Bool) (start :
             past-is = ap (λ l. o ∷ l) (runs-past every set job room u);
           }
 
-  pub behind : (later past : List Operator) (o : Operator) → outcomeOf gray every job work room .state .past ≡ later ++ (o ∷ past) → o .tag ≡ 0x42 → Behind o past
+  pub behind : (later past : List Operator) (o : Operator) → outcomeOf (set .gray) every job work room .state .past ≡ later ++ (o ∷ past) → o .tag ≡ 0x42 → Behind o past
   unfolding onto
   behind later past o f g =
       let turned : onto (onto past [] ++ (o ∷ onto later [])) [] ≡ later ++ (o ∷ past) =

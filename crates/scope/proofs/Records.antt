@@ -10,7 +10,7 @@ use lib.Seq.{drop-at, take-all}
 use Rattle.scope.specs.Header.{Header, headerOf}
 use Rattle.scope.specs.Item.{Attribute}
 use Rattle.scope.specs.Reading.{Operator}
-use Rattle.scope.specs.Session.{Setting}
+use Rattle.scope.specs.Setting.{Setting}
 use Rattle.scope.specs.Judge.{State, caseOf, after, judgedFrom, starting}
 use Rattle.scope.specs.Verdict.{every, four, attributeRecord, operatorRecord, attributeRecords, recordsBefore, listOf, judgedAfter, Entry, entryOf, outcomeAt, outcomeOf, verdictOf}
 use Rattle.scope.specs.Runs.{Runs, here, then}
@@ -70,7 +70,7 @@ start-long next = refl
 
 header-long : (gray : Bool) (job : List ℕ) (room : ℕ) (h : Header) → Long (judgedAfter gray every job room h .state)
 unfolding judgedAfter
-header-long gray job room (Header.is high next) = judged-long every (record { high = high; gray = gray }) job room (starting next) (start-long next)
+header-long gray job room (Header.is class high next) = judged-long every (record { class = class; high = high; gray = gray }) job room (starting next) (start-long next)
 header-long gray job room (Header.no code place) = start-long 0
 
 entry-long : (gray : Bool) (job : List ℕ) (room : ℕ) (e : Entry) → Long (outcomeAt gray every job room e .state)
@@ -112,14 +112,14 @@ behind-part part rest list m n e f g =
     let h : take (n * 16) list ≡ list = take-all (n * 16) list (omega arith) in
     ap (drop (m * 16)) (h ∙ e) ∙ drop-at part rest (m * 16) f
 
-between-long : (gray : Bool) (job : List ℕ) (room : ℕ) (high : Bool) (st : State) → Between gray job room high st → Long st
-between-long gray job room high st b = runs-long every (record { high = high; gray = gray }) job room (b .there .runs) (start-long (b .there .next))
+between-long : (set : Setting) (job : List ℕ) (room : ℕ) (st : State) → Between set job room st → Long st
+between-long set job room st b = runs-long every set job room (b .there .runs) (start-long (b .there .next))
 
 pub same-list : SameList
 unfolding listOf verdictOf
-same-list gray job other work work′ room space high a b x y h =
+same-list set job other work work′ room space a b x y h =
     let z = since (h .listed) RecordsMoved.none in
     subst₂ (RecordsMoved (a .at) (b .at))
-    (sym (behind-part (recordsBefore (a .past) []) (z .here-since) _ (a .records) _ (z .first) (between-long gray job room high a x) (list-long gray job work room)))
-    (sym (behind-part (recordsBefore (b .past) []) (z .there-since) _ (b .records) _ (z .second) (between-long gray other space high b y) (list-long gray other work′ space)))
+    (sym (behind-part (recordsBefore (a .past) []) (z .here-since) _ (a .records) _ (z .first) (between-long set job room a x) (list-long (set .gray) job work room)))
+    (sym (behind-part (recordsBefore (b .past) []) (z .there-since) _ (b .records) _ (z .second) (between-long set other space b y) (list-long (set .gray) other work′ space)))
     (z .moved)

@@ -10,7 +10,8 @@ use Rattle.scope.specs.Iterate.{Next, go, stop, onward}
 use Rattle.scope.specs.Order.{mayCome}
 use Rattle.scope.specs.Reading.{Operator, Read}
 use Rattle.scope.specs.Arm.{from}
-use Rattle.scope.specs.Session.{Setting, sessionOf, phaseOf, pageOf, rowFor}
+use Rattle.scope.specs.Setting.{Setting}
+use Rattle.scope.specs.Session.{sessionOf, phaseOf, pageOf, rowFor}
 use Rattle.scope.specs.Judge.{State, Refusal, Outcome, caseOf, rules, firstBroken, after, onRefusal, onCase, onRead, contextOf, jobStep, judgedFrom}
 use Rattle.scope.specs.Runs.{readAt, caseAt, next, Performs, Runs, here, then, Ends, ended, unread, refused, Comes, onto}
 use Rattle.scope.proofs.Ends.{GoodRead, read-good}
@@ -85,9 +86,9 @@ module _ (given : ℕ → Bool) (set : Setting) (s : List ℕ) (room : ℕ) wher
   ends-state (refused r b) = refl
 
   -- numbers only grow along a run
-  pub next-performed : (st : State) (o : Operator) → next set s st o .performed ≡ st .performed + length (rowFor (set .high) s (sessionOf (st .place) .held) o)
+  pub next-performed : (st : State) (o : Operator) → next set s st o .performed ≡ st .performed + length (rowFor set s (sessionOf (st .place) .held) o)
   unfolding after caseOf from
-  next-performed st o = walk-count (rowFor (set .high) s (sessionOf (st .place) .held) o) (from (pageOf (sessionOf (st .place) .busy)) (st .performed))
+  next-performed st o = walk-count (rowFor set s (sessionOf (st .place) .held) o) (from (pageOf (sessionOf (st .place) .busy)) (st .performed))
 
   pub next-records : (st : State) (o : Operator) → next set s st o .records ≡ st .records + suc (length (o .attrs))
   unfolding after caseOf
@@ -102,7 +103,7 @@ module _ (given : ℕ → Bool) (set : Setting) (s : List ℕ) (room : ℕ) wher
   pub reads-on : (st : State) (o : Operator) → readAt given set s st ≡ Read.operator o → (st .at < o .next) × (o .next ≤ length s)
   reads-on st o e =
       of (subst (GoodRead (length s) (st .at) (mayCome (phaseOf (st .place)) (sessionOf (st .place) .opened))) e
-      (unfold contextOf in read-good (contextOf given (set .high) (st .place)) s (st .at)))
+      (unfold contextOf in read-good (contextOf given set (st .place)) s (st .at)))
     where
       of : {may : ℕ → Bool} → GoodRead (length s) (st .at) may (Read.operator o) → (st .at < o .next) × (o .next ≤ length s)
       of (GoodRead.operator h k m) = (h, k)
@@ -112,7 +113,7 @@ module _ (given : ℕ → Bool) (set : Setting) (s : List ℕ) (room : ℕ) wher
   unfolding contextOf
   performs-may {st} {o} p =
       of (subst (GoodRead (length s) (st .at) (mayCome (phaseOf (st .place)) (sessionOf (st .place) .opened))) (p .reads)
-      (read-good (contextOf given (set .high) (st .place)) s (st .at)))
+      (read-good (contextOf given set (st .place)) s (st .at)))
     where
       of : {may : ℕ → Bool} → GoodRead (length s) (st .at) may (Read.operator o) → may (o .tag) ≡ true
       of (GoodRead.operator x y z) = z
@@ -155,7 +156,7 @@ module _ (given : ℕ → Bool) (set : Setting) (s : List ℕ) (room : ℕ) wher
   all-runs zero st h = absurd (omega arith)
   all-runs (suc n) st h =
       subst⁻¹ (Comes given set s room st) (judged-step given set s room st)
-      (by-read n (all-runs n) st h (readAt given set s st) refl (read-good (contextOf given (set .high) (st .place)) s (st .at)))
+      (by-read n (all-runs n) st h (readAt given set s st) refl (read-good (contextOf given set (st .place)) s (st .at)))
 
   pub runs-of : (st : State) → Comes given set s room st (judgedFrom given set s room st)
   runs-of st = all-runs (suc (length s - st .at)) st (omega arith)

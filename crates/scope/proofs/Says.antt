@@ -9,11 +9,13 @@ use lib.ListN.{length, take, drop}
 use lib.Dec.{ltb, leb, eqb}
 use Rattle.scope.specs.Choice.{pick}
 use Rattle.scope.specs.Attributes.{has, valueIn, bytesIn}
+use Rattle.scope.specs.Header.{Header, headerOf}
 use Rattle.scope.specs.Reading.{Operator}
 use Rattle.scope.specs.Arm.{Act, Page, Seen, idle, push, pop, put, to, kept, gray, rgb, any, clash, done, risen, needsCursor, needsSpace, effectOf, actOf, step, walk, from, blank, Stroke}
-use Rattle.scope.specs.Motif.{Motif, heldAs, isHeld, unfolded, bytesHeld, Picture, begun, readOn, pictureAfter, Judged, motifOf}
-use Rattle.scope.specs.Session.{Setting, Busy, resting, reading, drawing, Session, Place, outside, inside, keptAs, sessionOf, phaseOf, pageOf, joinedOf, rowFor, sessionAfter, placeAfter}
-use Rattle.scope.specs.Judge.{State, Case, caseOf, Refusal, rules, firstBroken, ownOr, outer, tooMuch, nameHeld, nameMissing, sourceClosed, savedOver, cursorUnset, spaceWrong, countOver, roomOver, judgedAt}
+use Rattle.scope.specs.Motif.{Motif, heldAs, isHeld, unfolded, bytesHeld, Picture, begun, readOn, pictureAfter, Judged, valid, faulty, judgedInside, motifFrom, motifOf}
+use Rattle.scope.specs.Setting.{Setting, sameClass}
+use Rattle.scope.specs.Session.{Busy, resting, reading, drawing, Session, Place, outside, inside, keptAs, sessionOf, phaseOf, pageOf, joinedOf, rowFor, sessionAfter, placeAfter}
+use Rattle.scope.specs.Judge.{State, Case, judgedAt, caseOf, Refusal, rules, firstBroken, ownOr, outer, tooMuch, nameHeld, nameMissing, sourceClosed, savedOver, cursorUnset, spaceWrong, countOver, roomOver, judgedAt}
 use Rattle.scope.specs.Runs.{caseAt}
 use Rattle.scope.specs.Claims.{limit}
 use Rattle.scope.proofs.Rows.{walk-count}
@@ -142,48 +144,67 @@ chain-like f g e h x =
     (pick (e 24 refl i && h .seen i .lost) (Refusal.refused 24 outer)
     (pick (e 25 refl i && h .seen i .wrong) (Refusal.refused 25 outer) x)))))))
 
-module _ (set other : Setting) (same-gray : set .gray ≡ other .gray) (s t : List ℕ) (a b : Operator) (h : Says (set .high) (other .high) s t a b) where
-  abbrev hi : Bool
-  hi = set .high
+-- two settings that differ in the byte order at most
+pub record Akin (set other : Setting) : Type 0 where
+  pub class : set .class ≡ other .class
+  pub gray : set .gray ≡ other .gray
 
-  abbrev ho : Bool
-  ho = other .high
+pub akin-refl : {set : Setting} → Akin set set
+akin-refl = record { class = refl; gray = refl }
 
+-- a motif is judged in its own byte order
+motif-akin : {set other : Setting} → Akin set other → (held : List Motif) (s : List ℕ) → motifOf set held s ≡ motifOf other held s
+unfolding motifOf motifFrom
+motif-akin {set} {other} k held s = by (headerOf s)
+  where
+    by : (h : Header) → motifFrom set held s h ≡ motifFrom other held s h
+    by (Header.no code place) = refl
+    by (Header.is class high next) =
+        λ i. pick (sameClass class (k .class i))
+        (judgedInside held (record { class = k .class i; high = high; gray = k .gray i }) s (record { at = next; saved = 0; picture = Picture.none; ops = []; depth = 1 }))
+        (faulty 4 12)
+
+judged-akin : {set other : Setting} → Akin set other → (held : List Motif) (joined : List ℕ) (tag : ℕ) → judgedAt set held joined tag ≡ judgedAt other held joined tag
+unfolding judgedAt
+judged-akin k held joined tag = λ i. pick (eqb tag 0x5d) (motif-akin k held joined i) (valid [] 1)
+
+module _ (set other : Setting) (akin : Akin set other) (s t : List ℕ) (a b : Operator) (h : Says (set .high) (other .high) s t a b) where
   space-like : needsSpace (a .tag) (a .attrs) ≡ needsSpace (b .tag) (b .attrs)
   unfolding needsSpace
   space-like = λ i. pick (eqb (h .tag i) 0xb0) gray (pick (eqb (h .tag i) 0x63 || eqb (h .tag i) 0x79) (pick (h .there 11 i) rgb (pick (h .there 9 i) gray any)) any)
 
-  effect-like : effectOf hi s (a .tag) (a .attrs) ≡ effectOf ho t (b .tag) (b .attrs)
+  effect-like : effectOf set s (a .tag) (a .attrs) ≡ effectOf other t (b .tag) (b .attrs)
   unfolding effectOf
   effect-like =
       λ i. pick (eqb (h .tag i) 0x61) push
       (pick (eqb (h .tag i) 0x60) pop
       (pick (eqb (h .tag i) 0x6b) (put (to true) kept)
       (pick (eqb (h .tag i) 0x85) (put (to false) kept)
-      (pick (eqb (h .tag i) 0x6a) (put kept (to (eqb (h .value 3 refl i) 1))) (put kept kept)))))
+      (pick (eqb (h .tag i) 0x6a) (put kept (to (eqb (h .value 3 refl i) 1)))
+      (pick (eqb (h .tag i) 0x57) (put (to false) (to (akin .gray i))) (put kept kept))))))
 
-  act-like : actOf hi s a ≡ actOf ho t b
+  act-like : actOf set s a ≡ actOf other t b
   unfolding actOf
   act-like = λ i. record { source = h .reads i; cursor = needsCursor (h .tag i); space = space-like i; effect = effect-like i }
 
-  row-like : (held : List Motif) (w : Seen) → walk (rowFor hi s held a) w ≡ walk (rowFor ho t held b) w
+  row-like : (held : List Motif) (w : Seen) → walk (rowFor set s held a) w ≡ walk (rowFor other t held b) w
   unfolding rowFor
   row-like held w =
-      row-through (eqb (a .tag) 0x5e) (a .at) (actOf hi s a) (unfolded held (bytesIn s (a .attrs) 139)) w
+      row-through (eqb (a .tag) 0x5e) (a .at) (actOf set s a) (unfolded held (bytesIn s (a .attrs) 139)) w
       ∙ (λ i. pick (eqb (h .tag i) 0x5e) (walk (unfolded held (h .name i)) (step idle w)) (step (act-like i) w))
-      ∙ sym (row-through (eqb (b .tag) 0x5e) (b .at) (actOf ho t b) (unfolded held (bytesIn t (b .attrs) 139)) w)
+      ∙ sym (row-through (eqb (b .tag) 0x5e) (b .at) (actOf other t b) (unfolded held (bytesIn t (b .attrs) 139)) w)
 
   -- as many operators are performed for the one as for the other
-  row-length : (held : List Motif) → length (rowFor hi s held a) ≡ length (rowFor ho t held b)
+  row-length : (held : List Motif) → length (rowFor set s held a) ≡ length (rowFor other t held b)
   unfolding from
   row-length held =
       let w = from (blank false) 0 in
-      let e : walk (rowFor hi s held a) w .count ≡ walk (rowFor ho t held b) w .count = ap (λ v. v .count) (row-like held w) in
-      let f = walk-count (rowFor hi s held a) w in
-      let g = walk-count (rowFor ho t held b) w in
+      let e : walk (rowFor set s held a) w .count ≡ walk (rowFor other t held b) w .count = ap (λ v. v .count) (row-like held w) in
+      let f = walk-count (rowFor set s held a) w in
+      let g = walk-count (rowFor other t held b) w in
       omega arith
 
-  picture-like : (v : Picture) → pictureAfter hi s a v ≡ pictureAfter ho t b v
+  picture-like : (v : Picture) → pictureAfter (set .high) s a v ≡ pictureAfter (other .high) t b v
   unfolding pictureAfter begun
   picture-like v =
       λ i. pick (eqb (h .tag i) 0xb0)
@@ -198,18 +219,18 @@ module _ (set other : Setting) (same-gray : set .gray ≡ other .gray) (s t : Li
       let z = sessionOf (x .place) in
       let v = sessionOf (y .place) in
       let many = h .many in
-      let rows : length (rowFor hi s (z .held) a) ≡ length (rowFor ho t (v .held) b) = row-length (z .held) ∙ (λ i. length (rowFor ho t (e i .held) b)) in
-      let k = walk-count (rowFor hi s (z .held) a) (from (pageOf (z .busy)) (x .performed)) in
-      let l = walk-count (rowFor ho t (v .held) b) (from (pageOf (v .busy)) (y .performed)) in
+      let rows : length (rowFor set s (z .held) a) ≡ length (rowFor other t (v .held) b) = row-length (z .held) ∙ (λ i. length (rowFor other t (e i .held) b)) in
+      let k = walk-count (rowFor set s (z .held) a) (from (pageOf (z .busy)) (x .performed)) in
+      let l = walk-count (rowFor other t (v .held) b) (from (pageOf (v .busy)) (y .performed)) in
       record {
         session = e;
         tag = h .tag;
         size = h .size;
         name = h .name;
         seen = ap uncounted (row-like (z .held) (from (pageOf (z .busy)) (x .performed)))
-            ∙ (λ i. uncounted (walk (rowFor ho t (e i .held) b) (from (pageOf (e i .busy)) (x .performed))))
-            ∙ walk-uncounted (rowFor ho t (v .held) b) (from (pageOf (v .busy)) (x .performed)) (from (pageOf (v .busy)) (y .performed)) refl;
-        made = λ i. judgedAt (e i .held) (joinedOf (e i .busy)) (h .tag i);
+            ∙ (λ i. uncounted (walk (rowFor other t (e i .held) b) (from (pageOf (e i .busy)) (x .performed))))
+            ∙ walk-uncounted (rowFor other t (v .held) b) (from (pageOf (v .busy)) (x .performed)) (from (pageOf (v .busy)) (y .performed)) refl;
+        made = (λ i. judgedAt set (e i .held) (joinedOf (e i .busy)) (h .tag i)) ∙ judged-akin akin (v .held) (joinedOf (v .busy)) (b .tag);
         count = omega arith;
         records = omega arith;
       }
@@ -220,12 +241,12 @@ module _ (set other : Setting) (same-gray : set .gray ≡ other .gray) (s t : Li
       λ i. record {
         held = z .held;
         opened = pick (eqb (h .tag i) 0x48) true (pick (eqb (h .tag i) 0x49) false (z .opened));
-        busy = pick (eqb (h .tag i) 0x43) (drawing (blank (same-gray i)) Picture.none) (pick (eqb (h .tag i) 0x5b) (reading (h .name i) []) resting);
+        busy = pick (eqb (h .tag i) 0x43) (drawing (blank (akin .gray i)) Picture.none) (pick (eqb (h .tag i) 0x5b) (reading (h .name i) []) resting);
       }
   session-like p q e (reading n j) z =
       λ i. pick (eqb (h .tag i) 0x5c)
       (record { held = z .held; opened = z .opened; busy = reading n (j ++ h .block i) })
-      (record { held = keptAs n j (motifOf (z .held) j) (z .held); opened = z .opened; busy = resting })
+      (record { held = keptAs n j (motif-akin akin (z .held) j i) (z .held); opened = z .opened; busy = resting })
   session-like p q e (drawing o v) z =
       λ i. pick (eqb (h .tag i) 0x44)
       (record { held = z .held; opened = z .opened; busy = resting })

@@ -10,14 +10,15 @@ use borrow.Author.Tests.{le-ltb}
 use lib.ListN.{length, drop, length-drop}
 use Rattle.scope.specs.Item.{after as blackAfter}
 use Rattle.scope.specs.Reading.{Operator, Read}
-use Rattle.scope.specs.Session.{Setting, outside}
+use Rattle.scope.specs.Setting.{Setting}
+use Rattle.scope.specs.Session.{outside}
 use Rattle.scope.specs.Judge.{State, Outcome, contextOf, judgedFrom}
 use Rattle.scope.specs.Verdict.{every, judgedAfter, entryOf, outcomeAt, outcomeOf}
 use Rattle.scope.specs.Runs.{readAt, ended, onto}
 use Rattle.scope.specs.Claims.{Reached, limit, OperatorsMoved, SameFrom, Alike, Isolated}
 use Rattle.scope.proofs.Ends.{after-le}
 use Rattle.scope.proofs.Runs.{runs-of, runs-judged, runs-past, ends-state}
-use Rattle.scope.proofs.Says.{LikePlace, outsides}
+use Rattle.scope.proofs.Says.{akin-refl, LikePlace, outsides}
 use Rattle.scope.proofs.Apart.{clash-of}
 use Rattle.scope.proofs.Goes.{read-goes}
 use Rattle.scope.proofs.Moved.{pairwise-listed, starts-listed}
@@ -72,7 +73,7 @@ module _ (s t : List ℕ) (a b : State) (hp : a .at ≤ length s) (hq : b .at �
       })
 
   -- from two states on that are the same but for their places in the bytes and for what went before
-  pub alike-from : LikeState every every (λ k _. refl) set set refl s t (Far s t (a .at) (b .at) hp hq same-bytes) (a .performed) (b .performed) (a .records) (b .records) a b
+  pub alike-from : LikeState every every (λ k _. refl) set set akin-refl s t (Far s t (a .at) (b .at) hp hq same-bytes) (a .performed) (b .performed) (a .records) (b .records) a b
       → Alike a b room space (judgedFrom every set s room a) (judgedFrom every set t space b)
   alike-from l =
       alike-of (two-judged s t (a .at) (b .at) hp hq same-bytes every every (λ k _. refl) set (a .performed) (b .performed) (a .records) (b .records) room space a b l)
@@ -86,24 +87,24 @@ module _ (s t : List ℕ) (a b : State) (hp : a .at ≤ length s) (hq : b .at �
       alike-from
       (record {
         at = far-start s t (a .at) (b .at) hp hq same-bytes;
-        place = subst₂ (LikePlace more) (sym ea) (sym eb) (outsides (read-goes (contextOf every (set .high) (a .place)) s (a .at) goes));
+        place = subst₂ (LikePlace more) (sym ea) (sym eb) (outsides (read-goes (contextOf every set (a .place)) s (a .at) goes));
         performed = omega arith;
         records = omega arith;
       })
 
 -- the outcome of a job is that of the state which it comes to
-pub reached-judged : (gray : Bool) (job : List ℕ) (work room : ℕ) (high : Bool) (st : State) → 16384 ≤ work → length job ≤ 61440 → Reached gray job room high st
-    → outcomeOf gray every job work room ≡ judgedFrom every (record { high = high; gray = gray }) job room st
+pub reached-judged : (set : Setting) (job : List ℕ) (work room : ℕ) (st : State) → 16384 ≤ work → length job ≤ 61440 → Reached set job room st
+    → outcomeOf (set .gray) every job work room ≡ judgedFrom every set job room st
 unfolding outcomeOf outcomeAt judgedAfter entryOf
-reached-judged gray job work room high st h k b =
-    rw (le-ltb work 16384 h, le-ltb 61440 (length job) k, b .header) (runs-judged every (record { high = high; gray = gray }) job room (b .runs))
+reached-judged set job work room st h k b =
+    rw (le-ltb work 16384 h, le-ltb 61440 (length job) k, b .header) (runs-judged every set job room (b .runs))
 
 pub isolated : Isolated
-isolated gray job other work work′ room space high a b h k l m x y same-bytes goes =
-    let i = after-le high job (a .at) in
+isolated set job other work work′ room space a b h k l m x y same-bytes goes =
+    let i = after-le (set .high) job (a .at) in
     let d : length job - a .at ≡ length other - b .at = sym (length-drop (a .at) job) ∙ ap length same-bytes ∙ length-drop (b .at) other in
-    subst₂ (Alike a b room space) (sym (reached-judged gray job work room high a h l (x .there))) (sym (reached-judged gray other work′ space high b k m (y .there)))
-    (judged-alike job other a b (omega arith) (omega arith) same-bytes (record { high = high; gray = gray }) room space (x .after-one) (y .after-one) (x .stands) (y .stands) goes)
+    subst₂ (Alike a b room space) (sym (reached-judged set job work room a h l (x .there))) (sym (reached-judged set other work′ space b k m (y .there)))
+    (judged-alike job other a b (omega arith) (omega arith) same-bytes set room space (x .after-one) (y .after-one) (x .stands) (y .stands) goes)
 
 -- where neither is 26 or 28, the same from there on
 pub alike-same : {a b : State} {room space : ℕ} {e f : Outcome} → Alike a b room space e f → limit (e .code) ≡ false → limit (f .code) ≡ false → SameFrom a b e f

@@ -11,6 +11,7 @@ use Rattle.scope.specs.Choice
 use Rattle.scope.specs.Iterate
 use Rattle.scope.specs.Number
 use Rattle.scope.specs.Header
+use Rattle.scope.specs.Setting.{Setting}
 use Rattle.scope.specs.Item
 use Rattle.scope.specs.Table
 use Rattle.scope.specs.Attributes
@@ -36,8 +37,8 @@ alone = H ++ (S ++ (P ++ X 0x61))
 abbrev pub behind : List ℕ
 behind = H ++ (S ++ (O ++ (M 0x61 [] ++ (op CloseDataSource ++ (E ++ (S ++ (P ++ X 0x61)))))))
 
-abbrev pub low : Session.Setting
-low = record { high = false; gray = false }
+abbrev pub low : Setting
+low = record { class = Header.one; high = false; gray = false }
 
 -- seven operators of the job: the first session
 abbrev pub seven : Iterate.Next Judge.State Judge.Outcome
@@ -54,20 +55,20 @@ there = record { at = 71; place = Session.outside true; performed = 7; records =
 
 -- by computing: the seven operators come there; both jobs have a header, and both get 21
 computed : (seven ≡ Iterate.go there)
-    × (Header.headerOf behind ≡ Header.Header.is false 16)
-    × (Header.headerOf alone ≡ Header.Header.is false 16)
+    × (Header.headerOf behind ≡ Header.Header.is Header.one false 16)
+    × (Header.headerOf alone ≡ Header.Header.is Header.one false 16)
     × (Verd.outcomeOf false Verd.every behind 16384 65536 .code ≡ 21)
     × (Verd.outcomeOf false Verd.every alone 16384 65536 .code ≡ 21)
-unfolding Choice.among Choice.same Iterate.run Iterate.iterate Number.digits Number.number Header.mayStand Header.formFrom Header.classed Header.headerOf Item.white Item.spaces Item.after Item.widthOf Item.kindOf Item.numbersAt Item.elementsAt Item.countedAt Item.arrayAt Item.valueOf Item.numbered Item.numberAt Item.pairOf Item.pairAt Item.endedWith Item.onPair Item.scanItem Item.scanStep Item.scanFrom Item.scanAt Table.table Table.lineIn Table.ruleIn Attributes.has Attributes.twoAt Attributes.finite Attributes.above Attributes.firstOf Attributes.typeTaken Attributes.inRange Attributes.attributeCode Attributes.oneByOne Attributes.allThere Attributes.howMany Attributes.choiceCode Attributes.formCode Attributes.valueIn Attributes.bytesIn Data.bitsOf Data.rowOf Data.pointBytes Data.dueOf Data.blockOf Data.blockAt Order.drawn Order.mayCome Order.rowsFit Reading.withBlock Reading.withData Reading.asWhole Reading.withAttributes Reading.withLine Reading.scanned Reading.operatorAt Arm.needsCursor Arm.needsSpace Arm.effectOf Arm.actOf Arm.done Arm.risen Arm.step Arm.walk Arm.from Motif.heldAs Motif.isHeld Motif.flat Motif.unfolded Motif.bytesHeld Motif.begun Motif.readOn Motif.pictureAfter Motif.savedAfter Motif.phaseIn Motif.contextIn Motif.onCall Motif.onDeed Motif.onEnd Motif.onRead Motif.motifStep Motif.judgedInside Motif.motifFrom Motif.motifOf Session.phaseDrawing Session.phaseBusy Session.phaseOf Session.rowFor Session.keptAs Session.sessionAfter Session.placeAfter Judge.judgedAt Judge.caseOf Judge.tooMuch Judge.nameHeld Judge.nameMissing Judge.sourceClosed Judge.savedOver Judge.cursorUnset Judge.spaceWrong Judge.countOver Judge.roomOver Judge.rules Judge.firstBroken Judge.after Judge.endAt Judge.onRefusal Judge.onCase Judge.onRead Judge.contextOf Judge.jobStep Judge.judgedFrom Verd.layout Verd.judgedAfter Verd.entryOf Verd.outcomeAt Verd.outcomeOf Verd.verdictOf Verd.four Verd.attributeRecord Verd.operatorRecord Verd.attributeRecords Verd.recordsBefore Verd.listOf Verd.listAfter Verd.zeros Verd.clearedBy Verd.workAfter steps performedIn
+unfolding Choice.among Choice.same Iterate.run Iterate.iterate Number.digits Number.number Header.mayStand Header.formFrom Header.classed Header.headerOf Item.white Item.spaces Item.after Item.widthOf Item.kindOf Item.numbersAt Item.elementsAt Item.countedAt Item.arrayAt Item.valueOf Item.numbered Item.numberAt Item.pairOf Item.pairAt Item.endedWith Item.onPair Item.scanItem Item.scanStep Item.scanFrom Item.scanAt Table.tableOne Table.tableTwo Table.table Table.lineIn Table.ruleIn Attributes.has Attributes.twoAt Attributes.finite Attributes.above Attributes.firstOf Attributes.typeTaken Attributes.inRange Attributes.attributeCode Attributes.oneByOne Attributes.allThere Attributes.howMany Attributes.choiceCode Attributes.formCode Attributes.valueIn Attributes.bytesIn Data.bitsOf Data.rowOf Data.padOf Data.blockDue Data.pointBytes Data.dueOf Data.blockOf Data.blockAt Order.drawn Order.mayCome Order.lengthFits Order.rowsFit Reading.withBlock Reading.withData Reading.asWhole Reading.withAttributes Reading.withLine Reading.scanned Reading.operatorAt Arm.needsCursor Arm.needsSpace Arm.effectOf Arm.actOf Arm.done Arm.risen Arm.step Arm.walk Arm.from Motif.heldAs Motif.isHeld Motif.flat Motif.unfolded Motif.bytesHeld Motif.begun Motif.readOn Motif.pictureAfter Motif.savedAfter Motif.phaseIn Motif.contextIn Motif.onCall Motif.onDeed Motif.onEnd Motif.onRead Motif.motifStep Motif.judgedInside Motif.motifFrom Motif.motifOf Session.phaseDrawing Session.phaseBusy Session.phaseOf Session.rowFor Session.keptAs Session.sessionAfter Session.placeAfter Judge.judgedAt Judge.caseOf Judge.tooMuch Judge.nameHeld Judge.nameMissing Judge.sourceClosed Judge.savedOver Judge.cursorUnset Judge.spaceWrong Judge.countOver Judge.roomOver Judge.rules Judge.firstBroken Judge.after Judge.endAt Judge.onRefusal Judge.onCase Judge.onRead Judge.contextOf Judge.jobStep Judge.judgedFrom Verd.layout Verd.judgedAfter Verd.entryOf Verd.outcomeAt Verd.outcomeOf Verd.verdictOf Verd.four Verd.attributeRecord Verd.operatorRecord Verd.attributeRecords Verd.recordsBefore Verd.listOf Verd.listAfter Verd.zeros Verd.clearedBy Verd.workAfter steps performedIn
 computed = (refl, refl, refl, refl, refl)
 
-second-there : Between false behind 65536 false there
+second-there : Between low behind 65536 there
 second-there =
     let r = steps-reach Verd.every low behind 65536 7 (Judge.starting 16) there (computed .0) in
     record { there = record { next = 16; header = computed .1; before = r .ops; runs = r .runs }; after-one = true; stands = refl }
 
-first-there : Between false alone 65536 false (Judge.starting 16)
-first-there = between-start false alone 65536 false 16 (computed .2)
+first-there : Between low alone 65536 (Judge.starting 16)
+first-there = between-start low alone 65536 16 (computed .2)
 
 something : Item.after behind 71 < length behind
 unfolding Item.after Item.spaces Item.white
@@ -77,5 +78,5 @@ something = omega arith
 pub own-motifs-only : SameFrom there (Judge.starting 16) (Verd.outcomeOf false Verd.every behind 16384 65536) (Verd.outcomeOf false Verd.every alone 16384 65536)
 own-motifs-only =
     alike-same
-    (isolated false behind alone 16384 16384 65536 65536 false there (Judge.starting 16) (omega arith) (omega arith) (omega arith) (omega arith) second-there first-there refl something)
+    (isolated low behind alone 16384 16384 65536 65536 there (Judge.starting 16) (omega arith) (omega arith) (omega arith) (omega arith) second-there first-there refl something)
     (rw (computed .3) refl) (rw (computed .4) refl)

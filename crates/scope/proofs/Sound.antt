@@ -12,6 +12,7 @@ use lib.Dec.{leb, eqb}
 use Rattle.scope.specs.Choice.{pick, same}
 use Rattle.scope.specs.Header.{Header, headerOf}
 use Rattle.scope.specs.Attributes.{bytesIn}
+use Rattle.scope.specs.Setting.{Setting, ofMotif, sameClass}
 use Rattle.scope.specs.Reading.{Operator, Read}
 use Rattle.scope.specs.Arm.{Act, idle, actOf, Stroke}
 use Rattle.scope.specs.Motif.{Own, does, calls, Motif, Held, heldAs, isHeld, flat, unfolded, Picture, Judged, valid, faulty, Inside, onCall, onDeed, onEnd, onRead, motifStep, judgedInside, motifFrom, motifOf}
@@ -56,7 +57,7 @@ module _ (ms : List Motif) where
     fine : {ops : List Own} {d : ℕ} → Calls ms d ops → 1 ≤ d → d ≤ 32 → Nests (valid ops d)
     ill : {code inner : ℕ} → Nests (faulty code inner)
 
-  module _ (high : Bool) (s : List ℕ) where
+  module _ (set : Setting) (s : List ℕ) where
     call-nests : (o : Operator) (n : List ℕ) (w : Inside) (x : Held) → heldAs n ms ≡ x → Inner w → Kept Inner Nests (onCall o n w x)
     unfolding onCall
     call-nests o n w Held.none e i = kept-stop ill
@@ -74,7 +75,7 @@ module _ (ms : List Motif) where
     end-nests w (Picture.being i) k = ill
     end-nests w Picture.none k = pick-all Nests (eqb (w .saved) 0) (λ _. fine (k .own) (k .some) (k .few)) (λ _. ill)
 
-    read-nests : (w : Inside) → Inner w → (r : Read) → Kept Inner Nests (onRead ms high s w r)
+    read-nests : (w : Inside) → Inner w → (r : Read) → Kept Inner Nests (onRead ms set s w r)
     unfolding onRead onDeed
     read-nests w i (Read.operator o) =
         pick-all (Kept Inner Nests) (eqb (o .tag) 0x5e) (λ _. call-nests o _ w _ refl i)
@@ -82,25 +83,27 @@ module _ (ms : List Motif) where
     read-nests w i Read.ended = kept-stop (end-nests w (w .picture) i)
     read-nests w i (Read.no code place) = kept-stop ill
 
-    step-nests : (w : Inside) → Inner w → Kept Inner Nests (motifStep ms high s w)
+    step-nests : (w : Inside) → Inner w → Kept Inner Nests (motifStep ms set s w)
     unfolding motifStep
     step-nests w i = read-nests w i _
 
-  from-nests : (s : List ℕ) (h : Header) → Nests (motifFrom ms s h)
+  from-nests : (set : Setting) (s : List ℕ) (h : Header) → Nests (motifFrom set ms s h)
   unfolding motifFrom judgedInside
-  from-nests s (Header.no code place) = ill
-  from-nests s (Header.is high next) =
-      iterate-holds (motifStep ms high s) (faulty 5 0) Inner Nests ill (step-nests high s) _ _ (record { own = none; some = omega arith; few = omega arith })
+  from-nests set s (Header.no code place) = ill
+  from-nests set s (Header.is class high next) =
+      pick-all Nests (sameClass class (set .class))
+      (λ _. iterate-holds (motifStep ms (ofMotif set high) s) (faulty 5 0) Inner Nests ill (step-nests (ofMotif set high) s) _ _
+      (record { own = none; some = omega arith; few = omega arith })) (λ _. ill)
 
-  motif-nests : (s : List ℕ) → Nests (motifOf ms s)
+  motif-nests : (set : Setting) (s : List ℕ) → Nests (motifOf set ms s)
   unfolding motifOf
-  motif-nests s = from-nests s (headerOf s)
+  motif-nests set s = from-nests set s (headerOf s)
 
--- what is held
-pub data Sound : List Motif → Type 0 where
-  none : Sound []
-  more : {m : Motif} {ms : List Motif} → motifOf ms (m .bytes) ≡ valid (m .ops) (m .depth) → m .number ≡ suc (length ms) → heldAs (m .name) ms ≡ Held.none
-      → Sound ms → Sound (m ∷ ms)
+-- what is held, in a job of this setting
+pub data Sound (set : Setting) : List Motif → Type 0 where
+  none : Sound set []
+  more : {m : Motif} {ms : List Motif} → motifOf set ms (m .bytes) ≡ valid (m .ops) (m .depth) → m .number ≡ suc (length ms) → heldAs (m .name) ms ≡ Held.none
+      → Sound set ms → Sound set (m ∷ ms)
 
 record Nested (ms : List Motif) (m : Motif) : Type 0 where
   own : Calls ms (m .depth) (m .ops)
@@ -110,8 +113,8 @@ record Nested (ms : List Motif) (m : Motif) : Type 0 where
 nests-in : (ms : List Motif) (m : Motif) → Nests ms (valid (m .ops) (m .depth)) → Nested ms m
 nests-in ms m (Nests.fine a b c) = record { own = a; some = b; few = c }
 
-nested : (ms : List Motif) (m : Motif) → motifOf ms (m .bytes) ≡ valid (m .ops) (m .depth) → Nested ms m
-nested ms m e = nests-in ms m (subst (Nests ms) e (motif-nests ms (m .bytes)))
+nested : (set : Setting) (ms : List Motif) (m : Motif) → motifOf set ms (m .bytes) ≡ valid (m .ops) (m .depth) → Nested ms m
+nested set ms m e = nests-in ms m (subst (Nests ms) e (motif-nests ms set (m .bytes)))
 
 -- names and bytes of what is held
 unfoldable pub knownOf : List Motif → List Known
@@ -126,7 +129,7 @@ known-length (m ∷ ms) = ap suc (known-length ms)
 abbrev Agrees : List Known → List Motif → Type 0
 Agrees K ms = (n : List ℕ) (m : Motif) → heldAs n ms ≡ Held.is m → knownAs n K ≡ Found.is (m .number) (m .bytes)
 
-agrees : {ms : List Motif} → Sound ms → Agrees (knownOf ms) ms
+agrees : {set : Setting} {ms : List Motif} → Sound set ms → Agrees (knownOf ms) ms
 unfolding heldAs knownAs knownOf
 agrees none n m h = not-held-as h
 agrees (more {m = x} {ms = xs} e num new k) n m h = by (same (x .name) n) h (agrees k)
@@ -156,56 +159,56 @@ held-here : (x : Motif) (xs : List Motif) (n : List ℕ) → same (x .name) n �
 unfolding heldAs
 held-here x xs n t = ap (λ b. elim b [ true ↦ Held.is x | false ↦ heldAs n xs ]) t
 
-module _ (K : List Known) where
+module _ (set : Setting) (K : List Known) where
   abbrev Unfolds : List Motif → Type 0
-  Unfolds ms = (d : ℕ) (n : List ℕ) (m : Motif) → heldAs n ms ≡ Held.is m → m .depth ≤ d → called K d n ≡ unfolded ms n
+  Unfolds ms = (d : ℕ) (n : List ℕ) (m : Motif) → heldAs n ms ≡ Held.is m → m .depth ≤ d → called set K d n ≡ unfolded ms n
 
   -- the motif itself
-  called-one : (x : Motif) (xs : List Motif) → motifOf xs (x .bytes) ≡ valid (x .ops) (x .depth) → Unfolds xs
-      → (d : ℕ) (n : List ℕ) → knownAs n K ≡ Found.is (x .number) (x .bytes) → x .depth ≤ d → called K d n ≡ flat (unfolded xs) (x .number) (x .ops)
+  called-one : (x : Motif) (xs : List Motif) → motifOf set xs (x .bytes) ≡ valid (x .ops) (x .depth) → Unfolds xs
+      → (d : ℕ) (n : List ℕ) → knownAs n K ≡ Found.is (x .number) (x .bytes) → x .depth ≤ d → called set K d n ≡ flat (unfolded xs) (x .number) (x .ops)
   unfolding called
-  called-one x xs e ih zero n f l = let a = nested xs x e .some in absurd (omega arith)
+  called-one x xs e ih zero n f l = let a = nested set xs x e .some in absurd (omega arith)
   called-one x xs e ih (suc d) n f l =
-      ap (ownOf (called K d)) f ∙ read-again (called K d) (x .number) xs (x .bytes) e
-      ∙ flat-cong (called K d) (unfolded xs) (x .number) xs (x .depth) (λ c m h k. let z : m .depth ≤ d = omega arith in ih d c m h z) (nested xs x e .own)
+      ap (ownOf (called set K d) set) f ∙ read-again (called set K d) (x .number) set xs (x .bytes) e
+      ∙ flat-cong (called set K d) (unfolded xs) (x .number) xs (x .depth) (λ c m h k. let z : m .depth ≤ d = omega arith in ih d c m h z) (nested set xs x e .own)
 
-  called-is : {ms : List Motif} → Sound ms → Agrees K ms → Unfolds ms
+  called-is : {ms : List Motif} → Sound set ms → Agrees K ms → Unfolds ms
   unfolding heldAs unfolded
   called-is none a d n m h l = not-held-as h
   called-is (more {m = x} {ms = xs} e num new k) a d n m h l =
       by (called-is k (λ c y g. a c y (held-on x xs new c y g))) (same (x .name) n) refl h
     where
       by : Unfolds xs → (b : Bool) → same (x .name) n ≡ b → elim b [ true ↦ Held.is x | false ↦ heldAs n xs ] ≡ Held.is m
-          → called K d n ≡ elim b [ true ↦ flat (unfolded xs) (x .number) (x .ops) | false ↦ unfolded xs n ]
+          → called set K d n ≡ elim b [ true ↦ flat (unfolded xs) (x .number) (x .ops) | false ↦ unfolded xs n ]
       by rest true t g =
           let q = is-same g in
           called-one x xs e rest d n (a n x (held-here x xs n t)) (subst⁻¹ (λ (y : Motif). y .depth ≤ d) q l)
       by rest false t g = rest d n m g l
 
 -- all nest within 32
-held-few : {ms : List Motif} → Sound ms → (n : List ℕ) (m : Motif) → heldAs n ms ≡ Held.is m → m .depth ≤ 32
+held-few : {set : Setting} {ms : List Motif} → Sound set ms → (n : List ℕ) (m : Motif) → heldAs n ms ≡ Held.is m → m .depth ≤ 32
 unfolding heldAs
 held-few none n m h = not-held-as h
-held-few (more {m = x} {ms = xs} e num new k) n m h = by (same (x .name) n) h (held-few k n m)
+held-few {set} (more {m = x} {ms = xs} e num new k) n m h = by (same (x .name) n) h (held-few k n m)
   where
     by : (b : Bool) → elim b [ true ↦ Held.is x | false ↦ heldAs n xs ] ≡ Held.is m → (heldAs n xs ≡ Held.is m → m .depth ≤ 32) → m .depth ≤ 32
-    by true g f = subst (λ (y : Motif). y .depth ≤ 32) (is-same g) (nested xs x e .few)
+    by true g f = subst (λ (y : Motif). y .depth ≤ 32) (is-same g) (nested set xs x e .few)
     by false g f = f g
 
 -- what the plain arm performs for an operator of the job is its row
-pub row-again : (high : Bool) (s : List ℕ) {held : List Motif} (o : Operator) → Sound held
+pub row-again : (set : Setting) (s : List ℕ) {held : List Motif} (o : Operator) → Sound set held
     → (eqb (o .tag) 0x5e && not (isHeld (heldAs (bytesIn s (o .attrs) 139) held))) ≡ false
-    → strokesOf (called (knownOf held) 32) 0 high s o ≡ rowFor high s held o
+    → strokesOf (called set (knownOf held) 32) 0 set s o ≡ rowFor set s held o
 unfolding strokesOf rowFor isHeld
-row-again high s {held} o k h = by (eqb (o .tag) 0x5e) h
+row-again set s {held} o k h = by (eqb (o .tag) 0x5e) h
   where
     found : (x : Held) → heldAs (bytesIn s (o .attrs) 139) held ≡ x → not (isHeld x) ≡ false
-        → called (knownOf held) 32 (bytesIn s (o .attrs) 139) ≡ unfolded held (bytesIn s (o .attrs) 139)
-    found (Held.is m) e f = called-is (knownOf held) k (agrees k) 32 (bytesIn s (o .attrs) 139) m e (held-few k (bytesIn s (o .attrs) 139) m e)
+        → called set (knownOf held) 32 (bytesIn s (o .attrs) 139) ≡ unfolded held (bytesIn s (o .attrs) 139)
+    found (Held.is m) e f = called-is set (knownOf held) k (agrees k) 32 (bytesIn s (o .attrs) 139) m e (held-few k (bytesIn s (o .attrs) 139) m e)
     found Held.none e f = clash-of f
 
     by : (b : Bool) → (b && not (isHeld (heldAs (bytesIn s (o .attrs) 139) held))) ≡ false
-        → pick b (record { motif = 0; at = o .at; act = idle } ∷ called (knownOf held) 32 (bytesIn s (o .attrs) 139)) (record { motif = 0; at = o .at; act = actOf high s o } ∷ [])
-        ≡ pick b (record { motif = 0; at = o .at; act = idle } ∷ unfolded held (bytesIn s (o .attrs) 139)) (record { motif = 0; at = o .at; act = actOf high s o } ∷ [])
+        → pick b (record { motif = 0; at = o .at; act = idle } ∷ called set (knownOf held) 32 (bytesIn s (o .attrs) 139)) (record { motif = 0; at = o .at; act = actOf set s o } ∷ [])
+        ≡ pick b (record { motif = 0; at = o .at; act = idle } ∷ unfolded held (bytesIn s (o .attrs) 139)) (record { motif = 0; at = o .at; act = actOf set s o } ∷ [])
     by true f = ap (λ l. record { motif = 0; at = o .at; act = idle } ∷ l) (found (heldAs (bytesIn s (o .attrs) 139) held) refl f)
     by false f = refl

@@ -12,7 +12,8 @@ use Rattle.scope.specs.Order.{mayCome, drawn, between-sessions, in-sessi
 use Rattle.scope.specs.Reading.{Operator}
 use Rattle.scope.specs.Arm.{Page, Seen, blank, actOf, effectOf, done, walk, step, from, Stroke}
 use Rattle.scope.specs.Motif.{Motif, Picture, unfolded}
-use Rattle.scope.specs.Session.{Setting, Busy, resting, reading, drawing, Session, Place, outside, inside, sessionOf, phaseOf, phaseBusy, phaseDrawing, pageOf, rowFor, sessionAfter, placeAfter}
+use Rattle.scope.specs.Setting.{Setting}
+use Rattle.scope.specs.Session.{Busy, resting, reading, drawing, Session, Place, outside, inside, sessionOf, phaseOf, phaseBusy, phaseDrawing, pageOf, rowFor, sessionAfter, placeAfter}
 use Rattle.scope.specs.Judge.{State, Case, caseOf, after}
 use Rattle.scope.specs.Plain.{Turn, stays, opens, closes, begins, ends, turnOf, openedBy, pageBy, PlainArm, performed, deeds}
 use Rattle.scope.proofs.Ends.{pick-all}
@@ -27,11 +28,11 @@ call-stays : (gray : Bool) (tag : ℕ) → eqb tag 0x5e ≡ true → turnOf gray
 unfolding turnOf
 call-stays gray tag e = rw (eqb-true tag 0x5e e) refl
 
-pub row-shaped : (gray high : Bool) (s : List ℕ) (held : List Motif) (o : Operator) → Shaped (turnOf gray (o .tag)) (rowFor high s held o)
+pub row-shaped : (set : Setting) (s : List ℕ) (held : List Motif) (o : Operator) → Shaped (turnOf (set .gray) (o .tag)) (rowFor set s held o)
 unfolding rowFor
-row-shaped gray high s held o =
-    pick-all (Shaped (turnOf gray (o .tag))) (eqb (o .tag) 0x5e)
-    (λ e. shaped (subst⁻¹ (λ t. Fits t (unfolded held (bytesIn s (o .attrs) 139))) (call-stays gray (o .tag) e) staying)) (λ _. shaped alone)
+row-shaped set s held o =
+    pick-all (Shaped (turnOf (set .gray) (o .tag))) (eqb (o .tag) 0x5e)
+    (λ e. shaped (subst⁻¹ (λ t. Fits t (unfolded held (bytesIn s (o .attrs) 139))) (call-stays (set .gray) (o .tag) e) staying)) (λ _. shaped alone)
 
 -- an operator that is no call and leaves the page as it is
 record Quiet (tag : ℕ) : Type 0 where
@@ -41,15 +42,16 @@ record Quiet (tag : ℕ) : Type 0 where
   set : eqb tag 0x6b ≡ false
   unset : eqb tag 0x85 ≡ false
   space : eqb tag 0x6a ≡ false
+  default : eqb tag 0x57 ≡ false
 
-quiet-page : (high : Bool) (s : List ℕ) (held : List Motif) (o : Operator) (p : Page) (n : ℕ) → Quiet (o .tag)
-    → walk (rowFor high s held o) (from p n) .page ≡ p
+quiet-page : (set : Setting) (s : List ℕ) (held : List Motif) (o : Operator) (p : Page) (n : ℕ) → Quiet (o .tag)
+    → walk (rowFor set s held o) (from p n) .page ≡ p
 unfolding rowFor walk step from actOf effectOf done
-quiet-page high s held o p n q = rw (q .call, q .push, q .pop, q .set, q .unset, q .space) refl
+quiet-page set s held o p n q = rw (q .call, q .push, q .pop, q .set, q .unset, q .space, q .default) refl
 
 quiet-by : (f : ℕ → Bool) (tag : ℕ) → f tag ≡ true → f 0x5e ≡ false → f 0x61 ≡ false → f 0x60 ≡ false → f 0x6b ≡ false → f 0x85 ≡ false
-    → f 0x6a ≡ false → Quiet tag
-quiet-by f tag h a b c d e g =
+    → f 0x6a ≡ false → f 0x57 ≡ false → Quiet tag
+quiet-by f tag h a b c d e g k =
     record {
       call = differs f tag 0x5e h a;
       push = differs f tag 0x61 h b;
@@ -57,6 +59,7 @@ quiet-by f tag h a b c d e g =
       set = differs f tag 0x6b h d;
       unset = differs f tag 0x85 h e;
       space = differs f tag 0x6a h g;
+      default = differs f tag 0x57 h k;
     }
 
 -- what a turn does, test by test
@@ -162,19 +165,19 @@ module _ (set : Setting) (s : List ℕ) (c : Case) where
       (λ e. ended-session x e h q) (λ _. in-session-of (x .busy) x h q)
 
 -- outside a page an operator leaves the blank page as it is
-module _ (high : Bool) (s : List ℕ) (held : List Motif) (o : Operator) (n : ℕ) where
+module _ (set : Setting) (s : List ℕ) (held : List Motif) (o : Operator) (n : ℕ) where
   quiet-busy : (b : Busy) (opened : Bool) → mayCome (phaseBusy b) opened (o .tag) ≡ true
-      → quietly b (walk (rowFor high s held o) (from (pageOf b) n) .page)
+      → quietly b (walk (rowFor set s held o) (from (pageOf b) n) .page)
   unfolding phaseBusy mayCome among
-  quiet-busy resting true h = quiet-page high s held o (blank false) n (quiet-by (mayCome in-session true) (o .tag) h refl refl refl refl refl refl)
-  quiet-busy resting false h = quiet-page high s held o (blank false) n (quiet-by (mayCome in-session false) (o .tag) h refl refl refl refl refl refl)
-  quiet-busy (reading a j) opened h = quiet-page high s held o (blank false) n (quiet-by (mayCome in-stream opened) (o .tag) h refl refl refl refl refl refl)
+  quiet-busy resting true h = quiet-page set s held o (blank false) n (quiet-by (mayCome in-session true) (o .tag) h refl refl refl refl refl refl refl)
+  quiet-busy resting false h = quiet-page set s held o (blank false) n (quiet-by (mayCome in-session false) (o .tag) h refl refl refl refl refl refl refl)
+  quiet-busy (reading a j) opened h = quiet-page set s held o (blank false) n (quiet-by (mayCome in-stream opened) (o .tag) h refl refl refl refl refl refl refl)
   quiet-busy (drawing p i) opened h = tt
 
   pub quiet-seen : (p : Place) → mayCome (phaseOf p) (sessionOf p .opened) (o .tag) ≡ true
-      → quietly (sessionOf p .busy) (walk (rowFor high s held o) (from (pageOf (sessionOf p .busy)) n) .page)
+      → quietly (sessionOf p .busy) (walk (rowFor set s held o) (from (pageOf (sessionOf p .busy)) n) .page)
   unfolding phaseOf mayCome
-  quiet-seen (outside b) h = quiet-page high s held o (blank false) n (quiet-by (mayCome between-sessions false) (o .tag) h refl refl refl refl refl refl)
+  quiet-seen (outside b) h = quiet-page set s held o (blank false) n (quiet-by (mayCome between-sessions false) (o .tag) h refl refl refl refl refl refl refl)
   quiet-seen (inside x) h = quiet-busy (x .busy) (x .opened) h
 
 -- where the plain arm stands in a state
@@ -186,13 +189,13 @@ shaped-performed opened t w (shaped {a = a} {l = l} f) = row-performed opened t 
 
 -- after an operator's row the plain arm stands where the state after it says
 pub stands : (set : Setting) (s : List ℕ) (st : State) (o : Operator) → mayCome (phaseOf (st .place)) (sessionOf (st .place) .opened) (o .tag) ≡ true
-    → performed (deeds (turnOf (set .gray) (o .tag)) (rowFor (set .high) s (sessionOf (st .place) .held) o)) (standing st)
-    ≡ standing (after set s st (caseOf (set .high) s st (sessionOf (st .place)) o))
+    → performed (deeds (turnOf (set .gray) (o .tag)) (rowFor set s (sessionOf (st .place) .held) o)) (standing st)
+    ≡ standing (after set s st (caseOf set s st (sessionOf (st .place)) o))
 unfolding after caseOf from
 stands set s st o h =
     let x = sessionOf (st .place) in
-    let c = caseOf (set .high) s st x o in
+    let c = caseOf set s st x o in
     let w = from (pageOf (x .busy)) (st .performed) in
-    let k = place-stands set s c (st .place) h (quiet-seen (set .high) s (x .held) o (st .performed) (st .place) h) in
-    shaped-performed (x .opened) (turnOf (set .gray) (o .tag)) w (row-shaped (set .gray) (set .high) s (x .held) o)
+    let k = place-stands set s c (st .place) h (quiet-seen set s (x .held) o (st .performed) (st .place) h) in
+    shaped-performed (x .opened) (turnOf (set .gray) (o .tag)) w (row-shaped set s (x .held) o)
     ∙ (λ i. record { opened = k .0 i; page = k .1 i; count = c .seen .count })

@@ -14,14 +14,14 @@ use Rattle.scope.specs.Reading.{Context, Operator, Read, withBlock, with
 use Rattle.scope.proofs.Ends.{pick-all}
 
 pub data Taken (c : Context) (s : List ℕ) : Read → Type 0 where
-  operator : {o : Operator} {r : Row} → lineIn table (o .tag) ≡ Line.is r → oneByOne (c .high) s (r .rules) [] (o .attrs) ≡ fine
-      → rowsFit (c .high) s (imageOf (c .phase)) (o .tag) (o .attrs) ≡ true → Taken c s (Read.operator o)
+  operator : {o : Operator} {r : Row} → lineIn (table (c .set .class)) (o .tag) ≡ Line.is r → oneByOne (c .set .high) s (r .rules) [] (o .attrs) ≡ fine
+      → rowsFit (c .set .high) s (imageOf (c .phase)) (o .tag) (o .attrs) ≡ true → Taken c s (Read.operator o)
   ended : Taken c s Read.ended
   no : {code place : ℕ} → Taken c s (Read.no code place)
 
-module _ (c : Context) (s : List ℕ) (tag p : ℕ) (l : List Attribute) (r : Row) (in-table : lineIn table tag ≡ Line.is r) where
-  module _ (one : oneByOne (c .high) s (r .rules) [] l ≡ fine) where
-    module _ (fit : rowsFit (c .high) s (imageOf (c .phase)) tag l ≡ true) where
+module _ (c : Context) (s : List ℕ) (tag p : ℕ) (l : List Attribute) (r : Row) (in-table : lineIn (table (c .set .class)) tag ≡ Line.is r) where
+  module _ (one : oneByOne (c .set .high) s (r .rules) [] l ≡ fine) where
+    module _ (fit : rowsFit (c .set .high) s (imageOf (c .phase)) tag l ≡ true) where
       block-taken : (due : ℕ) (f : Found) → Taken c s (withBlock tag p l due f)
       unfolding withBlock
       block-taken due (Found.at first) = operator in-table one fit
@@ -36,14 +36,14 @@ module _ (c : Context) (s : List ℕ) (tag p : ℕ) (l : List Attribute) (r : Ro
     unfolding asWhole
     whole-taken code =
         pick-all (Taken c s) (eqb code 0)
-        (λ _. pick-all (Taken c s) (rowsFit (c .high) s (imageOf (c .phase)) tag l) (λ t. data-taken t _) (λ _. no)) (λ _. no)
+        (λ _. pick-all (Taken c s) (rowsFit (c .set .high) s (imageOf (c .phase)) tag l) (λ t. data-taken t _) (λ _. no)) (λ _. no)
 
-  attributes-taken : (f : Fault) → oneByOne (c .high) s (r .rules) [] l ≡ f → Taken c s (withAttributes c s tag p l r f)
+  attributes-taken : (f : Fault) → oneByOne (c .set .high) s (r .rules) [] l ≡ f → Taken c s (withAttributes c s tag p l r f)
   unfolding withAttributes
   attributes-taken fine e = whole-taken e _
   attributes-taken (bad code place) e = no
 
-line-taken : (c : Context) (s : List ℕ) (tag p : ℕ) (l : List Attribute) (r : Line) → lineIn table tag ≡ r → Taken c s (withLine c s tag p l r)
+line-taken : (c : Context) (s : List ℕ) (tag p : ℕ) (l : List Attribute) (r : Line) → lineIn (table (c .set .class)) tag ≡ r → Taken c s (withLine c s tag p l r)
 unfolding withLine
 line-taken c s tag p l Line.none e = no
 line-taken c s tag p l (Line.is r) e =
@@ -51,10 +51,10 @@ line-taken c s tag p l (Line.is r) e =
 
 scanned-taken : (c : Context) (s : List ℕ) (r : Scan) → Taken c s (scanned c s r)
 unfolding scanned
-scanned-taken c s (Scan.tagged tag p l) = line-taken c s tag p l (lineIn table tag) refl
+scanned-taken c s (Scan.tagged tag p l) = line-taken c s tag p l (lineIn (table (c .set .class)) tag) refl
 scanned-taken c s Scan.ended = ended
 scanned-taken c s (Scan.no code place) = no
 
 pub read-taken : (c : Context) (s : List ℕ) (at : ℕ) → Taken c s (operatorAt c s at)
 unfolding operatorAt
-read-taken c s at = scanned-taken c s (scanAt (c .high) s at)
+read-taken c s at = scanned-taken c s (scanAt (c .set .high) s at)

@@ -28,7 +28,7 @@ module _ (Q : Read → Type 0) (refusals : (code place : ℕ) → Q (Read.no cod
   through-whole : (code : ℕ) → Q (asWhole c s tag at l code)
   unfolding asWhole
   through-whole code =
-      pick-all Q (eqb code 0) (λ _. pick-all Q (rowsFit (c .high) s (imageOf (c .phase)) tag l) (λ _. through-data _) (λ _. refusals _ _)) (λ _. refusals _ _)
+      pick-all Q (eqb code 0) (λ _. pick-all Q (rowsFit (c .set .high) s (imageOf (c .phase)) tag l) (λ _. through-data _) (λ _. refusals _ _)) (λ _. refusals _ _)
 
   through-attributes : (r : Row) (f : Fault) → Q (withAttributes c s tag at l r f)
   unfolding withAttributes

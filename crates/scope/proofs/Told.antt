@@ -14,7 +14,8 @@ use Rattle.scope.specs.Item.{Attribute, Pair, Scan, Walk, endedWith, onP
 use Rattle.scope.specs.Table.{table, lineIn}
 use Rattle.scope.specs.Reading.{Context, Operator, Read, scanned, operatorAt}
 use Rattle.scope.specs.Motif.{Motif, Judged, valid, faulty, motifOf}
-use Rattle.scope.specs.Session.{Setting, Place, outside, inside, sessionOf, joinedOf}
+use Rattle.scope.specs.Setting.{Setting, settingOf}
+use Rattle.scope.specs.Session.{Place, outside, inside, sessionOf, joinedOf}
 use Rattle.scope.specs.Judge.{State, Case, Rule, rule, motifs-own, rules, Refusal, ownOr, firstBroken, judgedAt, caseOf, contextOf, Outcome, outer, refusedAt, endAt, starting, judgedFrom}
 use Rattle.scope.specs.Verdict.{every, judgedAfter, Entry, entryOf, outcomeAt, outcomeOf, verdictOf}
 use Rattle.scope.specs.Runs.{readAt, caseAt, Ends, ended, unread, refused, Comes}
@@ -82,13 +83,13 @@ module _ (s : List ℕ) where
 
   scanned-tag : (c : Context) (r : Scan) → ScanTag r → ReadTag (scanned c s r)
   unfolding scanned
-  scanned-tag c (Scan.tagged tag at l) h = through ReadTag (λ _ _. tt) c s tag at l (λ o e f _. ap (λ k. getD s k 0) f ∙ h ∙ sym e) (lineIn table tag)
+  scanned-tag c (Scan.tagged tag at l) h = through ReadTag (λ _ _. tt) c s tag at l (λ o e f _. ap (λ k. getD s k 0) f ∙ h ∙ sym e) (lineIn (table (c .set .class)) tag)
   scanned-tag c Scan.ended h = tt
   scanned-tag c (Scan.no code place) h = tt
 
   pub read-tag : (c : Context) (at : ℕ) (o : Operator) → operatorAt c s at ≡ Read.operator o → getD s (o .at) 0 ≡ o .tag
   unfolding operatorAt
-  read-tag c at o e = subst ReadTag e (scanned-tag c (scanAt (c .high) s at) (scan-tag (c .high) at))
+  read-tag c at o e = subst ReadTag e (scanned-tag c (scanAt (c .set .high) s at) (scan-tag (c .set .high) at))
 
 -- a refusal says no inner place, or it is the motif's own
 data Whose (c : Case) : Refusal → Type 0 where
@@ -107,45 +108,45 @@ whose codes c (rule k broken ∷ rs) = pick-all (Whose c) (codes k && broken c) 
 whose codes c (motifs-own ∷ rs) = own-whose c (c .made) refl (firstBroken codes c rs) (whose codes c rs)
 
 -- a faulty motif is judged at an EndStream
-at-end : (held : List Motif) (joined : List ℕ) (tag code inner : ℕ) → judgedAt held joined tag ≡ faulty code inner → (tag ≡ 0x5d) × (motifOf held joined ≡ faulty code inner)
+at-end : (set : Setting) (held : List Motif) (joined : List ℕ) (tag code inner : ℕ) → judgedAt set held joined tag ≡ faulty code inner → (tag ≡ 0x5d) × (motifOf set held joined ≡ faulty code inner)
 unfolding judgedAt
-at-end held joined tag code inner e = by (eqb tag 0x5d) refl e
+at-end set held joined tag code inner e = by (eqb tag 0x5d) refl e
   where
-    by : (b : Bool) → eqb tag 0x5d ≡ b → pick b (motifOf held joined) (valid [] 1) ≡ faulty code inner → (tag ≡ 0x5d) × (motifOf held joined ≡ faulty code inner)
+    by : (b : Bool) → eqb tag 0x5d ≡ b → pick b (motifOf set held joined) (valid [] 1) ≡ faulty code inner → (tag ≡ 0x5d) × (motifOf set held joined ≡ faulty code inner)
     by true f g = (eqb-true tag 0x5d f, g)
     by false f g = not-valid (sym g)
 
 module _ (set : Setting) (s : List ℕ) (room : ℕ) where
-  end-inner : (st : State) (p : Place) → InnerSays s (endAt s st p)
+  end-inner : (st : State) (p : Place) → InnerSays set s (endAt s st p)
   unfolding endAt
   end-inner st (outside true) = nothing refl
   end-inner st (outside false) = nothing refl
   end-inner st (inside x) = nothing refl
 
   refused-inner : (st : State) (o : Operator) (code inner : ℕ) → readAt every set s st ≡ Read.operator o → Whose (caseAt set s st o) (Refusal.refused code inner)
-      → InnerSays s (refusedAt code (o .at) inner st)
+      → InnerSays set s (refusedAt code (o .at) inner st)
   unfolding caseOf contextOf
   refused-inner st o code inner r rule-of-job = nothing refl
   refused-inner st o code inner r (motif's e) =
       let x = sessionOf (st .place) in
-      let h = at-end (x .held) (joinedOf (x .busy)) (o .tag) code inner e in
-      of-motif (h .1) (motif-placed (x .held) (joinedOf (x .busy)) code inner (h .1)) (read-tag s (contextOf every (set .high) (st .place)) (st .at) o r ∙ h .0)
+      let h = at-end set (x .held) (joinedOf (x .busy)) (o .tag) code inner e in
+      of-motif (h .1) (motif-placed set (x .held) (joinedOf (x .busy)) code inner (h .1)) (read-tag s (contextOf every set (st .place)) (st .at) o r ∙ h .0)
 
-  ends-inner : (st : State) (e : Outcome) → Ends every set s room st e → InnerSays s e
+  ends-inner : (st : State) (e : Outcome) → Ends every set s room st e → InnerSays set s e
   ends-inner st e (ended r) = end-inner st (st .place)
   ends-inner st e (unread r) = nothing refl
   ends-inner st e (refused {code = code} {inner = inner} {o = o} r b) =
       refused-inner st o code inner r (subst (Whose (caseAt set s st o)) b (whose every (caseAt set s st o) (rules room)))
 
-  judged-inner : (st : State) → InnerSays s (judgedFrom every set s room st)
+  judged-inner : (st : State) → InnerSays set s (judgedFrom every set s room st)
   judged-inner st = let c = runs-of every set s room st in ends-inner (c .last) (judgedFrom every set s room st) (c .ends)
 
-header-inner : (gray : Bool) (job : List ℕ) (room : ℕ) (h : Header) → InnerSays job (judgedAfter gray every job room h)
+header-inner : (gray : Bool) (job : List ℕ) (room : ℕ) (h : Header) → InnerSays (settingOf gray h) job (judgedAfter gray every job room h)
 unfolding judgedAfter
-header-inner gray job room (Header.is high next) = judged-inner (record { high = high; gray = gray }) job room (starting next)
+header-inner gray job room (Header.is class high next) = judged-inner (record { class = class; high = high; gray = gray }) job room (starting next)
 header-inner gray job room (Header.no code place) = nothing refl
 
-entry-inner : (gray : Bool) (job : List ℕ) (room : ℕ) (e : Entry) → InnerSays job (outcomeAt gray every job room e)
+entry-inner : (gray : Bool) (job : List ℕ) (room : ℕ) (e : Entry) → InnerSays (settingOf gray (headerOf job)) job (outcomeAt gray every job room e)
 unfolding outcomeAt
 entry-inner gray job room (Entry.refused code position) = nothing refl
 entry-inner gray job room Entry.admitted = header-inner gray job room (headerOf job)
@@ -171,9 +172,8 @@ breaks-none c (motifs-own ∷ rs) e = by (c .made) refl e (breaks-none c rs)
     by (faulty code inner) f g h = absurd (is-none g)
 
 pub first-fault : FirstFault
-first-fault gray job work room high next h k e =
-    let set : Setting = record { high = high; gray = gray } in (
-      subst⁻¹ (Comes every set job room (starting next)) (reached-judged gray job work room high (starting next) h k (between-start gray job room high next e .there))
+first-fault set job work room next h k e = (
+      subst⁻¹ (Comes every set job room (starting next)) (reached-judged set job work room (starting next) h k (between-start set job room next e .there))
           (runs-of every set job room (starting next)),
       λ st o p. breaks-none (caseAt set job st o) (rules room) (p .kept),
     )

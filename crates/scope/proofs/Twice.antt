@@ -9,12 +9,13 @@ use native.Mathlib.Omega.{arith}
 use lib.ListN.{length, drop}
 use Rattle.scope.specs.Item.{Attribute}
 use Rattle.scope.specs.Reading.{Operator, Read, operatorAt}
-use Rattle.scope.specs.Session.{Setting, Place, outside, inside}
+use Rattle.scope.specs.Setting.{Setting}
+use Rattle.scope.specs.Session.{Place, outside, inside}
 use Rattle.scope.specs.Judge.{State, Refusal, Outcome, rules, firstBroken, refusedAt, endAt, contextOf, judgedFrom}
 use Rattle.scope.specs.Runs.{readAt, caseAt, next, Performs, Runs, here, then, Ends, ended, unread, refused, Pairwise}
 use Rattle.scope.specs.Claims.{limit, AttributeMoved, AttributesMoved, OperatorMoved}
 use Rattle.scope.proofs.Runs.{runs-of}
-use Rattle.scope.proofs.Says.{Says, LikePlace, same-place, outsides, session-same, phase-same, LikeCase, AlikeGiven, case-like}
+use Rattle.scope.proofs.Says.{akin-refl, Says, LikePlace, same-place, outsides, session-same, phase-same, LikeCase, AlikeGiven, case-like}
 use Rattle.scope.proofs.Apart.{clash-of}
 use Rattle.scope.proofs.Moved.{operator-back}
 use Rattle.scope.proofs.Beside.{equal-broken, Starts, Both, agree, left-over, right-over, both, LikeState, next-like}
@@ -91,14 +92,14 @@ module _ (s t : List ℕ) (p q : ℕ) (hp : p ≤ length s) (hq : q ≤ length t
   -- numbers before: m and n performed, r and o listed
   module _ (given other : ℕ → Bool) (alike : AlikeGiven given other) (set : Setting) (m n r o room space : ℕ) where
     abbrev St : State → State → Type 0
-    St = LikeState given other alike set set refl s t F m n r o
+    St = LikeState given other alike set set akin-refl s t F m n r o
 
     reads-both : (x y : State) → St x y → R (readAt given set s x) (readAt other set t y)
     unfolding contextOf
     reads-both x y l =
         subst (λ c. R (readAt given set s x) (operatorAt c t (y .at)))
-        (λ i. record { high = set .high; phase = phase-same (l .place) i; opened = session-same (l .place) i .opened; asked = alike 17 refl i })
-        (read-like s t p q hp hq same (contextOf given (set .high) (x .place)) (l .at))
+        (λ i. record { set = set; phase = phase-same (l .place) i; opened = session-same (l .place) i .opened; asked = alike 17 refl i })
+        (read-like s t p q hp hq same (contextOf given set (x .place)) (l .at))
 
     -- what has not been the same before, where 26 or 28 makes a difference
     abbrev Differs : Type 0
@@ -119,7 +120,7 @@ module _ (s t : List ℕ) (p q : ℕ) (hp : p ≤ length s) (hq : q ≤ length t
 
     the-cases : (x y : State) (a b : Operator) → St x y → Op a b → LikeCase m n r o (caseAt set s x a) (caseAt set t y b)
     the-cases x y a b l h =
-        let c = case-like set set refl s t a b (like-says (set .high) h) x y (session-same (l .place)) in
+        let c = case-like set set akin-refl s t a b (like-says (set .high) h) x y (session-same (l .place)) in
         let u = l .performed in
         let v = l .records in
         let cu = c .count in
@@ -198,7 +199,7 @@ module _ (s t : List ℕ) (p q : ℕ) (hp : p ≤ length s) (hq : q ≤ length t
     two-runs l (then k rest) u here v = second-only l k v
     two-runs {x} {y = y} l (then {o = a} k rest) u (then {o = b} j more) v =
         let h = the-ops x y a b l (k .reads) (j .reads) in
-        one-more (operator-moved h) (two-runs (next-like given other alike set set refl s t F m n r o x y a b l (like-says (set .high) h) (h .next)) rest u more v)
+        one-more (operator-moved h) (two-runs (next-like given other alike set set akin-refl s t F m n r o x y a b l (like-says (set .high) h) (h .next)) rest u more v)
 
     pub two-judged : (x y : State) → St x y
         → TwoEnds (runs-of given set s room x .ops) (runs-of other set t space y .ops) (judgedFrom given set s room x) (judgedFrom other set t space y)

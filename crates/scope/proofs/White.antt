@@ -9,10 +9,11 @@ use native.Mathlib.Omega.{arith}
 use lib.ListN.{length, take, drop, length-append, take-append-drop}
 use lib.Seq.{drop-at, length-take-le}
 use Rattle.scope.specs.Iterate.{onward}
-use Rattle.scope.specs.Header.{Header, headerOf}
+use Rattle.scope.specs.Header.{Class, Header, headerOf}
 use Rattle.scope.specs.Item.{scanItem, scanStep, scanFrom, scanAt, white, spaces, after as blackAfter}
 use Rattle.scope.specs.Reading.{Context, Operator, Read, scanned, operatorAt}
-use Rattle.scope.specs.Session.{Setting, Place, outside, inside}
+use Rattle.scope.specs.Setting.{Setting}
+use Rattle.scope.specs.Session.{Place, outside, inside}
 use Rattle.scope.specs.Judge.{State, Refusal, Outcome, caseOf, after, rules, firstBroken, endAt, onRefusal, onCase, onRead, contextOf, jobStep, judgedFrom, starting}
 use Rattle.scope.specs.Verdict.{every, outcomeOf}
 use Rattle.scope.specs.Runs.{caseAt, next, Runs, here, then}
@@ -33,7 +34,7 @@ module _ (u x y : List ℕ) (set : Setting) (room : ℕ) where
   shared-runs {b = b} (then {a = a} {o = o} {os = os} p r) h =
       let up = runs-up every set (u ++ x) room r in
       let on = runs-up every set (u ++ x) room (then p here) in
-      let c = contextOf every (set .high) (a .place) in
+      let c = contextOf every set (a .place) in
       let s = read-shorter u x c (a .at) o (omega arith) (p .reads) (omega arith) in
       let l = read-longer u y c (a .at) o (omega arith) (s .0) in
       let e = sym (next-same u x set room a o (s .1)) ∙ next-same u y set room a o (l .1) in
@@ -41,28 +42,28 @@ module _ (u x y : List ℕ) (set : Setting) (room : ℕ) where
       (subst (λ z. Runs every set (u ++ y) room z os b) e (shared-runs r h))
 
 -- and a header that ends within u too
-shared-header : (u x y : List ℕ) (high : Bool) (next : ℕ) → headerOf (u ++ x) ≡ Header.is high next → next ≤ length u → headerOf (u ++ y) ≡ Header.is high next
-shared-header u x y high next e h = sym (second (headerOf u) (header-cut u y) (first (headerOf u) (header-cut u x) e))
+shared-header : (u x y : List ℕ) (class : Class) (high : Bool) (next : ℕ) → headerOf (u ++ x) ≡ Header.is class high next → next ≤ length u → headerOf (u ++ y) ≡ Header.is class high next
+shared-header u x y class high next e h = sym (second (headerOf u) (header-cut u y) (first (headerOf u) (header-cut u x) e))
   where
     IsHeader : Header → Type 0
-    IsHeader (Header.is high next) = Unit {0}
+    IsHeader (Header.is class high next) = Unit {0}
     IsHeader (Header.no code place) = ⊥
 
-    first : (g : Header) {k : Header} → HeaderCut u g k → k ≡ Header.is high next → g ≡ Header.is high next
+    first : (g : Header) {k : Header} → HeaderCut u g k → k ≡ Header.is class high next → g ≡ Header.is class high next
     first g (HeaderCut.alike l) f = f
     first g HeaderCut.refused f = f
     first g (HeaderCut.header-short {h = k} l) f = absurd (let z : length u < next = subst (HeaderPast (length u)) f l in omega arith)
 
-    second : (g : Header) {k : Header} → HeaderCut u g k → g ≡ Header.is high next → Header.is high next ≡ k
+    second : (g : Header) {k : Header} → HeaderCut u g k → g ≡ Header.is class high next → Header.is class high next ≡ k
     second g (HeaderCut.alike l) f = sym f
     second g HeaderCut.refused f = sym f
     second g (HeaderCut.header-short l) f = absurd (subst⁻¹ IsHeader f tt)
 
 -- the header of a job ends within it
-header-within : (job : List ℕ) (high : Bool) (next : ℕ) → headerOf job ≡ Header.is high next → next ≤ length job
-header-within job high next e = by (subst (λ g. HeaderCut job g (headerOf (job ++ []))) e (header-cut job []))
+header-within : (job : List ℕ) (class : Class) (high : Bool) (next : ℕ) → headerOf job ≡ Header.is class high next → next ≤ length job
+header-within job class high next e = by (subst (λ g. HeaderCut job g (headerOf (job ++ []))) e (header-cut job []))
   where
-    by : {k : Header} → HeaderCut job (Header.is high next) k → next ≤ length job
+    by : {k : Header} → HeaderCut job (Header.is class high next) k → next ≤ length job
     by (HeaderCut.alike l) = l
 
 -- reading looks at nothing before the first place that is not white
@@ -70,8 +71,8 @@ read-after : (c : Context) (s : List ℕ) (m n : ℕ) → blackAfter s m ≡ bla
 unfolding operatorAt scanAt scanStep
 read-after c s m n e =
     ap (scanned c s)
-    (scan-step (c .high) s (record { at = m; attrs = [] }) ∙ ap (λ p. onward (scanFrom (c .high) s) (scanItem (c .high) s [] p)) e
-    ∙ sym (scan-step (c .high) s (record { at = n; attrs = [] })))
+    (scan-step (c .set .high) s (record { at = m; attrs = [] }) ∙ ap (λ p. onward (scanFrom (c .set .high) s) (scanItem (c .set .high) s [] p)) e
+    ∙ sym (scan-step (c .set .high) s (record { at = n; attrs = [] })))
 
 spaces-all : (blank rest : List ℕ) → spaces blank ≡ length blank → spaces (blank ++ rest) ≡ length blank + spaces rest
 unfolding spaces
@@ -120,7 +121,7 @@ module _ (set : Setting) (s : List ℕ) (room k : ℕ) (st : State) (e : blackAf
   skip : SameTold (judged st) (judged on)
   unfolding jobStep
   skip =
-      let c = contextOf every (set .high) (st .place) in
+      let c = contextOf every set (st .place) in
       subst⁻¹ (λ z. SameTold z (judged on)) (judged-step every set s room st)
       (subst⁻¹ (λ z. SameTold (onward judged (jobStep every set s room st)) z) (judged-step every set s room on)
       (subst (λ r. SameTold (onward judged (onRead every set s room st (operatorAt c s (st .at)))) (onward judged (onRead every set s room on r)))
@@ -137,10 +138,7 @@ from-told {a} {b} {e} h t =
       listed = subst⁻¹ (λ l. OperatorsMoved (a .at) (b .at) (a .past) (b .past) (e .state .past) l) (t .past) (h .listed);
     }
 
-module _ (gray : Bool) (u v blank : List ℕ) (room : ℕ) (high : Bool) (st : State) (at : st .at ≡ length u) (all : spaces blank ≡ length blank) where
-  abbrev set : Setting
-  set = record { high = high; gray = gray }
-
+module _ (set : Setting) (u v blank : List ℕ) (room : ℕ) (st : State) (at : st .at ≡ length u) (all : spaces blank ≡ length blank) where
   abbrev s : List ℕ
   s = u ++ v
 
@@ -179,25 +177,24 @@ module _ (gray : Bool) (u v blank : List ℕ) (room : ℕ) (high : Bool) (st : S
 
 pub white-between : WhiteBetween
 unfolding after caseOf
-white-between gray job blank work room high st hw hl all r =
-    let set : Setting = record { high = high; gray = gray } in
+white-between set job blank work room st hw hl all r =
     let u = take (st .at) job in
     let v = drop (st .at) job in
     let e : u ++ v ≡ job = take-append-drop (st .at) job in
-    let n = header-within job high (r .next) (r .header) in
+    let n = header-within job (set .class) (set .high) (r .next) (r .header) in
     let on = runs-on every set job room (r .runs) n in
     let lu : length u ≡ st .at = length-take-le (st .at) job (on .1) in
     let ls = length-append u v in
     let lt = length-append u (blank ++ v) in
     let lb = length-append blank v in
     let le = ap length e in
-    let there : Reached gray (putIn (st .at) blank job) room high st = record {
+    let there : Reached set (putIn (st .at) blank job) room st = record {
       next = r .next;
-      header = shared-header u v (blank ++ v) high (r .next) (ap headerOf e ∙ r .header) (omega arith);
+      header = shared-header u v (blank ++ v) (set .class) (set .high) (r .next) (ap headerOf e ∙ r .header) (omega arith);
       before = r .before;
       runs = shared-runs u v (blank ++ v) set room (subst⁻¹ (λ z. Runs every set z room (starting (r .next)) (r .before) st) e (r .runs)) (omega arith);
     } in
-    subst⁻¹ (λ z. SameFrom st (moveBy (length blank) st) z (outcomeOf gray every (putIn (st .at) blank job) work room)) (reached-judged gray job work room high st hw (omega arith) r)
-    (subst⁻¹ (λ z. SameFrom st (moveBy (length blank) st) (judgedFrom every set job room st) z) (reached-judged gray (putIn (st .at) blank job) work room high st hw hl there)
+    subst⁻¹ (λ z. SameFrom st (moveBy (length blank) st) z (outcomeOf (set .gray) every (putIn (st .at) blank job) work room)) (reached-judged set job work room st hw (omega arith) r)
+    (subst⁻¹ (λ z. SameFrom st (moveBy (length blank) st) (judgedFrom every set job room st) z) (reached-judged set (putIn (st .at) blank job) work room st hw hl there)
     (subst (λ z. SameFrom st (moveBy (length blank) st) (judgedFrom every set z room st) (judgedFrom every set (putIn (st .at) blank job) room st)) e
-    (white-alike gray u v blank room high st (sym lu) all)))
+    (white-alike set u v blank room st (sym lu) all)))

@@ -14,7 +14,8 @@ use Rattle.scope.specs.Iterate.{onward}
 use Rattle.scope.specs.Header.{Header}
 use Rattle.scope.specs.Order.{mayCome}
 use Rattle.scope.specs.Reading.{Operator, Read}
-use Rattle.scope.specs.Session.{Setting, Place, outside, inside, sessionOf, phaseOf}
+use Rattle.scope.specs.Setting.{Setting}
+use Rattle.scope.specs.Session.{Place, outside, inside, sessionOf, phaseOf}
 use Rattle.scope.specs.Judge.{State, Outcome, refusedAt, outer, Case, Refusal, starting, caseOf, after, endAt, rules, firstBroken, onRefusal, onCase, onRead, contextOf, jobStep, judgedFrom}
 use Rattle.scope.specs.Verdict.{every, layout, judgedAfter, Entry, entryOf, outcomeAt, outcomeOf, verdictOf}
 use Rattle.scope.specs.Claims.{Keeps, HasRoom, PassesExactly, Within}
@@ -52,7 +53,7 @@ module _ (given : ℕ → Bool) (set : Setting) (s : List ℕ) (room : ℕ) wher
 
   step-placed : (st : State) → Any st → Kept Any (AtMost s) (jobStep given set s room st)
   unfolding jobStep
-  step-placed st u = on-read-placed st (read-in (contextOf given (set .high) (st .place)) s (st .at))
+  step-placed st u = on-read-placed st (read-in (contextOf given set (st .place)) s (st .at))
 
   judged-placed : (st : State) → AtMost s (judgedFrom given set s room st)
   unfolding judgedFrom
@@ -62,7 +63,7 @@ module _ (given : ℕ → Bool) (set : Setting) (s : List ℕ) (room : ℕ) wher
 
 header-outcome : (gray : Bool) (job : List ℕ) (room : ℕ) {r : Header} → HeaderIn (length job) r → AtMost job (judgedAfter gray every job room r)
 unfolding judgedAfter
-header-outcome gray job room (HeaderIn.good {high = high} {next = next}) = judged-placed every (record { high = high; gray = gray }) job room (starting next)
+header-outcome gray job room (HeaderIn.good {class = class} {high = high} {next = next} l) = judged-placed every (record { class = class; high = high; gray = gray }) job room (starting next)
 header-outcome gray job room (HeaderIn.ill h) = h
 
 -- the position of a verdict is a place of the job, or its end
@@ -90,7 +91,7 @@ module _ (set : Setting) (s : List ℕ) (room : ℕ) where
   module _ (n : ℕ) (ih : Shown n) (st : State) (h : length s - st .at < suc n) (fits : st .records * 16 ≤ room) where
     module _ (o : Operator) (less : length s - o .next < n) where
       abbrev c : Case
-      c = caseOf (set .high) s st (sessionOf (st .place)) o
+      c = caseOf set s st (sessionOf (st .place)) o
 
       on-refusal : (f : Refusal) → firstBroken every c (rules room) ≡ f → Refuses f → onward full (onRefusal set s st c f) .code ≡ 0
           → Fine (onward lay (onRefusal set s st c (firstBroken layout c (rules 0))))
@@ -101,7 +102,7 @@ module _ (set : Setting) (s : List ℕ) (room : ℕ) where
 
       on-operator : onward full (onRead every set s room st (Read.operator o)) .code ≡ 0 → Fine (onward lay (onRead layout set s 0 st (Read.operator o)))
       unfolding onRead onCase caseOf
-      on-operator l = on-refusal (firstBroken every c (rules room)) refl (broken-coded every room c (judged-good _ _ (o .tag))) l
+      on-operator l = on-refusal (firstBroken every c (rules room)) refl (broken-coded every room c (judged-good set _ _ (o .tag))) l
 
     on-both : {r q : Read} → Asks (sessionOf (st .place) .opened) r q
         → GoodRead (length s) (st .at) (mayCome (phaseOf (st .place)) (sessionOf (st .place) .opened)) r
@@ -120,15 +121,15 @@ module _ (set : Setting) (s : List ℕ) (room : ℕ) where
   shown (suc n) st h fits l =
       let x = sessionOf (st .place) in
       subst⁻¹ Fine (judged-step layout set s 0 st)
-      (on-both n (shown n) st h fits (read-asks (set .high) (phaseOf (st .place)) s (x .opened) (st .at))
-      (read-good (contextOf layout (set .high) (st .place)) s (st .at)) (read-good (contextOf every (set .high) (st .place)) s (st .at))
+      (on-both n (shown n) st h fits (read-asks set (phaseOf (st .place)) s (x .opened) (st .at))
+      (read-good (contextOf layout set (st .place)) s (st .at)) (read-good (contextOf every set (st .place)) s (st .at))
       (ap (λ z. z .code) (sym (judged-step every set s room st)) ∙ l))
 
 after-header : (gray : Bool) (job : List ℕ) (room : ℕ) {r : Header} → GoodHeader r → judgedAfter gray every job room r .code ≡ 0
     → (judgedAfter gray layout job 0 r .code ≡ 0) × (judgedAfter gray layout job 0 r .state .records * 16 ≤ room)
 unfolding judgedAfter
-after-header gray job room (GoodHeader.good {high = high} {next = next}) l =
-    shown (record { high = high; gray = gray }) job room (suc (length job - next)) (starting next) (omega arith) (omega arith) l
+after-header gray job room (GoodHeader.good {class = class} {high = high} {next = next}) l =
+    shown (record { class = class; high = high; gray = gray }) job room (suc (length job - next)) (starting next) (omega arith) (omega arith) l
 after-header gray job room (GoodHeader.ill {code = code} k) l = not-coded code k l
 
 -- a job that passes keeps the layout rules and has room for its list

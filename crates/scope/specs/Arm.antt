@@ -9,8 +9,9 @@ use lib.Dec.{eqb}
 use Rattle.scope.specs.Choice.{pick, among}
 use Rattle.scope.specs.Item.{Attribute}
 use Rattle.scope.specs.Attributes.{has, valueIn}
+use Rattle.scope.specs.Setting.{Setting}
 use Rattle.scope.specs.Reading.{Operator}
-use Rattle.scope.specs.Names.{SetCursorRel, LinePath, LineRelPath, BeginImage, SetBrushSource, SetPenSource, RGBColor, GrayLevel, PushGS, PopGS, SetCursor, NewPath, SetColorSpace, ColorSpace}
+use Rattle.scope.specs.Names.{SetCursorRel, LinePath, LineRelPath, BeginImage, SetBrushSource, SetPenSource, RGBColor, GrayLevel, PushGS, PopGS, SetCursor, NewPath, SetColorSpace, ColorSpace, SetDefaultGS}
 
 pub record Saved : Type 0 where
   pub cursor : Bool
@@ -62,22 +63,24 @@ needsSpace tag l =
     pick (eqb tag BeginImage) gray
     (pick (eqb tag SetBrushSource || eqb tag SetPenSource) (pick (has RGBColor l) rgb (pick (has GrayLevel l) gray any)) any)
 
--- PushGS, PopGS; SetCursor sets the cursor, NewPath unsets it; SetColorSpace sets the colour space
-unfoldable pub effectOf : Bool → List ℕ → ℕ → List Attribute → Effect
-effectOf high s tag l =
+-- PushGS, PopGS; SetCursor sets the cursor, NewPath unsets it; SetColorSpace sets the colour space; SetDefaultGS unsets the cursor and restores the colour space
+-- that pages start in
+unfoldable pub effectOf : Setting → List ℕ → ℕ → List Attribute → Effect
+effectOf set s tag l =
     pick (eqb tag PushGS) push
     (pick (eqb tag PopGS) pop
     (pick (eqb tag SetCursor) (put (to true) kept)
     (pick (eqb tag NewPath) (put (to false) kept)
-    (pick (eqb tag SetColorSpace) (put kept (to (eqb (valueIn high s l ColorSpace) 1))) (put kept kept)))))
+    (pick (eqb tag SetColorSpace) (put kept (to (eqb (valueIn (set .high) s l ColorSpace) 1)))
+    (pick (eqb tag SetDefaultGS) (put (to false) (to (set .gray))) (put kept kept))))))
 
-unfoldable pub actOf : Bool → List ℕ → Operator → Act
-actOf high s o =
+unfoldable pub actOf : Setting → List ℕ → Operator → Act
+actOf set s o =
     record {
       source = o .reads;
       cursor = needsCursor (o .tag);
       space = needsSpace (o .tag) (o .attrs);
-      effect = effectOf high s (o .tag) (o .attrs);
+      effect = effectOf set s (o .tag) (o .attrs);
     }
 
 -- the arm on its way: the page; how many operators it has performed; the most states that were saved right after a PushGS;

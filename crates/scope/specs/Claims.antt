@@ -7,13 +7,14 @@ use mathlib.Core.List.{List, [], _∷_, _++_}
 use lib.ListN.{length, take, drop, getD}
 use lib.Dec.{eqb}
 use Rattle.scope.specs.Choice.{among}
-use Rattle.scope.specs.Header.{Header, headerOf}
+use Rattle.scope.specs.Header.{headerOf}
 use Rattle.scope.specs.Item.{Attribute, spaces, after}
 use Rattle.scope.specs.Reading.{Operator}
 use Rattle.scope.specs.Attributes.{bytesIn}
 use Rattle.scope.specs.Arm.{Stroke}
 use Rattle.scope.specs.Motif.{Own, Motif, Judged, motifOf}
-use Rattle.scope.specs.Session.{Setting, outside, sessionOf, joinedOf, rowFor}
+use Rattle.scope.specs.Setting.{Setting, headed, settingOf}
+use Rattle.scope.specs.Session.{outside, sessionOf, joinedOf, rowFor}
 use Rattle.scope.specs.Names.{BeginSession, BeginStream, ReadStream, EndStream, ExecStream, StreamName}
 use Rattle.scope.specs.Judge.{State, Case, Rule, rule, motifs-own, rules, outer, Outcome, starting}
 use Rattle.scope.specs.Runs.{caseAt, Performs, Runs, Comes}
@@ -56,14 +57,14 @@ CodeKnown = (gray : Bool) (job : List ℕ) (work room : ℕ) → verdictOf gray 
 
 -- what inner says: nothing; or the motif that was being read is faulty, by its code and at a place of its own or at its end, and the position is that of an
 -- EndStream
-pub data InnerSays (job : List ℕ) (e : Outcome) : Type 0 where
-  nothing : e .inner ≡ outer → InnerSays job e
-  of-motif : motifOf (sessionOf (e .state .place) .held) (joinedOf (sessionOf (e .state .place) .busy)) ≡ Judged.faulty (e .code) (e .inner)
-      → e .inner ≤ length (joinedOf (sessionOf (e .state .place) .busy)) → getD job (e .position) 0 ≡ EndStream → InnerSays job e
+pub data InnerSays (set : Setting) (job : List ℕ) (e : Outcome) : Type 0 where
+  nothing : e .inner ≡ outer → InnerSays set job e
+  of-motif : motifOf set (sessionOf (e .state .place) .held) (joinedOf (sessionOf (e .state .place) .busy)) ≡ Judged.faulty (e .code) (e .inner)
+      → e .inner ≤ length (joinedOf (sessionOf (e .state .place) .busy)) → getD job (e .position) 0 ≡ EndStream → InnerSays set job e
 
 -- inner is 4294967295 unless a motif is faulty
 abbrev pub InnerKnown : Type 0
-InnerKnown = (gray : Bool) (job : List ℕ) (work room : ℕ) → InnerSays job (outcomeOf gray every job work room)
+InnerKnown = (gray : Bool) (job : List ℕ) (work room : ℕ) → InnerSays (settingOf gray (headerOf job)) job (outcomeOf gray every job work room)
 
 -- none of these rules is broken
 pub data BreaksNone (c : Case) : List Rule → Type 0 where
@@ -75,10 +76,9 @@ pub data BreaksNone (c : Case) : List Rule → Type 0 where
 -- and there its judging ends, at the end of the job, at what reading refuses, or at an operator that a rule refuses
 abbrev pub FirstFault : Type 0
 FirstFault =
-    (gray : Bool) (job : List ℕ) (work room : ℕ) (high : Bool) (next : ℕ) → 16384 ≤ work → length job ≤ 61440 → headerOf job ≡ Header.is high next
-    → Comes every (record { high = high; gray = gray }) job room (starting next) (outcomeOf gray every job work room)
-    × ((st : State) (o : Operator) → Performs every (record { high = high; gray = gray }) job room st o
-    → BreaksNone (caseAt (record { high = high; gray = gray }) job st o) (rules room))
+    (set : Setting) (job : List ℕ) (work room next : ℕ) → 16384 ≤ work → length job ≤ 61440 → headerOf job ≡ headed set next
+    → Comes every set job room (starting next) (outcomeOf (set .gray) every job work room)
+    × ((st : State) (o : Operator) → Performs every set job room st o → BreaksNone (caseAt set job st o) (rules room))
 
 -- the codes of a job that is cut off: in an item, and elsewhere
 abbrev pub cutOff : ℕ → Bool
@@ -133,15 +133,15 @@ pub data OperatorsMoved (p q : ℕ) (before other : List Operator) : List Operat
   more : {a b : Operator} {l m : List Operator} → OperatorMoved p q a b → OperatorsMoved p q before other l m → OperatorsMoved p q before other (a ∷ l) (b ∷ m)
 
 -- judging comes to a state: from the end of the header on it has performed some operators, none refused
-pub record Reached (gray : Bool) (job : List ℕ) (room : ℕ) (high : Bool) (st : State) : Type 0 where
+pub record Reached (set : Setting) (job : List ℕ) (room : ℕ) (st : State) : Type 0 where
   pub next : ℕ
-  pub header : headerOf job ≡ Header.is high next
+  pub header : headerOf job ≡ headed set next
   pub before : List Operator
-  pub runs : Runs every (record { high = high; gray = gray }) job room (starting next) before st
+  pub runs : Runs every set job room (starting next) before st
 
 -- judging stands outside a session, between two or before the first
-pub record Between (gray : Bool) (job : List ℕ) (room : ℕ) (high : Bool) (st : State) : Type 0 where
-  pub there : Reached gray job room high st
+pub record Between (set : Setting) (job : List ℕ) (room : ℕ) (st : State) : Type 0 where
+  pub there : Reached set job room st
   pub after-one : Bool
   pub stands : st .place ≡ outside after-one
 
@@ -188,21 +188,21 @@ pub data Alike (a b : State) (room space : ℕ) (e f : Outcome) : Type 0 where
   first-cut : CutShort a b room space e f → Alike a b room space e f
   second-cut : CutShort b a space room f e → Alike a b room space e f
 
--- sessions are isolated: two jobs of one byte order, each standing outside a session, whose bytes from there on are the same and not all white, get the same
+-- sessions are isolated: two jobs of one setting (class, byte order, start), each standing outside a session, whose bytes from there on are the same and not all white, get the same
 -- verdict from there on, whatever they have performed and listed before, unless 26 or 28 cuts one of them short
 abbrev pub Isolated : Type 0
 Isolated =
-    (gray : Bool) (job other : List ℕ) (work work′ room space : ℕ) (high : Bool) (a b : State) → 16384 ≤ work → 16384 ≤ work′ → length job ≤ 61440 → length other ≤ 61440
-    → Between gray job room high a → Between gray other space high b → drop (a .at) job ≡ drop (b .at) other → after job (a .at) < length job
-    → Alike a b room space (outcomeOf gray every job work room) (outcomeOf gray every other work′ space)
+    (set : Setting) (job other : List ℕ) (work work′ room space : ℕ) (a b : State) → 16384 ≤ work → 16384 ≤ work′ → length job ≤ 61440 → length other ≤ 61440
+    → Between set job room a → Between set other space b → drop (a .at) job ≡ drop (b .at) other → after job (a .at) < length job
+    → Alike a b room space (outcomeOf (set .gray) every job work room) (outcomeOf (set .gray) every other work′ space)
 
 -- where they are the same from there on, so are the bytes of both lists, record by record, but for places
 abbrev pub SameList : Type 0
 SameList =
-    (gray : Bool) (job other : List ℕ) (work work′ room space : ℕ) (high : Bool) (a b : State) → Between gray job room high a → Between gray other space high b
-    → SameFrom a b (outcomeOf gray every job work room) (outcomeOf gray every other work′ space)
-    → RecordsMoved (a .at) (b .at) (recordsFrom (a .records) (verdictOf gray job work room .records) (listOf gray job work room))
-    (recordsFrom (b .records) (verdictOf gray other work′ space .records) (listOf gray other work′ space))
+    (set : Setting) (job other : List ℕ) (work work′ room space : ℕ) (a b : State) → Between set job room a → Between set other space b
+    → SameFrom a b (outcomeOf (set .gray) every job work room) (outcomeOf (set .gray) every other work′ space)
+    → RecordsMoved (a .at) (b .at) (recordsFrom (a .records) (verdictOf (set .gray) job work room .records) (listOf (set .gray) job work room))
+    (recordsFrom (b .records) (verdictOf (set .gray) other work′ space .records) (listOf (set .gray) other work′ space))
 
 -- the same state, so many bytes further on
 abbrev pub moveBy : ℕ → State → State
@@ -216,8 +216,8 @@ putIn at bytes job = take at job ++ (bytes ++ drop at job)
 -- and list the same; positions and places behind the white bytes move along
 abbrev pub WhiteBetween : Type 0
 WhiteBetween =
-    (gray : Bool) (job blank : List ℕ) (work room : ℕ) (high : Bool) (st : State) → 16384 ≤ work → length (putIn (st .at) blank job) ≤ 61440 → spaces blank ≡ length blank
-    → Reached gray job room high st → SameFrom st (moveBy (length blank) st) (outcomeOf gray every job work room) (outcomeOf gray every (putIn (st .at) blank job) work room)
+    (set : Setting) (job blank : List ℕ) (work room : ℕ) (st : State) → 16384 ≤ work → length (putIn (st .at) blank job) ≤ 61440 → spaces blank ≡ length blank
+    → Reached set job room st → SameFrom st (moveBy (length blank) st) (outcomeOf (set .gray) every job work room) (outcomeOf (set .gray) every (putIn (st .at) blank job) work room)
 
 -- the operators performed since the last BeginSession; as everywhere, the last one stands first
 unfoldable pub ofSession : List Operator → List Operator
@@ -236,17 +236,17 @@ pub data Defines (s name bytes : List ℕ) : List Operator → Type 0 where
   before : {o : Operator} {os : List Operator} → Defines s name bytes os → Defines s name bytes (o ∷ os)
 
 -- all these motifs are defined among some operators, and their own operators are those of their bytes, judged with the motifs defined before
-pub data AllDefined (s : List ℕ) (since : List Operator) : List Motif → Type 0 where
-  none : AllDefined s since []
-  more : {m : Motif} {ms : List Motif} → Defines s (m .name) (m .bytes) since → motifOf ms (m .bytes) ≡ Judged.valid (m .ops) (m .depth) → AllDefined s since ms
-      → AllDefined s since (m ∷ ms)
+pub data AllDefined (set : Setting) (s : List ℕ) (since : List Operator) : List Motif → Type 0 where
+  none : AllDefined set s since []
+  more : {m : Motif} {ms : List Motif} → Defines s (m .name) (m .bytes) since → motifOf set ms (m .bytes) ≡ Judged.valid (m .ops) (m .depth) → AllDefined set s since ms
+      → AllDefined set s since (m ∷ ms)
 
 -- a motif is known only inside the session that defined it: in every state that judging a job comes to, each motif that is held was defined since the last
 -- BeginSession
 abbrev pub OwnMotifs : Type 0
 OwnMotifs =
     (set : Setting) (job : List ℕ) (room next : ℕ) (os : List Operator) (st : State) → Runs every set job room (starting next) os st
-    → AllDefined job (ofSession (st .past)) (sessionOf (st .place) .held)
+    → AllDefined set job (ofSession (st .past)) (sessionOf (st .place) .held)
 
 -- an operator as it is performed, x, is one of these own operators of a motif
 pub data Among (x : Stroke) : List Own → Type 0 where
@@ -269,7 +269,7 @@ pub data AllDrawn (s : List ℕ) (since : List Operator) : List Stroke → Type 
 abbrev pub OwnStrokes : Type 0
 OwnStrokes =
     (set : Setting) (job : List ℕ) (room next : ℕ) (os : List Operator) (st : State) (o : Operator) → Runs every set job room (starting next) os st
-    → AllDrawn job (ofSession (st .past)) (rowFor (set .high) job (sessionOf (st .place) .held) o)
+    → AllDrawn job (ofSession (st .past)) (rowFor set job (sessionOf (st .place) .held) o)
 
 -- an ExecStream that is performed, in whatever job, names a motif that was defined in its own session
 abbrev pub OwnCalls : Type 0

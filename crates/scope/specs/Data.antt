@@ -1,6 +1,6 @@
 -- 01, "Data lengths", and of "Order" the part on data: how much data an operator reads, and the embedded data that follows it. Codes 27, 18, 5.
 -- Assumes nothing.
-use Prim.Native.Nat.{ℕ, _+_, _*_, _/_}
+use Prim.Native.Nat.{ℕ, _+_, _-_, _*_, _/_}
 use mathlib.Core.List.{List}
 use mathlib.Core.Bool.{Bool, _||_}
 use lib.ListN.{length, getD}
@@ -9,7 +9,7 @@ use Rattle.scope.specs.Choice.{pick}
 use Rattle.scope.specs.Number.{number}
 use Rattle.scope.specs.Item.{Attribute}
 use Rattle.scope.specs.Attributes.{has, valueIn}
-use Rattle.scope.specs.Names.{ReadStream, StreamDataLength, ReadImage, BlockHeight, LinePath, LineRelPath, NumberOfPoints, PointType}
+use Rattle.scope.specs.Names.{ReadStream, StreamDataLength, ReadImage, BlockHeight, PadBytesMultiple, LinePath, LineRelPath, NumberOfPoints, PointType}
 
 -- an image that is being read: SourceWidth, ColorDepth, SourceHeight, and the rows read so far
 pub record Image : Type 0 where
@@ -22,9 +22,17 @@ pub record Image : Type 0 where
 unfoldable pub bitsOf : ℕ → ℕ
 bitsOf d = pick (eqb d 0) 1 (pick (eqb d 1) 4 8)
 
--- the bytes of a row: width times so many bits, rounded up to bytes, then up to a multiple of 4 bytes
-unfoldable pub rowOf : ℕ → ℕ → ℕ
-rowOf width depth = ((width * bitsOf depth + 7) / 8 + 3) / 4 * 4
+-- the bytes of a row: width times so many bits, rounded up to bytes, then up to a multiple of so many bytes
+unfoldable pub rowOf : (width depth pad : ℕ) → ℕ
+rowOf width depth pad = ((width * bitsOf depth + 7) / 8 + (pad - 1)) / pad * pad
+
+-- so many: PadBytesMultiple, or 4 where it is missing (a 0 is never taken)
+unfoldable pub padOf : Bool → List ℕ → List Attribute → ℕ
+padOf high s l = pick (eqb (valueIn high s l PadBytesMultiple) 0) 4 (valueIn high s l PadBytesMultiple)
+
+-- the data of a ReadImage: BlockHeight rows
+unfoldable pub blockDue : Bool → List ℕ → Image → List Attribute → ℕ
+blockDue high s i l = valueIn high s l BlockHeight * rowOf (i .width) (i .depth) (padOf high s l)
 
 -- how much data an operator reads; none if it reads none
 pub data Due : Type 0 where
@@ -38,7 +46,7 @@ pointBytes type n = pick (leb type 1) (2 * n) (4 * n)
 unfoldable pub dueOf : Bool → List ℕ → Image → ℕ → List Attribute → Due
 dueOf high s i tag l =
     pick (eqb tag ReadStream) (reads (valueIn high s l StreamDataLength))
-    (pick (eqb tag ReadImage) (reads (valueIn high s l BlockHeight * rowOf (i .width) (i .depth)))
+    (pick (eqb tag ReadImage) (reads (blockDue high s i l))
     (pick (eqb tag LinePath || eqb tag LineRelPath) (pick (has NumberOfPoints l) (reads (pointBytes (valueIn high s l PointType) (valueIn high s l NumberOfPoints))) none) none))
 
 -- where the data is; or a refusal

@@ -33,15 +33,21 @@ formFrom i [] = breaks i
 formFrom i (b ∷ bs) =
     elim (mayStand i b) [ false ↦ breaks i | true ↦ elim (leb 15 i && eqb b 0x0a) [ true ↦ ends (suc i) | false ↦ formFrom (suc i) bs ] ]
 
--- what a header says: high byte first or not, and where the items begin; or a refusal, a code and a place
+-- the protocol's class: 1;1 or, by request 6 of 02, 2;1
+pub data Class : Type 0 where
+  one : Class
+  two : Class
+
+-- what a header says: the class, high byte first or not, and where the items begin; or a refusal, a code and a place
 pub data Header : Type 0 where
-  is : (high : Bool) → (next : ℕ) → Header
+  is : (class : Class) → (high : Bool) → (next : ℕ) → Header
   no : (code : ℕ) → (place : ℕ) → Header
 
 unfoldable pub classed : List ℕ → Form → Header
 classed s (breaks i) = no 2 i
 classed s (ends n) =
-    pick (eqb (getD s 12 0) 0x31 && eqb (getD s 14 0) 0x31) (is (eqb (getD s 0 0) 0x28) n) (no 4 12)
+    pick (eqb (getD s 12 0) 0x31 && eqb (getD s 14 0) 0x31) (is one (eqb (getD s 0 0) 0x28) n)
+    (pick (eqb (getD s 12 0) 0x32 && eqb (getD s 14 0) 0x31) (is two (eqb (getD s 0 0) 0x28) n) (no 4 12))
 
 -- 3, 2, 4, in this order
 unfoldable pub headerOf : List ℕ → Header

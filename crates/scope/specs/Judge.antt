@@ -11,7 +11,8 @@ use Rattle.scope.specs.Attributes.{bytesIn}
 use Rattle.scope.specs.Reading.{Context, Operator, Read, operatorAt}
 use Rattle.scope.specs.Arm.{Seen, walk, from}
 use Rattle.scope.specs.Motif.{Motif, heldAs, isHeld, bytesHeld, Judged, valid, faulty, motifOf}
-use Rattle.scope.specs.Session.{Setting, Session, Place, outside, inside, sessionOf, phaseOf, pageOf, joinedOf, rowFor, placeAfter}
+use Rattle.scope.specs.Setting.{Setting}
+use Rattle.scope.specs.Session.{Session, Place, outside, inside, sessionOf, phaseOf, pageOf, joinedOf, rowFor, placeAfter}
 use Rattle.scope.specs.Names.{EndStream, StreamName, BeginStream, ReadStream, ExecStream}
 
 -- inner, unless said otherwise
@@ -26,8 +27,8 @@ pub record State : Type 0 where
   pub records : ℕ
   pub past : List Operator
 
-unfoldable pub judgedAt : List Motif → List ℕ → ℕ → Judged
-judgedAt held joined tag = pick (eqb tag EndStream) (motifOf held joined) (valid [] 1)
+unfoldable pub judgedAt : Setting → List Motif → List ℕ → ℕ → Judged
+judgedAt set held joined tag = pick (eqb tag EndStream) (motifOf set held joined) (valid [] 1)
 
 -- what the rules look at: the session, the records with this operator's, the operator, its name, the arm after it, its motif's judgement
 pub record Case : Type 0 where
@@ -38,15 +39,15 @@ pub record Case : Type 0 where
   pub seen : Seen
   pub made : Judged
 
-unfoldable pub caseOf : Bool → List ℕ → State → Session → Operator → Case
-caseOf high s st x o =
+unfoldable pub caseOf : Setting → List ℕ → State → Session → Operator → Case
+caseOf set s st x o =
     record {
       session = x;
       records = st .records + suc (length (o .attrs));
       op = o;
       name = bytesIn s (o .attrs) StreamName;
-      seen = walk (rowFor high s (x .held) o) (from (pageOf (x .busy)) (st .performed));
-      made = judgedAt (x .held) (joinedOf (x .busy)) (o .tag);
+      seen = walk (rowFor set s (x .held) o) (from (pageOf (x .busy)) (st .performed));
+      made = judgedAt set (x .held) (joinedOf (x .busy)) (o .tag);
     }
 
 -- 19: BeginStream with 64 held, or ReadStream past 16,384 bytes
@@ -155,14 +156,14 @@ onCase given set s room st c = onRefusal set s st c (firstBroken given c (rules 
 unfoldable pub onRead : (ℕ → Bool) → Setting → List ℕ → ℕ → State → Read → Next State Outcome
 onRead given set s room st (Read.no code place) = stop (refusedAt code place outer st)
 onRead given set s room st Read.ended = stop (endAt s st (st .place))
-onRead given set s room st (Read.operator o) = onCase given set s room st (caseOf (set .high) s st (sessionOf (st .place)) o)
+onRead given set s room st (Read.operator o) = onCase given set s room st (caseOf set s st (sessionOf (st .place)) o)
 
-unfoldable pub contextOf : (ℕ → Bool) → Bool → Place → Context
-contextOf given high p = record { high = high; phase = phaseOf p; opened = sessionOf p .opened; asked = given 17 }
+unfoldable pub contextOf : (ℕ → Bool) → Setting → Place → Context
+contextOf given set p = record { set = set; phase = phaseOf p; opened = sessionOf p .opened; asked = given 17 }
 
 -- one operator
 unfoldable pub jobStep : (ℕ → Bool) → Setting → List ℕ → ℕ → State → Next State Outcome
-jobStep given set s room st = onRead given set s room st (operatorAt (contextOf given (set .high) (st .place)) s (st .at))
+jobStep given set s room st = onRead given set s room st (operatorAt (contextOf given set (st .place)) s (st .at))
 
 -- before the first item: nothing performed, no session yet
 abbrev pub starting : ℕ → State

@@ -3,6 +3,7 @@ pub mod Choice
 pub mod Iterate
 pub mod Number
 pub mod Header
+pub mod Setting
 pub mod Item
 pub mod Names
 pub mod Table

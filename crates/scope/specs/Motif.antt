@@ -8,6 +8,7 @@ use lib.Dec.{leb, eqb}
 use Rattle.scope.specs.Choice.{pick, same}
 use Rattle.scope.specs.Iterate.{Next, go, stop, iterate}
 use Rattle.scope.specs.Header.{Header, headerOf}
+use Rattle.scope.specs.Setting.{Setting, ofMotif, sameClass}
 use Rattle.scope.specs.Item.{Attribute}
 use Rattle.scope.specs.Attributes.{valueIn, bytesIn}
 use Rattle.scope.specs.Data.{Image}
@@ -101,8 +102,8 @@ phaseIn saved none = in-motif saved
 phaseIn saved (being i) = in-image i
 
 -- 17 is not judged inside a motif
-unfoldable pub contextIn : Bool → Inside → Context
-contextIn high w = record { high = high; phase = phaseIn (w .saved) (w .picture); opened = true; asked = false }
+unfoldable pub contextIn : Setting → Inside → Context
+contextIn set w = record { set = set; phase = phaseIn (w .saved) (w .picture); opened = true; asked = false }
 
 -- a call: only of a motif already held, and of one that is less than 32 deep
 unfoldable pub onCall : Operator → List ℕ → Inside → Held → Next Inside Judged
@@ -112,14 +113,14 @@ onCall o n w (is m) =
     (go
     (record { at = o .next; saved = w .saved; picture = w .picture; ops = w .ops ++ (calls (o .at) n ∷ []); depth = max (w .depth) (suc (m .depth)) }))
 
-unfoldable pub onDeed : Bool → List ℕ → Operator → Inside → Next Inside Judged
-onDeed high s o w =
+unfoldable pub onDeed : Setting → List ℕ → Operator → Inside → Next Inside Judged
+onDeed set s o w =
     go
     (record {
       at = o .next;
       saved = savedAfter (o .tag) (w .saved);
-      picture = pictureAfter high s o (w .picture);
-      ops = w .ops ++ (does (o .at) (actOf high s o) ∷ []);
+      picture = pictureAfter (set .high) s o (w .picture);
+      ops = w .ops ++ (does (o .at) (actOf set s o) ∷ []);
       depth = w .depth;
     })
 
@@ -128,25 +129,27 @@ unfoldable pub onEnd : List ℕ → Inside → Picture → Judged
 onEnd s w (being i) = faulty 27 (length s)
 onEnd s w none = pick (eqb (w .saved) 0) (valid (w .ops) (w .depth)) (faulty 27 (length s))
 
-unfoldable pub onRead : List Motif → Bool → List ℕ → Inside → Read → Next Inside Judged
-onRead held high s w (Read.no code place) = stop (faulty code place)
-onRead held high s w Read.ended = stop (onEnd s w (w .picture))
-onRead held high s w (Read.operator o) =
+unfoldable pub onRead : List Motif → Setting → List ℕ → Inside → Read → Next Inside Judged
+onRead held set s w (Read.no code place) = stop (faulty code place)
+onRead held set s w Read.ended = stop (onEnd s w (w .picture))
+onRead held set s w (Read.operator o) =
     pick (eqb (o .tag) ExecStream)
     (onCall o (bytesIn s (o .attrs) StreamName) w (heldAs (bytesIn s (o .attrs) StreamName) held))
-    (onDeed high s o w)
+    (onDeed set s o w)
 
-unfoldable pub motifStep : List Motif → Bool → List ℕ → Inside → Next Inside Judged
-motifStep held high s w = onRead held high s w (operatorAt (contextIn high w) s (w .at))
+unfoldable pub motifStep : List Motif → Setting → List ℕ → Inside → Next Inside Judged
+motifStep held set s w = onRead held set s w (operatorAt (contextIn set w) s (w .at))
 
 -- the judging of a motif from where it stands (the answer that `iterate` is given is never used: proofs/Falls)
-unfoldable pub judgedInside : List Motif → Bool → List ℕ → Inside → Judged
-judgedInside held high s = iterate (motifStep held high s) (faulty 5 0) (λ w. length s - w .at)
+unfoldable pub judgedInside : List Motif → Setting → List ℕ → Inside → Judged
+judgedInside held set s = iterate (motifStep held set s) (faulty 5 0) (λ w. length s - w .at)
 
-unfoldable pub motifFrom : List Motif → List ℕ → Header → Judged
-motifFrom held s (Header.no code place) = faulty code place
-motifFrom held s (Header.is high next) = judgedInside held high s (record { at = next; saved = 0; picture = none; ops = []; depth = 1 })
+-- a motif has the job's class, else 4
+unfoldable pub motifFrom : Setting → List Motif → List ℕ → Header → Judged
+motifFrom set held s (Header.no code place) = faulty code place
+motifFrom set held s (Header.is class high next) =
+    pick (sameClass class (set .class)) (judgedInside held (ofMotif set high) s (record { at = next; saved = 0; picture = none; ops = []; depth = 1 })) (faulty 4 12)
 
--- a motif judged at EndStream, where these are held
-unfoldable pub motifOf : List Motif → List ℕ → Judged
-motifOf held s = motifFrom held s (headerOf s)
+-- a motif judged at EndStream of a job with this setting, where these are held
+unfoldable pub motifOf : Setting → List Motif → List ℕ → Judged
+motifOf set held s = motifFrom set held s (headerOf s)

@@ -1,4 +1,4 @@
--- 01, "Operators": the tags of operators and the numbers of attributes, by their names.
+-- 01, "Operators", and request 6 of 02: the tags of operators and the numbers of attributes, by their names.
 -- Assumes nothing.
 use Prim.Native.Nat.{ℕ}
 
@@ -23,6 +23,9 @@ OpenDataSource = 0x48
 
 abbrev pub CloseDataSource : ℕ
 CloseDataSource = 0x49
+
+abbrev pub SetDefaultGS : ℕ
+SetDefaultGS = 0x57
 
 abbrev pub BeginStream : ℕ
 BeginStream = 0x5b
@@ -109,6 +112,9 @@ MediaSize = 37
 abbrev pub MediaSource : ℕ
 MediaSource = 38
 
+abbrev pub MediaType : ℕ
+MediaType = 39
+
 abbrev pub Orientation : ℕ
 Orientation = 40
 
@@ -156,6 +162,12 @@ SourceWidth = 108
 
 abbrev pub StartLine : ℕ
 StartLine = 109
+
+abbrev pub PadBytesMultiple : ℕ
+PadBytesMultiple = 110
+
+abbrev pub BlockByteLength : ℕ
+BlockByteLength = 111
 
 abbrev pub CommentData : ℕ
 CommentData = 129

@@ -6,9 +6,9 @@ use mathlib.Core.Bool.{Bool, true, _&&_, _||_}
 use lib.Dec.{leb, eqb}
 use Rattle.scope.specs.Choice.{pick, between, among}
 use Rattle.scope.specs.Item.{Attribute}
-use Rattle.scope.specs.Attributes.{valueIn}
-use Rattle.scope.specs.Data.{Image}
-use Rattle.scope.specs.Names.{PopGS, Comment, ExecStream, PushGS, BeginSession, BeginStream, BeginPage, CloseDataSource, OpenDataSource, EndSession, ReadStream, EndStream, EndPage, EndImage, ReadImage, StartLine, BlockHeight}
+use Rattle.scope.specs.Attributes.{has, valueIn}
+use Rattle.scope.specs.Data.{Image, blockDue}
+use Rattle.scope.specs.Names.{PopGS, Comment, SetDefaultGS, ExecStream, PushGS, BeginSession, BeginStream, BeginPage, CloseDataSource, OpenDataSource, EndSession, ReadStream, EndStream, EndPage, EndImage, ReadImage, StartLine, BlockHeight, BlockByteLength}
 
 -- where an operator stands: between sessions; in a session; after BeginStream; in a page, or in a motif, with so many states saved; after BeginImage
 pub data Phase : Type 0 where
@@ -19,9 +19,9 @@ pub data Phase : Type 0 where
   in-motif : ℕ → Phase
   in-image : Image → Phase
 
--- in a page and in a motif: PopGS with something saved; Comment, ExecStream, PushGS, and those of the table from 63 to b0
+-- in a page and in a motif: PopGS with something saved; Comment, SetDefaultGS, ExecStream, PushGS, and those of the table from 63 to b0
 unfoldable pub drawn : ℕ → ℕ → Bool
-drawn saved tag = pick (eqb tag PopGS) (leb 1 saved) (among (Comment ∷ ExecStream ∷ PushGS ∷ []) tag || between 0x63 0xb0 tag)
+drawn saved tag = pick (eqb tag PopGS) (leb 1 saved) (among (Comment ∷ SetDefaultGS ∷ ExecStream ∷ PushGS ∷ []) tag || between 0x63 0xb0 tag)
 
 -- an operator of the table may come, where the data source is open or not
 unfoldable pub mayCome : Phase → Bool → ℕ → Bool
@@ -42,9 +42,13 @@ imageOf (in-page n) = record { width = 0; depth = 0; height = 0; rows = 0 }
 imageOf (in-motif n) = record { width = 0; depth = 0; height = 0; rows = 0 }
 imageOf (in-image i) = i
 
--- each StartLine is the number of rows read so far, and rows never exceed SourceHeight
+-- BlockByteLength, if it is there, is the length due
+unfoldable pub lengthFits : Bool → List ℕ → Image → List Attribute → Bool
+lengthFits high s i l = pick (has BlockByteLength l) (eqb (valueIn high s l BlockByteLength) (blockDue high s i l)) true
+
+-- each StartLine is the number of rows read so far, rows never exceed SourceHeight, and BlockByteLength is right
 unfoldable pub rowsFit : Bool → List ℕ → Image → ℕ → List Attribute → Bool
 rowsFit high s i tag l =
     pick (eqb tag ReadImage)
-    (eqb (valueIn high s l StartLine) (i .rows) && leb (i .rows + valueIn high s l BlockHeight) (i .height))
+    (eqb (valueIn high s l StartLine) (i .rows) && (leb (i .rows + valueIn high s l BlockHeight) (i .height) && lengthFits high s i l))
     true

@@ -15,7 +15,7 @@ use Rattle.scope.specs.Order.{Phase, between-sessions, in-session, in-st
 use Rattle.scope.specs.Reading.{Context, Operator, Read, operatorAt}
 use Rattle.scope.specs.Arm.{Effect, push, pop, put, Page, blank, done, clash, idle, actOf, Stroke}
 use Rattle.scope.specs.Motif.{Picture, pictureAfter, savedAfter, phaseIn}
-use Rattle.scope.specs.Session.{Setting}
+use Rattle.scope.specs.Setting.{Setting, ofMotif}
 use Rattle.scope.specs.Names.{OpenDataSource, CloseDataSource, BeginPage, EndPage, EndSession, BeginStream, ReadStream, ExecStream, StreamName}
 
 -- what an operator performed does besides: it opens or closes the source, begins or ends a page
@@ -111,11 +111,11 @@ knownAs n [] = none
 knownAs n (m ∷ ms) = elim (same (m .name) n) [ true ↦ is (suc (length ms)) (m .bytes) | false ↦ knownAs n ms ]
 
 -- what is performed for one operator of motif k (0 is the job): a call and then what its name has performed, or the operator alone
-unfoldable pub strokesOf : (List ℕ → List Stroke) → (k : ℕ) → Bool → List ℕ → Operator → List Stroke
-strokesOf call k high s o =
+unfoldable pub strokesOf : (List ℕ → List Stroke) → (k : ℕ) → Setting → List ℕ → Operator → List Stroke
+strokesOf call k set s o =
     pick (eqb (o .tag) ExecStream)
     (record { motif = k; at = o .at; act = idle } ∷ call (bytesIn s (o .attrs) StreamName))
-    (record { motif = k; at = o .at; act = actOf high s o } ∷ [])
+    (record { motif = k; at = o .at; act = actOf set s o } ∷ [])
 
 -- where the arm stands in a motif: the place of the next item, the states that the motif has saved, its open image, the operators so far
 pub record Going : Type 0 where
@@ -125,37 +125,37 @@ pub record Going : Type 0 where
   pub row : List Stroke
 
 -- an operator of a motif that was read is performed; where reading ends, the motif's operators end
-unfoldable pub onOwn : (List ℕ → List Stroke) → ℕ → Bool → List ℕ → Going → Read → Next Going (List Stroke)
-onOwn call k high s g (Read.operator o) =
+unfoldable pub onOwn : (List ℕ → List Stroke) → ℕ → Setting → List ℕ → Going → Read → Next Going (List Stroke)
+onOwn call k set s g (Read.operator o) =
     go
-    (record { at = o .next; saved = savedAfter (o .tag) (g .saved); picture = pictureAfter high s o (g .picture); row = g .row ++ strokesOf call k high s o })
-onOwn call k high s g Read.ended = stop (g .row)
-onOwn call k high s g (Read.no code place) = stop (g .row)
+    (record { at = o .next; saved = savedAfter (o .tag) (g .saved); picture = pictureAfter (set .high) s o (g .picture); row = g .row ++ strokesOf call k set s o })
+onOwn call k set s g Read.ended = stop (g .row)
+onOwn call k set s g (Read.no code place) = stop (g .row)
 
 -- the next operator of a motif is read as inside a motif: no operator asks for an open source
-unfoldable pub ownStep : (List ℕ → List Stroke) → ℕ → Bool → List ℕ → Going → Next Going (List Stroke)
-ownStep call k high s g =
-    onOwn call k high s g
-    (operatorAt (record { high = high; phase = phaseIn (g .saved) (g .picture); opened = true; asked = false }) s (g .at))
+unfoldable pub ownStep : (List ℕ → List Stroke) → ℕ → Setting → List ℕ → Going → Next Going (List Stroke)
+ownStep call k set s g =
+    onOwn call k set s g
+    (operatorAt (record { set = set; phase = phaseIn (g .saved) (g .picture); opened = true; asked = false }) s (g .at))
 
 -- from where the arm stands in a motif to the motif's end
-unfoldable pub ownFrom : (List ℕ → List Stroke) → ℕ → Bool → List ℕ → Going → List Stroke
-ownFrom call k high s = iterate (ownStep call k high s) [] (λ g. length s - g .at)
+unfoldable pub ownFrom : (List ℕ → List Stroke) → ℕ → Setting → List ℕ → Going → List Stroke
+ownFrom call k set s = iterate (ownStep call k set s) [] (λ g. length s - g .at)
 
 -- from behind the motif's header
-unfoldable pub ownAfter : (List ℕ → List Stroke) → ℕ → List ℕ → Header → List Stroke
-ownAfter call k s (Header.no code place) = []
-ownAfter call k s (Header.is high next) = ownFrom call k high s (record { at = next; saved = 0; picture = Picture.none; row = [] })
+unfoldable pub ownAfter : (List ℕ → List Stroke) → ℕ → Setting → List ℕ → Header → List Stroke
+ownAfter call k set s (Header.no code place) = []
+ownAfter call k set s (Header.is class high next) = ownFrom call k (ofMotif set high) s (record { at = next; saved = 0; picture = Picture.none; row = [] })
 
 -- the operators of a motif, read from its bytes by its own header, where a call of a name performs `call` of it besides
-unfoldable pub ownOf : (List ℕ → List Stroke) → Found → List Stroke
-ownOf call (is k s) = ownAfter call k s (headerOf s)
-ownOf call none = []
+unfoldable pub ownOf : (List ℕ → List Stroke) → Setting → Found → List Stroke
+ownOf call set (is k s) = ownAfter call k set s (headerOf s)
+ownOf call set none = []
 
 -- what a call of a name performs behind itself, where these motifs are known and calls may nest so much deeper (32 at a call of the job)
-unfoldable pub called : List Known → (nesting : ℕ) → List ℕ → List Stroke
-called known zero n = []
-called known (suc d) n = ownOf (called known d) (knownAs n known)
+unfoldable pub called : Setting → List Known → (nesting : ℕ) → List ℕ → List Stroke
+called set known zero n = []
+called set known (suc d) n = ownOf (called set known d) set (knownAs n known)
 
 -- what the arm is at: between sessions; in a session at rest, reading a motif of a name (the bytes joined so far), or in a page, perhaps with an image open
 pub data Doing : Type 0 where
@@ -191,7 +191,7 @@ pub record Unrolled : Type 0 where
 
 -- what is performed for an operator of the job
 unfoldable pub deedsFor : Setting → List ℕ → List Known → Operator → List Deed
-deedsFor set s known o = deeds (turnOf (set .gray) (o .tag)) (strokesOf (called known 32) 0 (set .high) s o)
+deedsFor set s known o = deeds (turnOf (set .gray) (o .tag)) (strokesOf (called set known 32) 0 set s o)
 
 -- an operator of the job, performed
 unfoldable pub onOperator : Setting → List ℕ → Unrolled → Operator → Unrolled
@@ -219,18 +219,18 @@ phaseAt (drawing Picture.none) p = in-page (length (p .saved))
 phaseAt (drawing (Picture.being i)) p = in-image i
 
 -- reading as it is, but that no operator asks for an open source
-unfoldable pub contextAt : Bool → Unrolled → Context
-contextAt high u = record { high = high; phase = phaseAt (u .doing) (u .arm .page); opened = u .arm .opened; asked = false }
+unfoldable pub contextAt : Setting → Unrolled → Context
+contextAt set u = record { set = set; phase = phaseAt (u .doing) (u .arm .page); opened = u .arm .opened; asked = false }
 
 -- the next operator of the job
 unfoldable pub unrollStep : Setting → List ℕ → Unrolled → Next Unrolled (List Deed)
-unrollStep set s u = onNext set s u (operatorAt (contextAt (set .high) u) s (u .at))
+unrollStep set s u = onNext set s u (operatorAt (contextAt set u) s (u .at))
 
 -- from behind the job's header, where the arm is outside a session and knows no motif
 unfoldable pub unfoldedAfter : (gray : Bool) → List ℕ → Header → List Deed
 unfoldedAfter gray s (Header.no code place) = []
-unfoldedAfter gray s (Header.is high next) =
-    iterate (unrollStep (record { high = high; gray = gray }) s) [] (λ u. length s - u .at)
+unfoldedAfter gray s (Header.is class high next) =
+    iterate (unrollStep (record { class = class; high = high; gray = gray }) s) [] (λ u. length s - u .at)
     (record { at = next; doing = outside; known = []; arm = atStart; row = [] })
 
 -- the row of operators that the plain arm performs for a job whose pages start gray or not, up to its end or to the first item that reading refuses

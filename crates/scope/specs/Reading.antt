@@ -6,15 +6,16 @@ use mathlib.Core.List.{List, []}
 use mathlib.Core.Bool.{Bool, true, false, not, _&&_}
 use lib.Dec.{eqb}
 use Rattle.scope.specs.Choice.{pick}
+use Rattle.scope.specs.Setting.{Setting}
 use Rattle.scope.specs.Item.{Attribute, Scan, after, scanAt}
 use Rattle.scope.specs.Table.{Row, Line, table, lineIn}
 use Rattle.scope.specs.Attributes.{Fault, fine, bad, oneByOne, formCode}
 use Rattle.scope.specs.Data.{Due, Found, dueOf, blockAt}
 use Rattle.scope.specs.Order.{Phase, mayCome, imageOf, rowsFit}
 
--- what reading has to know: the byte order, the phase, whether the source is open, and whether 17 is judged
+-- what reading has to know: the setting, the phase, whether the source is open, and whether 17 is judged
 pub record Context : Type 0 where
-  pub high : Bool
+  pub set : Setting
   pub phase : Phase
   pub opened : Bool
   pub asked : Bool
@@ -45,14 +46,14 @@ withData c s tag at l Due.none =
     operator (record { tag = tag; at = at; attrs = l; reads = false; length = 0; first = 0; next = suc at })
 withData c s tag at l (Due.reads due) =
     pick (c .asked && not (c .opened)) (no 17 at)
-    (withBlock tag at l due (blockAt (c .high) s at due (after s (suc at))))
+    (withBlock tag at l due (blockAt (c .set .high) s at due (after s (suc at))))
 
 -- 13, 14
 unfoldable pub asWhole : Context → List ℕ → ℕ → ℕ → List Attribute → ℕ → Read
 asWhole c s tag at l code =
     pick (eqb code 0)
-    (pick (rowsFit (c .high) s (imageOf (c .phase)) tag l)
-    (withData c s tag at l (dueOf (c .high) s (imageOf (c .phase)) tag l)) (no 14 at))
+    (pick (rowsFit (c .set .high) s (imageOf (c .phase)) tag l)
+    (withData c s tag at l (dueOf (c .set .high) s (imageOf (c .phase)) tag l)) (no 14 at))
     (no code at)
 
 unfoldable pub withAttributes : Context → List ℕ → ℕ → ℕ → List Attribute → Row → Fault → Read
@@ -64,14 +65,14 @@ unfoldable pub withLine : Context → List ℕ → ℕ → ℕ → List Attribut
 withLine c s tag at l Line.none = no 9 at
 withLine c s tag at l (Line.is r) =
     pick (mayCome (c .phase) (c .opened) tag)
-    (withAttributes c s tag at l r (oneByOne (c .high) s (r .rules) [] l))
+    (withAttributes c s tag at l r (oneByOne (c .set .high) s (r .rules) [] l))
     (no 10 at)
 
 unfoldable pub scanned : Context → List ℕ → Scan → Read
-scanned c s (Scan.tagged tag at l) = withLine c s tag at l (lineIn table tag)
+scanned c s (Scan.tagged tag at l) = withLine c s tag at l (lineIn (table (c .set .class)) tag)
 scanned c s Scan.ended = ended
 scanned c s (Scan.no code place) = no code place
 
 -- the next operator from a place on
 unfoldable pub operatorAt : Context → List ℕ → ℕ → Read
-operatorAt c s at = scanned c s (scanAt (c .high) s at)
+operatorAt c s at = scanned c s (scanAt (c .set .high) s at)

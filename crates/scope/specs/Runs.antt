@@ -5,16 +5,17 @@ use mathlib.Core.Path.{_≡_}
 use mathlib.Core.Bool.{Bool}
 use mathlib.Core.List.{List, [], _∷_}
 use Rattle.scope.specs.Reading.{Operator, Read, operatorAt}
-use Rattle.scope.specs.Session.{Setting, sessionOf}
+use Rattle.scope.specs.Setting.{Setting}
+use Rattle.scope.specs.Session.{sessionOf}
 use Rattle.scope.specs.Judge.{State, Case, Refusal, Outcome, caseOf, rules, firstBroken, after, endAt, refusedAt, outer, contextOf}
 
 -- what is read next from a state
 abbrev pub readAt : (ℕ → Bool) → Setting → List ℕ → State → Read
-readAt given set s st = operatorAt (contextOf given (set .high) (st .place)) s (st .at)
+readAt given set s st = operatorAt (contextOf given set (st .place)) s (st .at)
 
 -- what the rules look at for an operator in a state, and the state after it
 abbrev pub caseAt : Setting → List ℕ → State → Operator → Case
-caseAt set s st o = caseOf (set .high) s st (sessionOf (st .place)) o
+caseAt set s st o = caseOf set s st (sessionOf (st .place)) o
 
 abbrev pub next : Setting → List ℕ → State → Operator → State
 next set s st o = after set s st (caseAt set s st o)

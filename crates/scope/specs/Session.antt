@@ -8,17 +8,13 @@ use mathlib.Core.List.{List, [], _∷_, _++_}
 use lib.ListN.{length, take, drop}
 use lib.Dec.{eqb}
 use Rattle.scope.specs.Choice.{pick}
+use Rattle.scope.specs.Setting.{Setting}
 use Rattle.scope.specs.Attributes.{bytesIn}
 use Rattle.scope.specs.Order.{Phase, between-sessions, in-session, in-stream, in-page, in-image}
 use Rattle.scope.specs.Reading.{Operator}
 use Rattle.scope.specs.Arm.{Page, blank, idle, actOf, Stroke}
 use Rattle.scope.specs.Motif.{Motif, unfolded, Picture, pictureAfter, Judged, valid, faulty, motifOf}
 use Rattle.scope.specs.Names.{ExecStream, StreamName, OpenDataSource, CloseDataSource, BeginPage, BeginStream, ReadStream, EndPage, EndSession}
-
--- what is settled before the first item: the job's byte order, and the colour space that a page starts in
-pub record Setting : Type 0 where
-  pub high : Bool
-  pub gray : Bool
 
 -- in a session: at rest, reading a motif of a name (the bytes joined so far), in a page, perhaps with an image open
 pub data Busy : Type 0 where
@@ -71,11 +67,11 @@ joinedOf (reading n j) = j
 joinedOf (drawing p i) = []
 
 -- the row of operators performed for an operator of the job: itself, and behind a call all that its motif unfolds to
-unfoldable pub rowFor : Bool → List ℕ → List Motif → Operator → List Stroke
-rowFor high s held o =
+unfoldable pub rowFor : Setting → List ℕ → List Motif → Operator → List Stroke
+rowFor set s held o =
     pick (eqb (o .tag) ExecStream)
     (record { motif = 0; at = o .at; act = idle } ∷ unfolded held (bytesIn s (o .attrs) StreamName))
-    (record { motif = 0; at = o .at; act = actOf high s o } ∷ [])
+    (record { motif = 0; at = o .at; act = actOf set s o } ∷ [])
 
 -- EndStream: a motif that is not faulty becomes held
 unfoldable pub keptAs : List ℕ → List ℕ → Judged → List Motif → List Motif
@@ -94,7 +90,7 @@ sessionAfter set s o p resting x =
 sessionAfter set s o p (reading n j) x =
     pick (eqb (o .tag) ReadStream)
     (record { held = x .held; opened = x .opened; busy = reading n (j ++ take (o .length) (drop (o .first) s)) })
-    (record { held = keptAs n j (motifOf (x .held) j) (x .held); opened = x .opened; busy = resting })
+    (record { held = keptAs n j (motifOf set (x .held) j) (x .held); opened = x .opened; busy = resting })
 sessionAfter set s o p (drawing q i) x =
     pick (eqb (o .tag) EndPage)
     (record { held = x .held; opened = x .opened; busy = resting })

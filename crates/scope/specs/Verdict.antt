@@ -29,7 +29,7 @@ layout k = not (among (17 ∷ 23 ∷ 24 ∷ 25 ∷ 26 ∷ 28 ∷ []) k)
 -- behind the header; a page starts in gray or in RGB, as the caller asks
 unfoldable pub judgedAfter : (gray : Bool) → (ℕ → Bool) → List ℕ → ℕ → Header → Outcome
 judgedAfter gray given s room (Header.no code place) = refusedAt code place outer (starting 0)
-judgedAfter gray given s room (Header.is high next) = judgedFrom given (record { high = high; gray = gray }) s room (starting next)
+judgedAfter gray given s room (Header.is class high next) = judgedFrom given (record { class = class; high = high; gray = gray }) s room (starting next)
 
 -- before the job is looked at: 29, then 1, a code and a position; or it is admitted
 pub data Entry : Type 0 where

@@ -7,8 +7,9 @@
 //! every operator, with the plain checker's numbers.
 
 use outside::generate::{valid, write, Rng, Setting, TAGS};
+use outside::plain::{self, Profile};
 use outside::text::assemble;
-use outside::{plain, vectors};
+use outside::vectors;
 use std::path::{Path, PathBuf};
 use std::process::ExitCode;
 
@@ -42,10 +43,10 @@ fn told(job: &[u8], work: usize, list: usize, rgb: u32) -> (plain::Verdict, Stri
     (v, format!("{} {} {} {} {} {work} {list}\n", v.code, v.position, v.inner, v.records, v.performed))
 }
 
-/// A job that passes in gray and has every operator in its list, the first such one that is short.
+/// A job of class 2;1 that passes in gray and has every operator in its list, the first such one that is short.
 fn everything() -> Vec<u8> {
     (0..)
-        .map(|index| write(&valid(&mut Rng::new(2, index), Setting { gray: true })))
+        .map(|index| write(&valid(&mut Rng::new(2, index), Setting { gray: true, profile: Profile::Two })))
         .find(|job| {
             let mut list = vec![0; BUFFER];
             let v = plain::check(job, &mut vec![0; plain::STORE], &mut list, 0);

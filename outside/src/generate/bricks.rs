@@ -22,7 +22,15 @@ pub(super) fn call_of(name: &[u8]) -> Node {
 }
 
 pub(super) fn motif_of(name: &[u8], body: Vec<Node>) -> Node {
-    Node::Motif(Motif { name: name.to_vec(), high_first: false, header: None, body, split: vec![], spoil: None })
+    Node::Motif(Motif {
+        other_class: false,
+        name: name.to_vec(),
+        high_first: false,
+        header: None,
+        body,
+        split: vec![],
+        spoil: None,
+    })
 }
 
 pub(super) fn ends() -> [Node; 3] {

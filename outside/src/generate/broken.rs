@@ -5,13 +5,16 @@ use super::job::{op, Job, Motif, Node, Op, Pair};
 use super::maker::{Maker, Page};
 use super::rng::Rng;
 use super::shapes::{
-    any_type, any_value, array, bad_range, bad_type, good_value, number, shapes_of, Need, Shape, SHAPES, TAGS,
+    any_number, any_type, any_value, array, bad_range, bad_type, good_value, number, shape_of, shapes_of, tags_of,
+    Need, Shape,
 };
 use super::Setting;
+use crate::plain::Profile;
 
 /// One attribute rule of one operator, and how it is broken.
 #[derive(Debug, Clone, Copy, PartialEq, Eq, PartialOrd, Ord)]
 pub struct Broken {
+    pub profile: Profile,
     pub tag: u8,
     /// The attribute, or 0 where it is the operator's as a whole.
     pub number: u16,
@@ -21,49 +24,49 @@ pub struct Broken {
 /// Every attribute rule that can be broken.
 pub fn all_rules() -> Vec<Broken> {
     let mut all = Vec::new();
-    for tag in TAGS {
-        all.push(Broken { tag, number: 0, code: 11 });
-        for (n, shape, need) in shapes_of(tag) {
-            all.push(Broken { tag, number: n, code: 12 });
-            all.push(Broken { tag, number: n, code: 15 });
-            if bad_range(&mut Rng::new(0, 0), shape).is_some() {
-                all.push(Broken { tag, number: n, code: 16 });
-            }
-            if need == Need::Must {
-                all.push(Broken { tag, number: n, code: 13 });
-            }
-            if need == Need::Choice {
-                all.push(Broken { tag, number: 0, code: 13 });
-                all.push(Broken { tag, number: n, code: 14 });
+    for profile in [Profile::One, Profile::Two] {
+        let rule = |tag, number, code| Broken { profile, tag, number, code };
+        for tag in tags_of(profile) {
+            all.push(rule(tag, 0, 11));
+            for (n, shape, need) in shapes_of(profile, tag) {
+                all.extend([rule(tag, n, 12), rule(tag, n, 15)]);
+                if bad_range(&mut Rng::new(0, 0), shape).is_some() {
+                    all.push(rule(tag, n, 16));
+                }
+                match need {
+                    Need::Must => all.push(rule(tag, n, 13)),
+                    Need::Choice => all.extend([rule(tag, 0, 13), rule(tag, n, 14)]),
+                    Need::May => {}
+                }
             }
         }
+        all.extend([rule(0xb1, 109, 14), rule(0xb1, 99, 14)]);
     }
-    all.push(Broken { tag: 0xb1, number: 109, code: 14 });
-    all.push(Broken { tag: 0xb1, number: 99, code: 14 });
+    all.push(Broken { profile: Profile::Two, tag: 0xb1, number: 111, code: 14 });
     all.sort();
     all.dedup();
     all
 }
 
 fn page_tag(tag: u8) -> bool {
-    matches!(tag, 0x47 | 0x5e..=0x61) || (0x63..=0xb2).contains(&tag)
+    matches!(tag, 0x47 | 0x57 | 0x5e..=0x61) || (0x63..=0xb2).contains(&tag)
 }
 
 /// A job that breaks one rule first, in the job or, where it may stand in one, in a motif.
-pub fn broken(rng: &mut Rng, set: Setting, rule: Broken, inside: bool) -> Job {
-    ending_in(rng, set, rule, inside, |rng, made| break_op(rng, made, rule))
+pub fn broken(rng: &mut Rng, gray: bool, rule: Broken, inside: bool) -> Job {
+    ending_in(rng, gray, rule, inside, |rng, made| break_op(rng, made, rule))
 }
 
 /// A job that ends in the operator of a rule, in the job or in a motif, right but for one change.
 pub(super) fn ending_in(
     rng: &mut Rng,
-    set: Setting,
+    gray: bool,
     rule: Broken,
     inside: bool,
     change: impl Fn(&mut Rng, &mut Op),
 ) -> Job {
     let inside = inside && page_tag(rule.tag);
-    let mut m = Maker::new(rng.clone(), set);
+    let mut m = Maker::new(rng.clone(), Setting { gray, profile: rule.profile });
     rng.draw();
     if rng.one_in(3) {
         m.session(1, 1, 5);
@@ -89,7 +92,7 @@ pub(super) fn ending_in(
         let split = if m.rng.one_in(2) { vec![7] } else { vec![] };
         let high_first = m.rng.one_in(2);
         let (name, header, spoil) = (b"new one".to_vec(), None, None);
-        m.nodes.push(Node::Motif(Motif { name, high_first, header, body: before, split, spoil }));
+        m.nodes.push(Node::Motif(Motif { other_class: false, name, high_first, header, body: before, split, spoil }));
     } else {
         m.nodes.extend(before);
     }
@@ -126,7 +129,7 @@ fn right_operator(m: &mut Maker, rule: Broken, inside: bool) -> Op {
         0x5e => m.call(&mut Page::new(m.set), inside, true).unwrap_or(op(0x5e)),
         0x9b | 0x9d if matches!(rule.number, 77 | 80) && rule.code != 14 => m.points(rule.tag),
         0x63 | 0x79 => {
-            let choice = shapes_of(rule.tag).position(|s| s.0 == rule.number).unwrap_or(2);
+            let choice = shapes_of(rule.profile, rule.tag).position(|s| s.0 == rule.number).unwrap_or(2);
             m.op(rule.tag, choice)
         }
         tag => m.op(tag, 0),
@@ -163,38 +166,34 @@ fn part_of_image(m: &mut Maker, rule: Broken) -> (Vec<Node>, Op) {
     (before, made)
 }
 
-/// The shape of an attribute of an operator.
-fn shape_of(tag: u8, number: u16) -> Shape {
-    shapes_of(tag).find(|s| s.0 == number).map_or(Shape::N(0, 0xffff), |s| s.1)
-}
-
-fn good_pair(rng: &mut Rng, tag: u8, number: u16) -> Pair {
-    Pair { value: good_value(rng, shape_of(tag, number)), number, wide: rng.one_in(3) }
+fn good_pair(rng: &mut Rng, rule: Broken, number: u16) -> Pair {
+    let shape = shape_of(rule.profile, rule.tag, number).unwrap_or(Shape::N(0, 0xffff));
+    Pair { value: good_value(rng, shape), number, wide: rng.one_in(3) }
 }
 
 /// Breaks the rule in an operator that keeps all.
 fn break_op(rng: &mut Rng, made: &mut Op, rule: Broken) {
     match rule.code {
-        11 => put_foreign(rng, made),
-        12 => put_twice(rng, made, rule.number),
+        11 => put_foreign(rng, made, rule.profile),
+        12 => put_twice(rng, made, rule),
         13 if rule.number == 0 => made.pairs.clear(),
         13 => made.pairs.retain(|p| p.number != rule.number),
         14 if rule.tag == 0xb1 => put_wrong_rows(rng, made, rule.number),
-        14 => put_clash(rng, made, rule.number),
+        14 => put_clash(rng, made, rule),
         15 | 16 => put_wrong_value(rng, made, rule),
         _ => {}
     }
 }
 
 /// An attribute that is not the operator's.
-fn put_foreign(rng: &mut Rng, made: &mut Op) {
-    let own: Vec<u16> = shapes_of(made.tag).map(|s| s.0).collect();
+fn put_foreign(rng: &mut Rng, made: &mut Op, profile: Profile) {
+    let own: Vec<u16> = shapes_of(profile, made.tag).map(|s| s.0).collect();
     let foreign = loop {
         let n = match rng.below(4) {
             0 => rng.draw() as u16,
             // A neighbour of an own attribute.
             1 if !own.is_empty() => rng.pick(&own) - 1 + rng.pick(&[0, 2]),
-            _ => SHAPES[rng.below(SHAPES.len())].1,
+            _ => any_number(rng),
         };
         if !own.contains(&n) {
             break n;
@@ -206,43 +205,50 @@ fn put_foreign(rng: &mut Rng, made: &mut Op) {
     made.pairs.insert(place, Pair { value, number: foreign, wide: false });
 }
 
-fn put_twice(rng: &mut Rng, made: &mut Op, number: u16) {
-    let given = made.pairs.iter().any(|p| p.number == number);
+fn put_twice(rng: &mut Rng, made: &mut Op, rule: Broken) {
+    let given = made.pairs.iter().any(|p| p.number == rule.number);
     for _ in usize::from(given)..2 {
-        let pair = good_pair(rng, made.tag, number);
+        let pair = good_pair(rng, rule, rule.number);
         made.pairs.push(pair);
     }
 }
 
 /// Half of a pair, or one more of a choice.
-fn put_clash(rng: &mut Rng, made: &mut Op, number: u16) {
+fn put_clash(rng: &mut Rng, made: &mut Op, rule: Broken) {
+    let number = rule.number;
     let given = made.pairs.iter().any(|p| p.number == number);
     let half = matches!(number, 77 | 80) && rng.one_in(2);
     if half {
         made.pairs.clear();
     }
-    if !given || half {
-        let pair = good_pair(rng, made.tag, number);
-        made.pairs.push(pair);
+    let other = if !given || half {
+        number
     } else {
-        let others: Vec<u16> = shapes_of(made.tag).map(|s| s.0).filter(|&n| n != number).collect();
-        let other = rng.pick(&others);
-        let value = good_value(rng, shape_of(made.tag, other));
-        made.pairs.push(Pair { value, number: other, wide: false });
-    }
+        let others: Vec<u16> = shapes_of(rule.profile, rule.tag).map(|s| s.0).filter(|&n| n != number).collect();
+        rng.pick(&others)
+    };
+    let pair = good_pair(rng, rule, other);
+    made.pairs.push(pair);
 }
 
-/// Another StartLine, or more rows than the image has.
-fn put_wrong_rows(rng: &mut Rng, made: &mut Op, number: u16) {
-    if let Some(p) = made.pairs.iter_mut().find(|p| p.number == number) {
-        let far = if number == 109 { &[77][..] } else { &[6, 7, 255] };
-        let n = &mut p.value.numbers[0];
-        *n = if rng.one_in(2) { *n + 1 } else { rng.pick(far) };
-    }
+/// Another StartLine, more rows than the image has, or another length than the rows have.
+fn put_wrong_rows(rng: &mut Rng, made: &mut Op, wrong: u16) {
+    let Some(p) = made.pairs.iter_mut().find(|p| p.number == wrong) else {
+        let value = number(0xc2, rng.pick(&[0, 0x00ff_ffff, u32::MAX]));
+        made.pairs.push(Pair { value, number: wrong, wide: false });
+        return;
+    };
+    let n = &mut p.value.numbers[0];
+    *n = match wrong {
+        _ if rng.one_in(2) => *n + 1,
+        109 => 77,
+        99 => rng.pick(&[6, 7, 255]),
+        _ => *n - 1,
+    };
 }
 
 fn put_wrong_value(rng: &mut Rng, made: &mut Op, rule: Broken) {
-    let shape = shape_of(rule.tag, rule.number);
+    let shape = shape_of(rule.profile, rule.tag, rule.number).unwrap_or(Shape::N(0, 0xffff));
     let value = if rule.code == 15 { Some(bad_type(rng, shape)) } else { bad_range(rng, shape) };
     let pair = Pair { value: value.unwrap_or(number(0xc0, 0)), number: rule.number, wide: false };
     match made.pairs.iter().position(|p| p.number == rule.number) {
@@ -254,7 +260,7 @@ fn put_wrong_value(rng: &mut Rng, made: &mut Op, rule: Broken) {
 #[cfg(test)]
 mod tests {
     use super::*;
-    use crate::generate::{judged, setting, write};
+    use crate::generate::{judged, write};
     use crate::{plain, text};
 
     #[test]
@@ -262,8 +268,8 @@ mod tests {
         for (i, rule) in all_rules().into_iter().enumerate() {
             for inside in [false, true] {
                 for round in 0..6 {
-                    let job = write(&broken(&mut Rng::new(round, i as u64), setting(round), rule, inside));
-                    let verdict = judged(&job, setting(round));
+                    let job = write(&broken(&mut Rng::new(round, i as u64), round % 2 == 0, rule, inside));
+                    let verdict = judged(&job, Setting { gray: round % 2 == 0, profile: rule.profile });
                     assert_eq!(verdict.code, rule.code, "{rule:x?} {verdict:?}\n{}", text::list(&job));
                     assert_eq!(verdict.inner != plain::NO_INNER, inside && page_tag(rule.tag));
                 }

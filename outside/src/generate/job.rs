@@ -2,6 +2,7 @@
 
 use super::rng::Rng;
 use super::shapes::{any_type, array, number, TAGS};
+use crate::plain::Profile;
 use crate::text::{put_attribute, put_data, put_value, Value};
 
 #[derive(Debug, Clone, PartialEq)]
@@ -28,6 +29,8 @@ pub enum Node {
 /// A motif to be defined: its lengths are measured when it is written down.
 #[derive(Debug, Clone, PartialEq)]
 pub struct Motif {
+    /// Its header is not of the job's class.
+    pub(super) other_class: bool,
     pub(super) name: Vec<u8>,
     pub(super) high_first: bool,
     pub(super) header: Option<Vec<u8>>,
@@ -39,6 +42,7 @@ pub struct Motif {
 
 #[derive(Debug, Clone, PartialEq)]
 pub struct Job {
+    pub(super) profile: Profile,
     pub(super) high_first: bool,
     pub(super) header: Option<Vec<u8>>,
     pub(super) nodes: Vec<Node>,
@@ -76,6 +80,7 @@ impl Op {
 }
 
 pub(super) struct Writer {
+    pub(super) profile: Profile,
     pub(super) out: Vec<u8>,
     pub(super) high_first: bool,
     pub(super) space: usize,
@@ -85,15 +90,23 @@ pub(super) struct Writer {
     pub(super) places: usize,
 }
 
-pub(super) fn header_bytes(high_first: bool, text: &Option<Vec<u8>>) -> Vec<u8> {
+pub(super) fn header_bytes(profile: Profile, high_first: bool, text: &Option<Vec<u8>>) -> Vec<u8> {
     let mut out = vec![if high_first { 0x28 } else { 0x29 }];
-    out.extend(b" HP-PCL XL;1;1");
+    out.extend(if profile == Profile::One { b" HP-PCL XL;1;1" } else { b" HP-PCL XL;2;1" });
     if let Some(text) = text {
         out.push(b';');
         out.extend(text);
     }
     out.push(b'\n');
     out
+}
+
+pub(super) fn other_than(profile: Profile) -> Profile {
+    if profile == Profile::One {
+        Profile::Two
+    } else {
+        Profile::One
+    }
 }
 
 impl Writer {
@@ -135,8 +148,10 @@ impl Writer {
     }
 
     pub(super) fn motif(&mut self, motif: &Motif) {
+        let profile = if motif.other_class { other_than(self.profile) } else { self.profile };
         let mut inside = Writer {
-            out: header_bytes(motif.high_first, &motif.header),
+            out: header_bytes(profile, motif.high_first, &motif.header),
+            profile,
             high_first: motif.high_first,
             space: self.space,
             rng: Rng::new(self.rng.draw(), 1),
@@ -172,7 +187,8 @@ pub fn write(job: &Job) -> Vec<u8> {
 /// The bytes of a job, and how many places it has for white space.
 pub(super) fn write_counting(job: &Job) -> (Vec<u8>, usize) {
     let mut w = Writer {
-        out: header_bytes(job.high_first, &job.header),
+        out: header_bytes(job.profile, job.high_first, &job.header),
+        profile: job.profile,
         high_first: job.high_first,
         space: job.space,
         rng: Rng::new(job.space_seed, 3),

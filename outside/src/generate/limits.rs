@@ -9,10 +9,12 @@ use super::maker::Maker;
 use super::rng::Rng;
 use super::shapes::{array, number, TAGS};
 use super::Setting;
+use crate::plain::{row_bytes, Profile};
 use crate::text::Value;
 
 /// A job being built behind BeginSession and OpenDataSource, and what else it needs.
 struct Edge {
+    set: Setting,
     nodes: Vec<Node>,
     /// Text in the header.
     header: Option<Vec<u8>>,
@@ -24,7 +26,7 @@ struct Edge {
 type Build = fn(&mut Rng, usize, &mut Edge);
 
 /// Each limit; those with more cases to tell stand twice.
-const LIMITS: [Build; 19] = [
+const LIMITS: [Build; 20] = [
     held_motifs,
     motif_bytes,
     nesting,
@@ -44,16 +46,24 @@ const LIMITS: [Build; 19] = [
     bad_ends,
     image_order,
     sessions,
+    long_block,
 ];
 
 /// A job at the edge of a limit, or one past it.
-pub fn limit(rng: &mut Rng, which: usize) -> Vec<u8> {
-    let mut edge = Edge { nodes: vec![begin_session(), open_source()], header: None, fill: None };
+pub fn limit(rng: &mut Rng, set: Setting, which: usize) -> Vec<u8> {
+    let mut edge = Edge { set, nodes: vec![begin_session(), open_source()], header: None, fill: None };
     let more = rng.below(2);
     LIMITS[which % LIMITS.len()](rng, more, &mut edge);
-    let Edge { nodes, header, fill } = edge;
-    let mut bytes =
-        write(&Job { high_first: rng.one_in(2), header, nodes, space: 0, space_seed: rng.draw(), pad: None });
+    let Edge { set, nodes, header, fill } = edge;
+    let mut bytes = write(&Job {
+        profile: set.profile,
+        high_first: rng.one_in(2),
+        header,
+        nodes,
+        space: 0,
+        space_seed: rng.draw(),
+        pad: None,
+    });
     if let Some((length, byte)) = fill {
         // Before the last three operators, so that the job may still end well.
         let at = if byte == 0x42 { 0 } else { bytes.len() - 3 };
@@ -94,6 +104,7 @@ fn motif_bytes(rng: &mut Rng, more: usize, edge: &mut Edge) {
         let size = if i + 1 == parts { left } else { 17 + rng.below(left / 2) };
         left -= size;
         let mut m = Motif {
+            other_class: false,
             name: vec![i as u8],
             high_first: rng.one_in(2),
             header: None,
@@ -245,6 +256,7 @@ fn header_bytes(rng: &mut Rng, more: usize, edge: &mut Edge) {
     edge.header = Some(vec![b'h'; 239 + more]);
     if rng.one_in(2) {
         edge.nodes.push(Node::Motif(Motif {
+            other_class: false,
             name: b"a".to_vec(),
             high_first: true,
             header: edge.header.take(),
@@ -324,7 +336,7 @@ fn powers_of_eight(rng: &mut Rng, _: usize, edge: &mut Edge) {
 
 /// Motifs that do not end well: an image open, rows unread, saves, data or attributes left.
 fn bad_ends(rng: &mut Rng, _: usize, edge: &mut Edge) {
-    let mut maker = Maker::new(rng.clone(), Setting { gray: true });
+    let mut maker = Maker::new(rng.clone(), edge.set);
     rng.draw();
     let mut body = small_body(rng);
     match rng.below(5) {
@@ -348,7 +360,7 @@ fn bad_ends(rng: &mut Rng, _: usize, edge: &mut Edge) {
 
 /// Images whose operators do not come in order, in the page or in a motif.
 fn image_order(rng: &mut Rng, _: usize, edge: &mut Edge) {
-    let mut maker = Maker::new(rng.clone(), Setting { gray: true });
+    let mut maker = Maker::new(rng.clone(), edge.set);
     rng.draw();
     let mut image: Vec<Node> = maker.image().into_iter().map(Op::node).collect();
     let at = 1 + rng.below(image.len() - 1);
@@ -395,6 +407,24 @@ fn sessions(rng: &mut Rng, _: usize, edge: &mut Edge) {
     }
 }
 
+/// Rows in class 2;1 whose length passes 2 to the 32nd: no length of data equals it, whatever is left of it in 32 bits.
+fn long_block(rng: &mut Rng, more: usize, edge: &mut Edge) {
+    edge.set.profile = Profile::Two;
+    let (pad, rows) = (rng.pick(&[200, 255]), 65_535);
+    let rest = (row_bytes(65_535, 2, pad) * rows) as u32;
+    let size = Value { kind: 0xd1, numbers: vec![1, 1], wide: false };
+    let image = op(0xb0).with(100, number(0xc0, 0)).with(98, number(0xc0, 2)).with(103, size);
+    let mut read = op(0xb1).with(109, number(0xc0, 0)).with(101, number(0xc0, 0)).with(110, number(0xc0, pad));
+    if more == 1 {
+        read = read.with(111, number(0xc2, rest));
+    }
+    let lines = |n| number(0xc1, n);
+    edge.nodes.extend([begin_page(), point(0x6b, 76), colour_space(1)]);
+    edge.nodes.push(image.with(108, lines(65_535)).with(107, lines(65_535)).node());
+    edge.nodes.push(read.with(99, lines(rows as u32)).node());
+    edge.nodes.push(Node::Raw([&[0xfa][..], &rest.to_le_bytes(), &[0; 9]].concat()));
+}
+
 #[cfg(test)]
 mod tests {
     use super::*;
@@ -406,7 +436,9 @@ mod tests {
         let mut codes = vec![BTreeSet::new(); LIMITS.len()];
         for round in 0..30 {
             for (which, seen) in codes.iter_mut().enumerate() {
-                seen.insert(judged(&limit(&mut Rng::new(round, which as u64), which), setting(round)).code);
+                seen.insert(
+                    judged(&limit(&mut Rng::new(round, which as u64), setting(round), which), setting(round)).code,
+                );
             }
         }
         let want: [&[u32]; LIMITS.len()] = [
@@ -429,6 +461,7 @@ mod tests {
             &[27],
             &[10, 14],
             &[0, 21],
+            &[14, 18],
         ];
         for (which, want) in want.iter().enumerate() {
             assert!(want.iter().all(|c| codes[which].contains(c)), "limit {which}: {:?}", codes[which]);

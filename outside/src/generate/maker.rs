@@ -2,9 +2,9 @@
 
 use super::job::{op, Job, Motif, Node, Op, Pair};
 use super::rng::Rng;
-use super::shapes::{array, good_value, number, shapes_of, Need, Shape};
+use super::shapes::{array, good_value, number, shape_of, shapes_of, Need, Shape};
 use super::Setting;
-use crate::plain;
+use crate::plain::{self, Profile};
 use crate::text::Value;
 
 /// The state of a page as the maker knows it.
@@ -54,7 +54,7 @@ impl Maker {
     }
 
     pub(super) fn pair(&mut self, tag: u8, n: u16) -> Pair {
-        let shape = shapes_of(tag).find(|s| s.0 == n).map_or(Shape::N(0, 0xffff), |s| s.1);
+        let shape = shape_of(self.set.profile, tag, n).unwrap_or(Shape::N(0, 0xffff));
         Pair { value: good_value(&mut self.rng, shape), number: n, wide: self.rng.one_in(6) }
     }
 
@@ -62,7 +62,7 @@ impl Maker {
     pub(super) fn op(&mut self, tag: u8, choice: usize) -> Op {
         let mut made = op(tag);
         let mut seen = 0;
-        let all: Vec<_> = shapes_of(tag).collect();
+        let all: Vec<_> = shapes_of(self.set.profile, tag).collect();
         for (n, _, need) in all {
             let take = match need {
                 Need::Must => true,
@@ -111,21 +111,30 @@ impl Maker {
         Self::set(&mut begin, 98, number(0xc0, depth as u32));
         Self::set(&mut begin, 108, number(kind, width as u32));
         Self::set(&mut begin, 107, number(kind, height as u32));
-        let row = plain::row_bytes(width as u32, depth as u32) as usize;
         let mut all = vec![begin];
         let mut rows = 0;
         while rows < height {
             let block = 1 + self.rng.below(height - rows);
-            let mut read = self.op(0xb1, 0);
-            let kind = self.rng.pick(&[0xc0, 0xc1]);
-            Self::set(&mut read, 109, number(kind, rows as u32));
-            Self::set(&mut read, 99, number(kind, block as u32));
-            let bytes = self.rng.bytes(block * row);
-            all.push(read.data(bytes));
+            all.push(self.block(width as u32, depth as u32, rows as u32, block as u32));
             rows += block;
         }
         all.push(op(0xb2));
         all
+    }
+
+    /// Rows of an image; in class 2;1 perhaps padded otherwise, and with their length.
+    fn block(&mut self, width: u32, depth: u32, from: u32, rows: u32) -> Op {
+        let mut read = self.op(0xb1, 0);
+        let kind = self.rng.pick(&[0xc0, 0xc1]);
+        Self::set(&mut read, 109, number(kind, from));
+        Self::set(&mut read, 99, number(kind, rows));
+        let pad = read.pairs.iter().find(|p| p.number == 110).map_or(4, |p| p.value.numbers[0]);
+        let length = plain::row_bytes(width, depth, pad) as u32 * rows;
+        let least = [0xff, 0xffff].iter().filter(|&&most| length > most).count() as u8;
+        let kind = 0xc0 + least + self.rng.below(3 - usize::from(least)) as u8;
+        Self::set(&mut read, 111, number(kind, length));
+        let bytes = self.rng.bytes(length as usize);
+        read.data(bytes)
     }
 
     /// A call of a held motif that keeps the rules, or of any if wild.
@@ -199,6 +208,10 @@ impl Maker {
             5 | 6 => {
                 page.cursor = true;
                 self.op(0x6b, 0)
+            }
+            7 if self.set.profile == Profile::Two && self.rng.one_in(2) => {
+                (page.cursor, page.gray) = (false, self.set.gray);
+                op(0x57)
             }
             7 => {
                 page.cursor = false;
@@ -283,7 +296,15 @@ impl Maker {
         self.held.push(Held { name: name.clone(), after: page });
         let header = self.rng.one_in(5).then(|| b"a motif".to_vec());
         let split = (0..self.rng.below(4)).map(|_| 1 + self.rng.below(40)).collect();
-        Node::Motif(Motif { name, high_first: self.rng.one_in(2), header, body, split, spoil: None })
+        Node::Motif(Motif {
+            other_class: false,
+            name,
+            high_first: self.rng.one_in(2),
+            header,
+            body,
+            split,
+            spoil: None,
+        })
     }
 
     pub(super) fn session(&mut self, motifs: usize, pages: usize, size: usize) {
@@ -338,7 +359,15 @@ impl Maker {
             self.rng.bytes(n).into_iter().filter(|&b| b != b'\n').collect()
         });
         let high_first = self.rng.one_in(2);
-        Job { high_first, header, nodes: self.nodes, space, space_seed: self.rng.draw(), pad: None }
+        Job {
+            profile: self.set.profile,
+            high_first,
+            header,
+            nodes: self.nodes,
+            space,
+            space_seed: self.rng.draw(),
+            pad: None,
+        }
     }
 }
 

@@ -28,7 +28,7 @@ pub use runs::runs;
 pub use shapes::{class_of, shapes_of, Class, Need, Size, CLASSES, TAGS};
 pub use tags::tags;
 
-use crate::plain;
+use crate::plain::{self, Profile};
 
 /// All jobs that a job cut off anywhere is.
 pub fn truncations(job: &[u8]) -> impl Iterator<Item = &[u8]> {
@@ -39,6 +39,7 @@ pub fn truncations(job: &[u8]) -> impl Iterator<Item = &[u8]> {
 pub struct Setting {
     /// Pages start in gray, else in RGB.
     pub gray: bool,
+    pub profile: Profile,
 }
 
 /// One job with both buffers as lent.
@@ -60,19 +61,19 @@ pub fn case(seed: u64, index: u64) -> Case {
     let mut rng = Rng::new(seed, index);
     let (eighth, sixteenth) = (index / 8, index / 16);
     let rgb = if rng.one_in(2) { 0 } else { rng.pick(&[1, 1, 2, 256, 1 << 31, u32::MAX]) };
-    let set = Setting { gray: rgb == 0 };
+    let set = Setting { gray: rgb == 0, profile: rng.pick(&[Profile::One, Profile::Two]) };
     let (kind, job) = match index % 16 {
         0 | 8 => ("valid", write(&valid(&mut rng, set))),
         1 | 9 => {
             let rules = all_rules();
             let rule = rules[(eighth / 2) as usize % rules.len()];
-            ("broken rule", write(&broken(&mut rng, set, rule, eighth % 2 == 1)))
+            ("broken rule", write(&broken(&mut rng, set.gray, rule, eighth % 2 == 1)))
         }
         2 | 3 | 10 | 13 => ("mutant", mutant(&mut rng, set)),
         4 | 5 | 12 => ("rich", write(&rich(&mut rng, set))),
         // The longer limit jobs come less often.
-        6 if sixteenth.is_multiple_of(2) => ("limit", limit(&mut rng, (sixteenth / 2) as usize)),
-        6 => ("runs", runs(&mut rng)),
+        6 if sixteenth.is_multiple_of(2) => ("limit", limit(&mut rng, set, (sixteenth / 2) as usize)),
+        6 => ("runs", runs(&mut rng, set)),
         11 => ("reals", write(&reals(&mut rng, set, sixteenth as usize))),
         14 if sixteenth.is_multiple_of(2) => ("padded", padded(&mut rng, set)),
         14 => ("tags", tags(&mut rng)),
@@ -124,7 +125,7 @@ fn judged(job: &[u8], set: Setting) -> plain::Verdict {
 /// The settings in turn.
 #[cfg(test)]
 fn setting(index: u64) -> Setting {
-    Setting { gray: index.is_multiple_of(2) }
+    Setting { gray: index.is_multiple_of(2), profile: [Profile::One, Profile::Two][index as usize / 2 % 2] }
 }
 
 #[cfg(test)]

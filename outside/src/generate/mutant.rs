@@ -3,7 +3,7 @@
 use super::job::{any_tag, spoil, write, Node, Op, Pair};
 use super::maker::{rich, valid, Maker};
 use super::rng::Rng;
-use super::shapes::{any_type, any_value, bad_range, good_value, shapes_of, SHAPES, TAGS};
+use super::shapes::{any_number, any_type, any_value, bad_range, good_value, shape_of, shapes, TAGS};
 use super::Setting;
 
 /// One to four faults in a job, in its structure (lengths mended) or its bytes.
@@ -20,7 +20,8 @@ pub fn mutant(rng: &mut Rng, set: Setting) -> Vec<u8> {
                 if motifs.is_empty() {
                     mutate(rng, set, &mut job.nodes);
                 } else if let Node::Motif(m) = &mut job.nodes[motifs[rng.below(motifs.len())]] {
-                    match rng.below(12) {
+                    match rng.below(14) {
+                        4 => m.other_class = true,
                         0 => m.name = b"a".to_vec(),
                         1 => m.header = Some(rng.bytes(5)),
                         2 | 3 => m.spoil = Some(rng.draw()),
@@ -75,13 +76,13 @@ fn mutate(rng: &mut Rng, set: Setting, nodes: &mut Vec<Node>) {
         }
         _ => {
             if let Node::Op(op) = &mut nodes[at] {
-                mutate_op(rng, op);
+                mutate_op(rng, set, op);
             }
         }
     }
 }
 
-fn mutate_op(rng: &mut Rng, op: &mut Op) {
+fn mutate_op(rng: &mut Rng, set: Setting, op: &mut Op) {
     let pairs = op.pairs.len();
     let at = rng.below(pairs);
     match rng.below(10) {
@@ -93,14 +94,14 @@ fn mutate_op(rng: &mut Rng, op: &mut Op) {
             let copy = op.pairs[at].clone();
             op.pairs.push(copy);
         }
-        3 if pairs > 0 => op.pairs[at].number = SHAPES[rng.below(SHAPES.len())].1,
+        3 if pairs > 0 => op.pairs[at].number = any_number(rng),
         4 if pairs > 0 => {
             let kind = any_type(rng);
             op.pairs[at].value = any_value(rng, kind);
         }
         5 if pairs > 0 => {
             let (tag, n) = (op.tag, op.pairs[at].number);
-            if let Some((_, shape, _)) = shapes_of(tag).find(|s| s.0 == n) {
+            if let Some(shape) = shape_of(set.profile, tag, n) {
                 op.pairs[at].value = bad_range(rng, shape).unwrap_or_else(|| good_value(rng, shape));
             }
         }
@@ -119,9 +120,10 @@ fn mutate_op(rng: &mut Rng, op: &mut Op) {
             }
         }
         _ => {
-            let shape = SHAPES[rng.below(SHAPES.len())];
-            let value = good_value(rng, shape.2);
-            op.pairs.push(Pair { value, number: shape.1, wide: false });
+            let all: Vec<_> = shapes(set.profile).collect();
+            let (_, number, shape, _) = rng.pick(&all);
+            let value = good_value(rng, shape);
+            op.pairs.push(Pair { value, number, wide: false });
         }
     }
 }

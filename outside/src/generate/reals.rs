@@ -3,26 +3,27 @@
 use super::broken::{ending_in, Broken};
 use super::job::{Job, Op, Pair};
 use super::rng::Rng;
-use super::shapes::{any_value, real, Class, Shape, CLASSES, SHAPES};
+use super::shapes::{any_value, real, shapes, Class, Shape, CLASSES};
 use super::Setting;
+use crate::plain::Profile;
 use crate::text::Value;
 
 /// The attributes that take reals, and the others.
-fn of_shapes(takes_reals: bool) -> Vec<(u8, u16)> {
+fn of_shapes(profile: Profile, takes_reals: bool) -> Vec<(u8, u16)> {
     let takes = |shape: Shape| matches!(shape, Shape::Point | Shape::Sizes);
-    SHAPES.iter().filter(|s| takes(s.2) == takes_reals).map(|s| (s.0, s.1)).collect()
+    shapes(profile).filter(|s| takes(s.2) == takes_reals).map(|s| (s.0, s.1)).collect()
 }
 
 /// Job `turn` of a row that has every attribute, class and byte order, the attributes that take reals as often as all others.
 pub fn reals(rng: &mut Rng, set: Setting, turn: usize) -> Job {
     let own = turn.is_multiple_of(2);
-    let shapes = of_shapes(own);
+    let shapes = of_shapes(set.profile, own);
     let (high_first, turn) = (turn / 2 % 2 == 1, turn / 4);
     let (tag, number) = shapes[turn % shapes.len()];
     let class = CLASSES[turn / shapes.len() % CLASSES.len()];
-    let rule = Broken { tag, number, code: 15 };
+    let rule = Broken { profile: set.profile, tag, number, code: 15 };
     let inside = rng.one_in(4);
-    let mut job = ending_in(rng, set, rule, inside, |rng, made| put_real(rng, made, number, own, class));
+    let mut job = ending_in(rng, set.gray, rule, inside, |rng, made| put_real(rng, made, number, own, class));
     job.high_first = high_first;
     job
 }

@@ -3,6 +3,7 @@
 use super::bricks::{begin_page, begin_session, call_of, ends, motif_of, open_source, page_start, point, times};
 use super::job::{op, spoil, write, Job, Node};
 use super::rng::Rng;
+use super::Setting;
 use crate::text::number_width;
 
 /// The bytes of a line by its end point.
@@ -23,7 +24,7 @@ fn nearly_all() -> (Vec<Node>, Vec<Node>) {
 }
 
 /// Lines by their end point and operators of one byte side by side in a page, near misses and white bytes between them.
-pub fn runs(rng: &mut Rng) -> Vec<u8> {
+pub fn runs(rng: &mut Rng, set: Setting) -> Vec<u8> {
     let (motifs, calls) = if rng.one_in(40) { nearly_all() } else { (vec![], vec![]) };
     let mut nodes = vec![begin_session(), open_source()];
     nodes.extend(motifs);
@@ -33,7 +34,7 @@ pub fn runs(rng: &mut Rng) -> Vec<u8> {
     for _ in 0..rng.below(24) {
         nodes.push(match rng.below(16) {
             0..=7 => Node::Raw(line(rng)),
-            8..=11 => op(rng.pick(&[0x84, 0x85, 0x86, 0x61, 0x60])).node(),
+            8..=11 => op(rng.pick(&[0x84, 0x85, 0x86, 0x61, 0x60, 0x57])).node(),
             12 | 13 => point(0x6b, 76),
             14 => Node::Raw(vec![rng.pick(&[0x00, 0x09, 0x0d, 0x20])]),
             _ => {
@@ -44,7 +45,15 @@ pub fn runs(rng: &mut Rng) -> Vec<u8> {
         });
     }
     nodes.extend(ends());
-    write(&Job { high_first: rng.one_in(2), header: None, nodes, space: 0, space_seed: 0, pad: None })
+    write(&Job {
+        profile: set.profile,
+        high_first: rng.one_in(2),
+        header: None,
+        nodes,
+        space: 0,
+        space_seed: 0,
+        pad: None,
+    })
 }
 
 #[cfg(test)]
@@ -58,7 +67,7 @@ mod tests {
         let mut seen = BTreeSet::new();
         let mut far = 0;
         for index in 0..4000 {
-            let verdict = judged(&runs(&mut Rng::new(12, index)), setting(index));
+            let verdict = judged(&runs(&mut Rng::new(12, index), setting(index)), setting(index));
             seen.insert(verdict.code);
             far = far.max(verdict.performed);
         }

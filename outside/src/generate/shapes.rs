@@ -1,6 +1,7 @@
 //! What each attribute of each operator takes: values of a right shape, of a wrong type, out of range.
 
 use super::rng::Rng;
+use crate::plain::Profile;
 use crate::text::Value;
 
 /// What an attribute takes.
@@ -18,6 +19,10 @@ pub enum Shape {
     Box,
     /// ubyte array of from..=to.
     A(usize, usize),
+    /// ubyte 0..=21 or 96, or ubyte array of at least one.
+    Media,
+    /// ubyte, uint16 or uint32.
+    Length,
 }
 
 /// Whether an attribute may be missing.
@@ -29,10 +34,10 @@ pub enum Need {
 }
 
 use Need::{Choice, May, Must};
-use Shape::{Box, Point, Sizes, A, E, N};
+use Shape::{Box, Length, Media, Point, Sizes, A, E, N};
 
-/// Every attribute of every operator that has any.
-pub const SHAPES: [(u8, u16, Shape, Need); 38] = [
+/// Every attribute of every operator that has any, in class 1;1.
+const SHAPES: [(u8, u16, Shape, Need); 38] = [
     (0x41, 134, E(0, 2, 0, 2), Must),
     (0x41, 137, Sizes, Must),
     (0x41, 143, E(0, 3, 0, 3), May),
@@ -73,15 +78,50 @@ pub const SHAPES: [(u8, u16, Shape, Need); 38] = [
     (0xb1, 101, E(0, 0, 0, 0), Must),
 ];
 
-/// Tags of the operator table.
-pub const TAGS: [u8; 28] = [
-    0x41, 0x42, 0x43, 0x44, 0x47, 0x48, 0x49, 0x5b, 0x5c, 0x5d, 0x5e, 0x60, 0x61, 0x63, 0x6a, 0x6b, 0x6c, 0x79, 0x7a,
-    0x84, 0x85, 0x86, 0x9b, 0x9d, 0xa0, 0xb0, 0xb1, 0xb2,
+/// What class 2;1 has besides or in place of these.
+const SHAPES_TWO: [(u8, u16, Shape, Need); 5] = [
+    (0x43, 37, Media, May),
+    (0x43, 39, A(0, 1024), May),
+    (0x43, 40, E(0, 3, 0, 3), May),
+    (0xb1, 110, E(1, 255, 1, 255), May),
+    (0xb1, 111, Length, May),
 ];
 
+/// Tags of the operator table of class 2;1; class 1;1 has all but 0x57.
+pub const TAGS: [u8; 29] = [
+    0x41, 0x42, 0x43, 0x44, 0x47, 0x48, 0x49, 0x57, 0x5b, 0x5c, 0x5d, 0x5e, 0x60, 0x61, 0x63, 0x6a, 0x6b, 0x6c, 0x79,
+    0x7a, 0x84, 0x85, 0x86, 0x9b, 0x9d, 0xa0, 0xb0, 0xb1, 0xb2,
+];
+
+/// The tags of a class.
+pub fn tags_of(profile: Profile) -> impl Iterator<Item = u8> {
+    TAGS.into_iter().filter(move |&tag| tag != 0x57 || profile == Profile::Two)
+}
+
+/// The attributes of all operators of a class.
+pub(super) fn shapes(profile: Profile) -> impl Iterator<Item = (u8, u16, Shape, Need)> {
+    let own = if profile == Profile::Two { &SHAPES_TWO[..] } else { &[] };
+    let same = move |s: &&(u8, u16, Shape, Need)| !own.iter().any(|o| (o.0, o.1) == (s.0, s.1));
+    SHAPES.iter().filter(same).chain(own).copied()
+}
+
 /// The attributes of one operator.
-pub fn shapes_of(tag: u8) -> impl Iterator<Item = (u16, Shape, Need)> {
-    SHAPES.iter().filter(move |s| s.0 == tag).map(|s| (s.1, s.2, s.3))
+pub fn shapes_of(profile: Profile, tag: u8) -> impl Iterator<Item = (u16, Shape, Need)> {
+    shapes(profile).filter(move |s| s.0 == tag).map(|s| (s.1, s.2, s.3))
+}
+
+/// The shape of an attribute of an operator.
+pub(super) fn shape_of(profile: Profile, tag: u8, number: u16) -> Option<Shape> {
+    shapes_of(profile, tag).find(|s| s.0 == number).map(|s| s.1)
+}
+
+/// The number of any attribute, of both classes and of patterns too.
+pub(super) fn any_number(rng: &mut Rng) -> u16 {
+    if rng.one_in(6) {
+        rng.pick(&[8, 39, 104, 105, 110, 111])
+    } else {
+        SHAPES[rng.below(SHAPES.len())].1
+    }
 }
 
 pub(super) fn number(kind: u8, n: u32) -> Value {
@@ -96,6 +136,12 @@ pub(super) fn array(bytes: &[u8], wide: bool) -> Value {
 /// A value that the shape takes, edges often.
 pub(super) fn good_value(rng: &mut Rng, shape: Shape) -> Value {
     match shape {
+        Media if rng.one_in(2) => good_value(rng, E(0, 21, 96, 96)),
+        Media => good_value(rng, A(1, 1024)),
+        Length => {
+            let kind = rng.pick(&[0xc0, 0xc1, 0xc2]);
+            any_value(rng, kind)
+        }
         E(a, b, c, d) => {
             let (from, to) = if rng.one_in(2) { (a, b) } else { (c, d) };
             let n = match rng.below(3) {
@@ -142,6 +188,8 @@ pub(super) fn takes_type(shape: Shape, kind: u8) -> bool {
         Point => [0xd0, 0xd1, 0xd3, 0xd5].contains(&kind),
         Box => [0xe0, 0xe1, 0xe3].contains(&kind),
         A(..) => kind == 0xc8,
+        Media => kind == 0xc0 || kind == 0xc8,
+        Length => [0xc0, 0xc1, 0xc2].contains(&kind),
     }
 }
 
@@ -174,7 +222,7 @@ pub(super) fn any_type(rng: &mut Rng) -> u8 {
 pub(super) fn bad_type(rng: &mut Rng, shape: Shape) -> Value {
     // Half of them of the right family, where a mistake is easiest.
     let family = match shape {
-        E(..) | N(..) => 0xc0,
+        E(..) | N(..) | Media | Length => 0xc0,
         Sizes | Point => 0xd0,
         Box => 0xe0,
         A(..) => 0xc8,
@@ -190,7 +238,9 @@ pub(super) fn bad_type(rng: &mut Rng, shape: Shape) -> Value {
 /// A value of a right type but out of range, if there is any.
 pub(super) fn bad_range(rng: &mut Rng, shape: Shape) -> Option<Value> {
     Some(match shape {
-        E(0, 255, ..) | N(0, 0xffff) | Box | A(0, _) => return None,
+        E(0, 255, ..) | N(0, 0xffff) | Box | Length | A(0, _) => return None,
+        Media if rng.one_in(2) => array(&[], rng.one_in(2)),
+        Media => return bad_range(rng, E(0, 21, 96, 96)),
         E(a, b, c, d) => loop {
             let n = if rng.one_in(2) {
                 rng.pick(&[b.wrapping_add(1), b.wrapping_add(1), d.wrapping_add(1), a.wrapping_sub(1)])

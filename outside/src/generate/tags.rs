@@ -3,6 +3,7 @@
 use super::bricks::{begin_page, begin_session, open_source};
 use super::job::{any_tag, header_bytes, Writer};
 use super::rng::Rng;
+use crate::plain::Profile;
 
 /// A header and tags as they come.
 pub fn tags(rng: &mut Rng) -> Vec<u8> {
@@ -12,10 +13,11 @@ pub fn tags(rng: &mut Rng) -> Vec<u8> {
         few.extend_from_slice(&b" HP"[..rng.below(4)]);
         return few;
     }
-    let mut out = if rng.one_in(6) { rng.bytes(17) } else { header_bytes(rng.one_in(2), &None) };
+    let profile = rng.pick(&[Profile::One, Profile::Two]);
+    let mut out = if rng.one_in(6) { rng.bytes(17) } else { header_bytes(profile, rng.one_in(2), &None) };
     if rng.one_in(2) {
         let high = out[0] == 0x28;
-        let mut w = Writer { out, high_first: high, space: 0, rng: rng.clone(), pad: None, places: 0 };
+        let mut w = Writer { profile, out, high_first: high, space: 0, rng: rng.clone(), pad: None, places: 0 };
         w.nodes(&[begin_session(), open_source(), begin_page()][..1 + rng.below(3)]);
         out = w.out;
     }

@@ -1,6 +1,6 @@
 //! Names of operators, attributes and types, and the nearest of some words.
 
-pub const OPERATORS: [(u8, &str); 28] = [
+pub const OPERATORS: [(u8, &str); 29] = [
     (0x41, "BeginSession"),
     (0x42, "EndSession"),
     (0x43, "BeginPage"),
@@ -8,6 +8,7 @@ pub const OPERATORS: [(u8, &str); 28] = [
     (0x47, "Comment"),
     (0x48, "OpenDataSource"),
     (0x49, "CloseDataSource"),
+    (0x57, "SetDefaultGS"),
     (0x5b, "BeginStream"),
     (0x5c, "ReadStream"),
     (0x5d, "EndStream"),
@@ -31,7 +32,7 @@ pub const OPERATORS: [(u8, &str); 28] = [
     (0xb2, "EndImage"),
 ];
 
-pub const ATTRIBUTES: [(u16, &str); 31] = [
+pub const ATTRIBUTES: [(u16, &str); 34] = [
     (3, "ColorSpace"),
     (4, "NullBrush"),
     (5, "NullPen"),
@@ -39,6 +40,7 @@ pub const ATTRIBUTES: [(u16, &str); 31] = [
     (11, "RGBColor"),
     (37, "MediaSize"),
     (38, "MediaSource"),
+    (39, "MediaType"),
     (40, "Orientation"),
     (49, "PageCopies"),
     (66, "BoundingBox"),
@@ -55,6 +57,8 @@ pub const ATTRIBUTES: [(u16, &str); 31] = [
     (107, "SourceHeight"),
     (108, "SourceWidth"),
     (109, "StartLine"),
+    (110, "PadBytesMultiple"),
+    (111, "BlockByteLength"),
     (129, "CommentData"),
     (130, "DataOrg"),
     (134, "Measure"),
