@@ -10,8 +10,9 @@ use lib.ListN.{getD, take, drop}
 use lib.Dec.{eqb, ltb}
 use borrow.Author.Tests.{lt-ltb, eq-eqb}
 use Rattle.scope.specs.Choice.{pick}
+use Rattle.scope.specs.Number.{number as numberIn}
 use Rattle.scope.specs.Item.{Attribute}
-use Rattle.scope.specs.Attributes.{has, firstOf, valueIn, bytesIn}
+use Rattle.scope.specs.Attributes.{has, firstOf, valueIn, longBytes, longIn, bytesIn}
 use Rattle.items.specs.Rows.{rowAt, rowsFrom, rowsOf}
 use Rattle.attributes.specs.Places.{placeFrom, placeOf}
 
@@ -68,6 +69,11 @@ unfolding valueIn firstIn
 value-first high s [] n = refl
 value-first high s (a ∷ l) n = rw (value-first high s l n)
 
+long-first : (high : Bool) (s : List ℕ) (l : List Attribute) (n : ℕ) → longIn high s l n ≡ firstIn (λ a. numberIn high (longBytes (a .tag)) s (a .first)) 0 n l
+unfolding longIn firstIn
+long-first high s [] n = refl
+long-first high s (a ∷ l) n = rw (long-first high s l n)
+
 bytes-first : (s : List ℕ) (l : List Attribute) (n : ℕ) → bytesIn s l n ≡ firstIn (λ a. take (a .count) (drop (a .first) s)) [] n l
 unfolding bytesIn firstIn
 bytes-first s [] n = refl
@@ -107,6 +113,9 @@ module _ (number : ℕ) (a : List ℕ) (n p : ℕ) (few : n ≤ 16) (place : p �
 
   pub value-at : (high : Bool) (s : List ℕ) → valueIn high s (rowsOf a n) number ≡ pick (ltb p 16) (firstOf high s (rowAt a p)) 0
   value-at high s = value-first high s (rowsOf a n) number ∙ first-at (firstOf high s) 0 number a n p few place
+
+  pub long-at : (high : Bool) (s : List ℕ) → longIn high s (rowsOf a n) number ≡ pick (ltb p 16) (numberIn high (longBytes (rowAt a p .tag)) s (rowAt a p .first)) 0
+  long-at high s = long-first high s (rowsOf a n) number ∙ first-at (λ b. numberIn high (longBytes (b .tag)) s (b .first)) 0 number a n p few place
 
   pub bytes-at : (s : List ℕ) → bytesIn s (rowsOf a n) number ≡ pick (ltb p 16) (take (rowAt a p .count) (drop (rowAt a p .first) s)) []
   bytes-at s = bytes-first s (rowsOf a n) number ∙ first-at (λ b. take (b .count) (drop (b .first) s)) [] number a n p few place

@@ -6,7 +6,7 @@ ghost use lib.ListN.{take, drop};
 ghost use lib.Dec.{eqb};
 ghost use Rattle.scope.specs.Choice.{pick};
 ghost use Rattle.scope.specs.Number.{number as numberIn};
-ghost use Rattle.scope.specs.Attributes.{has as hasIn, Two, reals, twoAt, finite, wholeIn, valueIn, bytesIn};
+ghost use Rattle.scope.specs.Attributes.{has as hasIn, Two, reals, twoAt, finite, wholeIn, valueIn, longBytes, longIn, bytesIn};
 ghost use Rattle.number.specs.Widths.{bytesOf};
 ghost use Rattle.items.specs.Rows.{rowsOf, Sized};
 ghost use Rattle.attributes.specs.Places.{placeOf};
@@ -142,6 +142,27 @@ pub fn value_in(s: &[u8], high: bool, attrs: &[usize; 80], n: usize, number: u8)
     let i = place_of(attrs, n, number as usize);
     if i < 16 {
         return whole(numbers_at(s, high, attrs[i * 5 + 1], attrs[i * 5 + 4]));
+    }
+    0
+}
+
+// A ubyte, uint16 or uint32.
+fn long_at(s: &[u8], high: bool, tag: usize, first: usize) -> u32
+    ensures { λ r. ⌜ r ≡ numberIn high (longBytes tag) (now (s .entry)) first ⌝ }
+{
+    if tag == 0xc2 {
+        return number::number_at(s, first, Width::Four, high);
+    }
+    first_of(s, high, tag, first)
+}
+
+// The value of this attribute, a whole number of up to four bytes; 0 where it is not there.
+pub fn long_in(s: &[u8], high: bool, attrs: &[usize; 80], n: usize, number: u8) -> u32
+    ensures { λ r. ⌜ (Sized (now (attrs .entry)) n → r ≡ longIn high (now (s .entry)) (rowsOf (now (attrs .entry)) n) number) ⌝ }
+{
+    let i = place_of(attrs, n, number as usize);
+    if i < 16 {
+        return long_at(s, high, attrs[i * 5 + 1], attrs[i * 5 + 4]);
     }
     0
 }

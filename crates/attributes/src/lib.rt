@@ -6,6 +6,7 @@ pub use attributes::Part;
 pub use attributes::at_most;
 pub use attributes::has;
 pub use attributes::is_given;
+pub use attributes::long_in;
 pub use attributes::numbers_at;
 pub use attributes::part_in;
 pub use attributes::value_in;

@@ -2,6 +2,7 @@
 -- Assumes nothing.
 use Prim.Native.Nat.{ℕ, _≤_}
 use Rattle.scope.specs.Header.{Form, ends, breaks, Header}
+use Rattle.setting.specs.Views.{classAs}
 use Rattle.header.specs.declared.header.Form.{Form as CodeForm}
 use Rattle.header.specs.declared.header.Form.the-variants.{Ends, Breaks}
 use Rattle.header.specs.declared.header.Header.{Header as CodeHeader}
@@ -19,10 +20,10 @@ FormWithin len (Breaks i) = Unit {0}
 
 -- the header that the code read
 abbrev pub headerAs : CodeHeader → Header
-headerAs (Is high next) = Header.is high next
+headerAs (Is class high next) = Header.is (classAs class) high next
 headerAs (No code place) = Header.no code place
 
 -- the items begin within the bytes, or at their end
 abbrev pub HeaderWithin : ℕ → CodeHeader → Type 0
-HeaderWithin len (Is high next) = next ≤ len
+HeaderWithin len (Is class high next) = next ≤ len
 HeaderWithin len (No code place) = Unit {0}

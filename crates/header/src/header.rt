@@ -9,10 +9,11 @@ ghost use Rattle.scope.specs.Header.{ends as Form·ends};
 ghost use Rattle.header.specs.Headers.{formAs, FormWithin, headerAs, HeaderWithin};
 use number::between;
 use number::byte_at;
+use setting::Class;
 
-// High byte first or not, and where the items begin; or a refusal, a code and a place.
+// The class, high byte first or not, and where the items begin; or a refusal, a code and a place.
 pub enum Header {
-    Is(bool, usize),
+    Is(Class, bool, usize),
     No(u32, usize),
 }
 
@@ -128,19 +129,21 @@ fn form_of(s: &[u8]) -> Form
     Form::Breaks(i)
 }
 
-// A well-formed header of n bytes is taken if it says 1;1.
+// A well-formed header of n bytes is taken if it says 1;1 or 2;1.
 fn class_of(s: &[u8], n: usize) -> Header
     requires { ⌜ n ≤ length (now s) ⌝ }
     ensures { λ r. ⌜ headerAs r ≡ classed (now (s .entry)) (Form·ends n) ⌝ }
     ensures { λ r. ⌜ HeaderWithin (length (now (s .entry))) r ⌝ }
 {
-    if byte_at(s, 12) != 0x31 {
-        return Header::No(4, 12);
-    }
     if byte_at(s, 14) != 0x31 {
         return Header::No(4, 12);
     }
-    Header::Is(byte_at(s, 0) == 0x28, n)
+    let high = byte_at(s, 0) == 0x28;
+    match byte_at(s, 12) {
+        0x31 => Header::Is(Class::One, high, n),
+        0x32 => Header::Is(Class::Two, high, n),
+        _ => Header::No(4, 12),
+    }
 }
 
 // What the header says, or the first of 3, 2 and 4.

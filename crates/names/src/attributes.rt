@@ -13,6 +13,8 @@ pub const MEDIA_SIZE: u8 = 37;
 
 pub const MEDIA_SOURCE: u8 = 38;
 
+pub const MEDIA_TYPE: u8 = 39;
+
 pub const ORIENTATION: u8 = 40;
 
 pub const PAGE_COPIES: u8 = 49;
@@ -44,6 +46,10 @@ pub const SOURCE_HEIGHT: u8 = 107;
 pub const SOURCE_WIDTH: u8 = 108;
 
 pub const START_LINE: u8 = 109;
+
+pub const PAD_BYTES_MULTIPLE: u8 = 110;
+
+pub const BLOCK_BYTE_LENGTH: u8 = 111;
 
 pub const COMMENT_DATA: u8 = 129;
 

@@ -13,6 +13,8 @@ pub const OPEN_DATA_SOURCE: u8 = 0x48;
 
 pub const CLOSE_DATA_SOURCE: u8 = 0x49;
 
+pub const SET_DEFAULT_GS: u8 = 0x57;
+
 pub const BEGIN_STREAM: u8 = 0x5b;
 
 pub const READ_STREAM: u8 = 0x5c;

@@ -3,12 +3,14 @@ ghost use mathlib.Core.Path.{_≡_};
 ghost use Prim.Native.Nat.{_+_, _*_, _≤_};
 ghost use Rattle.items.specs.Rows.{rowsOf, Sized};
 ghost use Rattle.scope.specs.Attributes.{has};
-ghost use Rattle.scope.specs.Data.{bitsOf, rowOf, pointBytes, dueOf};
-ghost use Rattle.scope.specs.Order.{rowsFit};
+ghost use Rattle.scope.specs.Data.{bitsOf, rowOf, padOf, blockDue, pointBytes, dueOf};
+ghost use Rattle.scope.specs.Order.{lengthFits, rowsFit};
 ghost use Rattle.order.specs.Views.{dueAs, imageAs, pointsDue};
 use crate::order::Image;
+use names::attributes::BLOCK_BYTE_LENGTH;
 use names::attributes::BLOCK_HEIGHT;
 use names::attributes::NUMBER_OF_POINTS;
+use names::attributes::PAD_BYTES_MULTIPLE;
 use names::attributes::POINT_TYPE;
 use names::attributes::START_LINE;
 use names::attributes::STREAM_DATA_LENGTH;
@@ -36,12 +38,33 @@ fn row_bits(width: u16, depth: u16) -> usize
     }
 }
 
-// The bytes of a row: rounded up to bytes, then to a multiple of 4 bytes.
-pub fn row_of(width: u16, depth: u16) -> usize
-    ensures { λ r. ⌜ r ≡ rowOf width depth ⌝ }
-    ensures { λ r. ⌜ r ≤ 65536 ⌝ }
+// The bytes of a row: rounded up to bytes, then to a multiple of so many bytes.
+pub fn row_of(width: u16, depth: u16, pad: u16) -> usize
+    ensures { λ r. ⌜ r ≡ rowOf width depth pad ⌝ }
+    ensures { λ r. ⌜ r ≤ 131_070 ⌝ }
 {
-    ((row_bits(width, depth) + 7) / 8 + 3) / 4 * 4
+    let by = pad as usize;
+    if by == 0 {
+        return 0;
+    }
+    ((row_bits(width, depth) + 7) / 8 + (by - 1)) / by * by
+}
+
+// So many: PadBytesMultiple, or 4 where it is missing.
+pub fn pad_of(s: &[u8], high: bool, attrs: &[usize; 80], n: usize) -> u16
+    ensures { λ r. ⌜ (Sized (now (attrs .entry)) n → r ≡ padOf high (now (s .entry)) (rowsOf (now (attrs .entry)) n)) ⌝ }
+{
+    let pad = attributes::value_in(s, high, attrs, n, PAD_BYTES_MULTIPLE);
+    if pad == 0 { 4 } else { pad as u16 }
+}
+
+// The data of a ReadImage: BlockHeight rows.
+fn block_due(s: &[u8], high: bool, image: Image, attrs: &[usize; 80], n: usize) -> usize
+    ensures { λ r. ⌜ (Sized (now (attrs .entry)) n → r ≡ blockDue high (now (s .entry)) (imageAs image) (rowsOf (now (attrs .entry)) n)) ⌝ }
+{
+    let rows = attributes::value_in(s, high, attrs, n, BLOCK_HEIGHT) as usize;
+    let pad = pad_of(s, high, attrs, n);
+    rows * row_of(image.width, image.depth, pad)
 }
 
 // Of points: 2n bytes for PointType 0 or 1, 4n for 2 or 3.
@@ -72,8 +95,7 @@ pub fn due_of(s: &[u8], high: bool, image: Image, tag: u8, attrs: &[usize; 80], 
         return Due::Reads(attributes::value_in(s, high, attrs, n, STREAM_DATA_LENGTH) as usize);
     }
     if tag == READ_IMAGE {
-        let rows = attributes::value_in(s, high, attrs, n, BLOCK_HEIGHT) as usize;
-        return Due::Reads(rows * row_of(image.width, image.depth));
+        return Due::Reads(block_due(s, high, image, attrs, n));
     }
     if tag != LINE_PATH {
         if tag != LINE_REL_PATH {
@@ -83,7 +105,18 @@ pub fn due_of(s: &[u8], high: bool, image: Image, tag: u8, attrs: &[usize; 80], 
     points_due(s, high, attrs, n)
 }
 
-// StartLine is the number of rows read so far, and rows do not exceed SourceHeight.
+// BlockByteLength, if it is there, is the length due.
+fn length_fits(s: &[u8], high: bool, image: Image, attrs: &[usize; 80], n: usize) -> bool
+    ensures { λ r. ⌜ (Sized (now (attrs .entry)) n → r ≡ lengthFits high (now (s .entry)) (imageAs image) (rowsOf (now (attrs .entry)) n)) ⌝ }
+{
+    if !attributes::has(attrs, n, BLOCK_BYTE_LENGTH) {
+        return true;
+    }
+    let told = attributes::long_in(s, high, attrs, n, BLOCK_BYTE_LENGTH) as usize;
+    told == block_due(s, high, image, attrs, n)
+}
+
+// StartLine is the number of rows read so far, rows do not exceed SourceHeight, and BlockByteLength is right.
 pub fn rows_fit(s: &[u8], high: bool, image: Image, tag: u8, attrs: &[usize; 80], n: usize) -> bool
     ensures { λ r. ⌜ (Sized (now (attrs .entry)) n → r ≡ rowsFit high (now (s .entry)) (imageAs image) tag (rowsOf (now (attrs .entry)) n)) ⌝ }
 {
@@ -97,5 +130,8 @@ pub fn rows_fit(s: &[u8], high: bool, image: Image, tag: u8, attrs: &[usize; 80]
     }
     let block = attributes::value_in(s, high, attrs, n, BLOCK_HEIGHT);
     let height = image.height as usize;
-    rows as usize + block as usize <= height
+    if height < rows as usize + block as usize {
+        return false;
+    }
+    length_fits(s, high, image, attrs, n)
 }

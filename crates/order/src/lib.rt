@@ -5,6 +5,7 @@ mod picture;
 
 pub use due::Due;
 pub use due::due_of;
+pub use due::pad_of;
 pub use due::row_of;
 pub use due::rows_fit;
 pub use order::Image;

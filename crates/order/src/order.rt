@@ -19,6 +19,7 @@ use names::operators::PUSH_GS;
 use names::operators::READ_IMAGE;
 use names::operators::READ_STREAM;
 use names::operators::SET_BRUSH_SOURCE;
+use names::operators::SET_DEFAULT_GS;
 
 // An image that is being read.
 pub struct Image {
@@ -46,6 +47,9 @@ fn is_drawn(saved: usize, tag: u8) -> bool
         return 1 <= saved;
     }
     if tag == COMMENT {
+        return true;
+    }
+    if tag == SET_DEFAULT_GS {
         return true;
     }
     if tag == EXEC_STREAM {

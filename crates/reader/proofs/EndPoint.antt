@@ -11,7 +11,9 @@ use Rattle.scope.specs.Choice.{among, between}
 use Rattle.scope.specs.Iterate.{onward}
 use Rattle.scope.specs.Item.{Attribute, plain, widthOf, kindOf, valueOf, Pair, numbered, numberAt, pairOf, pairAt, Scan, white, onPair, scanFrom, scanAt}
 use Rattle.scope.specs.Names.{EndPoint}
-use Rattle.scope.specs.Table.{table, lineIn, ruleIn}
+use Rattle.scope.specs.Header.{Class, one, two}
+use Rattle.scope.specs.Setting.{Setting}
+use Rattle.scope.specs.Table.{tableOne, tableTwo, table, lineIn, ruleIn}
 use Rattle.scope.specs.Attributes.{has, twoAt, typeTaken, inRange, attributeCode, oneByOne, formCode}
 use Rattle.scope.specs.Data.{dueOf}
 use Rattle.scope.specs.Order.{in-page, drawn, mayCome, rowsFit}
@@ -85,30 +87,38 @@ module _ (high : Bool) (s : List ℕ) (at bytes : ℕ) (p : IsPoint (getD s at 0
       ∙ scan-tag high s (at + 3 + bytes) (endPoint (getD s at 0) at ∷ []) (omega arith) (drawn-black d) (drawn-tag d)
 
 -- a page with so many states saved
-abbrev pub inPage : (high opened : Bool) (saved : ℕ) → Context
-inPage high opened saved = record { high = high; phase = in-page saved; opened = opened; asked = true }
+abbrev pub inPage : (set : Setting) (opened : Bool) (saved : ℕ) → Context
+inPage set opened saved = record { set = set; phase = in-page saved; opened = opened; asked = true }
 
 -- it breaks no rule of reading
-module _ (high opened : Bool) (saved : ℕ) (s : List ℕ) (at op : ℕ) where
-  lined : {point tag bytes : ℕ} → 0 < bytes → Point point bytes → Drawn tag
-      → withLine (inPage high opened saved) s tag op (endPoint point at ∷ []) (lineIn table tag) ≡ Read.operator (lineOf point tag at op)
-  unfolding withLine lineIn table mayCome drawn among withAttributes oneByOne attributeCode ruleIn has twoAt typeTaken inRange asWhole formCode rowsFit withData dueOf
-  lined h point-ubyte drawn-path = refl
-  lined h point-ubyte drawn-rel = refl
-  lined h point-uint16 drawn-path = refl
-  lined h point-uint16 drawn-rel = refl
-  lined h point-sint16 drawn-path = refl
-  lined h point-sint16 drawn-rel = refl
-  lined h point-none d = absurd (omega arith)
+module _ (high gray opened : Bool) (saved : ℕ) (s : List ℕ) (at op : ℕ) where
+  lined : (class : Class) {point tag bytes : ℕ} → 0 < bytes → Point point bytes → Drawn tag
+      → withLine (inPage (record { class = class; high = high; gray = gray }) opened saved) s tag op (endPoint point at ∷ []) (lineIn (table class) tag)
+      ≡ Read.operator (lineOf point tag at op)
+  unfolding withLine lineIn tableOne tableTwo table mayCome drawn among withAttributes oneByOne attributeCode ruleIn has twoAt typeTaken inRange asWhole formCode rowsFit withData dueOf
+  lined one h point-ubyte drawn-path = refl
+  lined one h point-ubyte drawn-rel = refl
+  lined one h point-uint16 drawn-path = refl
+  lined one h point-uint16 drawn-rel = refl
+  lined one h point-sint16 drawn-path = refl
+  lined one h point-sint16 drawn-rel = refl
+  lined one h point-none d = absurd (omega arith)
+  lined two h point-ubyte drawn-path = refl
+  lined two h point-ubyte drawn-rel = refl
+  lined two h point-uint16 drawn-path = refl
+  lined two h point-uint16 drawn-rel = refl
+  lined two h point-sint16 drawn-path = refl
+  lined two h point-sint16 drawn-rel = refl
+  lined two h point-none d = absurd (omega arith)
 
 -- the operator of such a line
 pub line-drawn : {s : List ℕ} {at op : ℕ} → Line s at op → Drawn (getD s op 0)
 line-drawn {s} {at} {op} l = let k = l .is in let same : at + 1 + l .bytes + 2 ≡ op = omega arith in rw same at (l .ends .drawn)
 
-module _ (high opened : Bool) (saved : ℕ) (s : List ℕ) (at op : ℕ) where
-  pub read-line : Line s at op → operatorAt (inPage high opened saved) s at ≡ Read.operator (lineOf (getD s at 0) (getD s op 0) at op)
+module _ (set : Setting) (opened : Bool) (saved : ℕ) (s : List ℕ) (at op : ℕ) where
+  pub read-line : Line s at op → operatorAt (inPage set opened saved) s at ≡ Read.operator (lineOf (getD s at 0) (getD s op 0) at op)
   unfolding operatorAt scanned
   read-line l =
-      ap (scanned (inPage high opened saved) s)
-      (scan-is high s at (l .bytes) (is-point (l .some) (l .point)) (l .ends) ∙ ap (λ x. Scan.tagged (getD s x 0) x (endPoint (getD s at 0) at ∷ [])) (sym (l .is)))
-      ∙ lined high opened saved s at op (l .some) (l .point) (line-drawn l)
+      ap (scanned (inPage set opened saved) s)
+      (scan-is (set .high) s at (l .bytes) (is-point (l .some) (l .point)) (l .ends) ∙ ap (λ x. Scan.tagged (getD s x 0) x (endPoint (getD s at 0) at ∷ [])) (sym (l .is)))
+      ∙ lined (set .high) (set .gray) opened saved s at op (set .class) (l .some) (l .point) (line-drawn l)

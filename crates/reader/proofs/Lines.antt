@@ -43,11 +43,11 @@ module _ (c : Context) (s : List ℕ) (tag at : ℕ) (l : List Attribute) where
   pub line-after : (n : Line) → withLine c s tag at l n ≡ afterLine (lineAt c s tag at l n)
   unfolding withLine lineAt lineFault
   line-after Line.none = refl
-  line-after (Line.is r) = order-after r (oneByOne (c .high) s (r .rules) [] l) (mayCome (c .phase) (c .opened) tag)
+  line-after (Line.is r) = order-after r (oneByOne (c .set .high) s (r .rules) [] l) (mayCome (c .phase) (c .opened) tag)
 
   -- without a fault: 14 for rows, then the data that is due
   pub rows-after : asWhole c s tag at l 0
-      ≡ pick (rowsFit (c .high) s (imageOf (c .phase)) tag l) (withData c s tag at l (dueOf (c .high) s (imageOf (c .phase)) tag l)) (Read.no 14 at)
+      ≡ pick (rowsFit (c .set .high) s (imageOf (c .phase)) tag l) (withData c s tag at l (dueOf (c .set .high) s (imageOf (c .phase)) tag l)) (Read.no 14 at)
   unfolding asWhole
   rows-after = refl
 

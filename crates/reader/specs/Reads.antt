@@ -18,11 +18,12 @@ use Rattle.reader.specs.declared.data.Found as Code-found
 use Rattle.reader.specs.declared.reading.Context.{Context}
 use Rattle.reader.specs.declared.reading.Operator as Code-operator
 use Rattle.reader.specs.declared.reading.Read as Code-read
+use Rattle.setting.specs.Views.{settingAs}
 use Rattle.order.specs.Views.{phaseAs}
 
 -- what reading has to know
 abbrev pub contextAs : Context → Def.Context
-contextAs c = record { high = c .high; phase = phaseAs (c .phase); opened = c .opened; asked = c .asked }
+contextAs c = record { set = settingAs (c .set); phase = phaseAs (c .phase); opened = c .opened; asked = c .asked }
 
 -- an operator, with its attributes in the lent array
 abbrev pub operatorAs : Code-operator.Operator → List ℕ → Def.Operator
@@ -46,11 +47,11 @@ readAs (Code-read.the-variants.No code place) attrs = Def.no code place
 -- what is wrong with an operator before its rows and its data: 9, 10, then its attributes by its line of the table
 unfoldable pub lineAt : Def.Context → List ℕ → (tag at : ℕ) → List Attribute → Line → Fault
 lineAt c s tag at l n =
-    pick (isLine n) (pick (mayCome (c .phase) (c .opened) tag) (lineFault (c .high) s at l n) (bad 10 at)) (bad 9 at)
+    pick (isLine n) (pick (mayCome (c .phase) (c .opened) tag) (lineFault (c .set .high) s at l n) (bad 10 at)) (bad 9 at)
 
 -- the data of the operator at a place, of which so much is due: 17, then the data
 unfoldable pub dataAt : Def.Context → List ℕ → (at due : ℕ) → Found
-dataAt c s at due = pick (c .asked && not (c .opened)) (no 17 at) (blockAt (c .high) s at due (after s (suc at)))
+dataAt c s at due = pick (c .asked && not (c .opened)) (no 17 at) (blockAt (c .set .high) s at due (after s (suc at)))
 
 -- an operator has its tag, its data and its end within the bytes, its end past `start`, and at most 16 attributes
 abbrev pub Within : (len start : ℕ) → Code-read.Read → Type 0

@@ -7,6 +7,7 @@ ghost use Rattle.items.specs.Rows.{rowsOf, Sized};
 ghost use Rattle.scope.specs.Order.{imageOf};
 ghost use Rattle.scope.specs.Reading.{operatorAt};
 ghost use Rattle.scope.specs.Table.{table, lineIn};
+ghost use Rattle.setting.specs.Views.{classAs};
 ghost use Rattle.rules.specs.Judging.{faultAs};
 ghost use Rattle.order.specs.Views.{phaseAs, imageAs};
 ghost use Rattle.reader.specs.Reads.{foundAs, Placed, contextAs, readAs, dataAt, lineAt, Within};
@@ -20,10 +21,11 @@ use order::due_of;
 use order::may_come;
 use order::rows_fit;
 use rules::Fault;
+use setting::Setting;
 
-// What reading has to know: the byte order, the phase, whether the source is open, and whether 17 is judged.
+// What reading has to know: the setting, the phase, whether the source is open, and whether 17 is judged.
 pub struct Context {
-    pub high: bool,
+    pub set: Setting,
     pub phase: Phase,
     pub opened: bool,
     pub asked: bool,
@@ -84,14 +86,17 @@ fn data_at(c: Context, s: &[u8], at: usize, due: usize) -> Found
         return Found::No(17, at);
     }
     let p = number::after_white(s, at + 1);
-    block_at(s, c.high, at, due, p)
+    let set = c.set;
+    block_at(s, set.high, at, due, p)
 }
 
 // What is wrong with an operator, before rows and data: 9, 10, then the attributes, all by its line of the table.
 fn line_at(c: Context, s: &[u8], tag: u8, at: usize, attrs: &[usize; 80], n: usize) -> Fault
-    ensures { λ r. ⌜ (Sized (now (attrs .entry)) n → faultAs r ≡ lineAt (contextAs c) (now (s .entry)) tag at (rowsOf (now (attrs .entry)) n) (lineIn table tag)) ⌝ }
+    ensures { λ r. ⌜ (Sized (now (attrs .entry)) n → faultAs r ≡ lineAt (contextAs c) (now (s .entry)) tag at (rowsOf (now (attrs .entry)) n) (lineIn (table (classAs (c .set .class))) tag)) ⌝ }
 {
-    let row = table::row_of(tag);
+    let set = c.set;
+    let class = set.class;
+    let row = table::row_of(class, tag);
     let form = row.form;
     if !table::is_known(form) {
         return Fault::Bad(9, at);
@@ -100,7 +105,7 @@ fn line_at(c: Context, s: &[u8], tag: u8, at: usize, attrs: &[usize; 80], n: usi
     if !may_come(phase, c.opened, tag) {
         return Fault::Bad(10, at);
     }
-    rules::line_fault(s, c.high, row, at, attrs, n)
+    rules::line_fault(s, set, row, at, attrs, n)
 }
 
 // The next operator from `start` on; its attributes go to `attrs`.
@@ -109,7 +114,8 @@ pub fn operator_at(c: Context, s: &[u8], start: usize, attrs: &mut [usize; 80]) 
     ensures { λ r. ⌜ (length (now (attrs .entry)) ≡ 80 → readAs r (now (attrs .exit)) ≡ operatorAt (contextAs c) (now (s .entry)) start) ⌝ }
     ensures { λ r. ⌜ Within (length (now (s .entry))) start r ⌝ }
 {
-    match items::scan_at(s, start, c.high, attrs) {
+    let set = c.set;
+    match items::scan_at(s, start, set.high, attrs) {
         Scan::Ended => Read::Ended,
         Scan::No(code, place) => Read::No(code, place),
         Scan::Tagged(tag, many, at) => {
@@ -119,10 +125,10 @@ pub fn operator_at(c: Context, s: &[u8], start: usize, attrs: &mut [usize; 80]) 
                 Fault::Fine => {
                     let phase = c.phase;
                     let image = image_of(phase);
-                    if !rows_fit(s, c.high, image, tag, attrs, n) {
+                    if !rows_fit(s, set.high, image, tag, attrs, n) {
                         return Read::No(14, at);
                     }
-                    match due_of(s, c.high, image, tag, attrs, n) {
+                    match due_of(s, set.high, image, tag, attrs, n) {
                         Due::Nothing => Read::Operator(Operator {
                             tag,
                             at,

@@ -4,6 +4,7 @@ use Prim.Native.Nat.{ℕ}
 use mathlib.Core.Path.{_≡_, refl, sym, ap, _∙_}
 use mathlib.Core.Bool.{Bool, true, false, false≢true}
 use mathlib.Core.List.{List, []}
+use Rattle.scope.specs.Header.{Class}
 use Rattle.scope.specs.Table as scope
 use Rattle.table.specs.Lines.{isLine, isKnown, formAs, mustAs, mustIn, numbersIn, Brief, known, unknown, briefOf, briefBy, briefAs, upToNo}
 use Rattle.rules.specs.Judging.{Stands, Led}
@@ -66,20 +67,20 @@ by-numbers Line ns k = refl
 by-numbers Unknown ns k = absurd (false≢true k)
 
 -- a line of the code, against a line of the table
-pub data Stood (r : Row) : scope.Line → Type 0 where
-  stood-none : isKnown (r .form) ≡ false → Stood r scope.Line.none
-  stood-is : {x : scope.Row} → isKnown (r .form) ≡ true → formAs (r .form) ≡ x .form → Stands (r .numbers) (x .rules) → Led (mustAs (r .form)) (x .rules)
-      → Stood r (scope.Line.is x)
+pub data Stood (class : Class) (r : Row) : scope.Line → Type 0 where
+  stood-none : isKnown (r .form) ≡ false → Stood class r scope.Line.none
+  stood-is : {x : scope.Row} → isKnown (r .form) ≡ true → formAs (r .form) ≡ x .form → Stands class (r .numbers) (x .rules) → Led (mustAs (r .form)) (x .rules)
+      → Stood class r (scope.Line.is x)
 
-stood-by : (r : Row) (tag : ℕ) (l : scope.Line) → scope.lineIn scope.table tag ≡ l → briefAs r ≡ briefOf l → Stood r l
+stood-by : (class : Class) (r : Row) (tag : ℕ) (l : scope.Line) → scope.lineIn (scope.table class) tag ≡ l → briefAs r ≡ briefOf l → Stood class r l
 unfolding formIn mustOf numbersOf
-stood-by r tag scope.Line.none q e = stood-none (line-known r scope.Line.none e)
-stood-by r tag (scope.Line.is x) q e =
+stood-by class r tag scope.Line.none q e = stood-none (line-known r scope.Line.none e)
+stood-by class r tag (scope.Line.is x) q e =
     let k = line-known r (scope.Line.is x) e in
     let f : formAs (r .form) ≡ x .form = sym (by-form (r .form) (upToNo (r .numbers))) ∙ ap formIn e in
     let n : upToNo (r .numbers) ≡ numbersIn (x .rules) = sym (by-numbers (r .form) (upToNo (r .numbers)) k) ∙ ap numbersOf e in
     let m : mustAs (r .form) ≡ mustIn (x .rules) = sym (by-must (r .form) (upToNo (r .numbers))) ∙ ap mustOf e in
-    stood-is k f (record { numbers = n; agreed = row-agreed tag x q }) (rw m (row-led tag x q))
+    stood-is k f (record { numbers = n; agreed = row-agreed class tag x q }) (rw m (row-led class tag x q))
 
-pub stood : (r : Row) (tag : ℕ) → briefAs r ≡ briefOf (scope.lineIn scope.table tag) → Stood r (scope.lineIn scope.table tag)
-stood r tag e = stood-by r tag (scope.lineIn scope.table tag) refl e
+pub stood : (class : Class) (r : Row) (tag : ℕ) → briefAs r ≡ briefOf (scope.lineIn (scope.table class) tag) → Stood class r (scope.lineIn (scope.table class) tag)
+stood class r tag e = stood-by class r tag (scope.lineIn (scope.table class) tag) refl e

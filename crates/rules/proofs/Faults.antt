@@ -10,6 +10,7 @@ use borrow.Author.Tests.{eqb-true}
 use Rattle.scope.specs.Choice.{pick, among}
 use Rattle.scope.specs.Names.{EndPoint, NumberOfPoints, PointType}
 use Rattle.scope.specs.Item.{Attribute}
+use Rattle.scope.specs.Header.{Class}
 use Rattle.scope.specs.Table as scope
 use Rattle.scope.specs.Attributes.{has, typeTaken, inRange, fine, bad, attributeCode, oneByOne, allThere, howMany, pairCode, formCode}
 use Rattle.items.specs.Rows.{rowAt, rowsFrom, rowsOf}
@@ -22,30 +23,30 @@ use Rattle.rules.proofs.Numbered.{take-numbers, ruled-by, led-long, all
 use Rattle.rules.proofs.Briefs.{Stood, stood-none, stood-is}
 
 -- one attribute: 11, 12, 15, 16 in this order
-module _ (high : Bool) (s : List ℕ) (before : List Attribute) (a : Attribute) (ns : List ℕ) where
-  pub code-11 : among ns (a .number) ≡ false → attributeCode high s before a (ruledIn ns (a .number)) ≡ 11
+module _ (high : Bool) (s : List ℕ) (before : List Attribute) (a : Attribute) (class : Class) (ns : List ℕ) where
+  pub code-11 : among ns (a .number) ≡ false → attributeCode high s before a (ruledIn class ns (a .number)) ≡ 11
   unfolding attributeCode ruledIn
   code-11 e = rw e
 
   module _ (listed : among ns (a .number) ≡ true) where
-    pub code-12 : has (a .number) before ≡ true → attributeCode high s before a (ruledIn ns (a .number)) ≡ 12
+    pub code-12 : has (a .number) before ≡ true → attributeCode high s before a (ruledIn class ns (a .number)) ≡ 12
     unfolding attributeCode ruledIn
     code-12 e = rw (listed, e)
 
-    module _ (new : has (a .number) before ≡ false) (t : scope.Takes) (takes : t ≡ ruleOf (a .number) .takes) where
-      pub code-15 : typeTaken t (a .tag) ≡ false → attributeCode high s before a (ruledIn ns (a .number)) ≡ 15
+    module _ (new : has (a .number) before ≡ false) (t : scope.Takes) (takes : t ≡ ruleOf class (a .number) .takes) where
+      pub code-15 : typeTaken t (a .tag) ≡ false → attributeCode high s before a (ruledIn class ns (a .number)) ≡ 15
       unfolding attributeCode ruledIn
       code-15 e = rw (listed, new, ← takes, e)
 
       pub code-16 : typeTaken t (a .tag) ≡ true → (b : Bool) → inRange high s t a ≡ b
-          → attributeCode high s before a (ruledIn ns (a .number)) ≡ pick b 0 16
+          → attributeCode high s before a (ruledIn class ns (a .number)) ≡ pick b 0 16
       unfolding attributeCode ruledIn
       code-16 e b q = rw (listed, new, ← takes, e, q)
 
 -- the rules that the numbers stand for
-module _ (ns : List ℕ) (rules : List scope.Rule) (st : Stands ns rules) where
-  pub stands-ruled : (n : ℕ) → ruledIn (upToNo ns) n ≡ scope.ruleIn rules n
-  stands-ruled n = rw (st .numbers) (sym (ruled-by rules (st .agreed) n))
+module _ (class : Class) (ns : List ℕ) (rules : List scope.Rule) (st : Stands class ns rules) where
+  pub stands-ruled : (n : ℕ) → ruledIn class (upToNo ns) n ≡ scope.ruleIn rules n
+  stands-ruled n = rw (st .numbers) (sym (ruled-by class rules (st .agreed) n))
 
   pub stands-all : (k : ℕ) → Led k rules → (l : List Attribute) → allIn l (take k ns) ≡ allThere l rules
   stands-all k led l =
@@ -98,16 +99,16 @@ module _ (high : Bool) (s : List ℕ) (rules : List scope.Rule) (a : List ℕ) (
   one-end h = rw (rows-end a i n h)
 
 -- the whole line
-module _ (high : Bool) (s : List ℕ) (at : ℕ) (l : List Attribute) (r : Row) where
-  pub fault-one : (x : scope.Line) → Stood r x → isKnown (r .form) ≡ true → (c p : ℕ)
-      → ((rules : List scope.Rule) → Stands (r .numbers) rules → bad c p ≡ oneByOne high s rules [] l) → bad c p ≡ lineFault high s at l x
+module _ (high : Bool) (s : List ℕ) (at : ℕ) (l : List Attribute) (class : Class) (r : Row) where
+  pub fault-one : (x : scope.Line) → Stood class r x → isKnown (r .form) ≡ true → (c p : ℕ)
+      → ((rules : List scope.Rule) → Stands class (r .numbers) rules → bad c p ≡ oneByOne high s rules [] l) → bad c p ≡ lineFault high s at l x
   unfolding lineFault thenWhole
   fault-one scope.Line.none (stood-none e) k c p h = absurd (false≢true (sym e ∙ k))
   fault-one (scope.Line.is x) (stood-is known f st led) k c p h = rw (← h (x .rules) st)
 
-  pub fault-whole : (x : scope.Line) → Stood r x → isKnown (r .form) ≡ true → (k : ℕ)
-      → ((rules : List scope.Rule) → Stands (r .numbers) rules → fine ≡ oneByOne high s rules [] l)
-      → ((rules : List scope.Rule) → Stands (r .numbers) rules → Led (mustAs (r .form)) rules → k ≡ formCode l rules (formAs (r .form)))
+  pub fault-whole : (x : scope.Line) → Stood class r x → isKnown (r .form) ≡ true → (k : ℕ)
+      → ((rules : List scope.Rule) → Stands class (r .numbers) rules → fine ≡ oneByOne high s rules [] l)
+      → ((rules : List scope.Rule) → Stands class (r .numbers) rules → Led (mustAs (r .form)) rules → k ≡ formCode l rules (formAs (r .form)))
       → pick (eqb k 0) fine (bad k at) ≡ lineFault high s at l x
   unfolding lineFault thenWhole
   fault-whole scope.Line.none (stood-none e) t k h g = absurd (false≢true (sym e ∙ t))

@@ -13,6 +13,7 @@ use lib.Dec.{eqb}
 use borrow.Author.Tests.{eq-eqb, ne-eqb, eqb-true, eqb-false}
 use Rattle.scope.specs.Choice.{pick, among}
 use Rattle.scope.specs.Item.{Attribute}
+use Rattle.scope.specs.Header.{Class}
 use Rattle.scope.specs.Table as scope
 use Rattle.scope.specs.Attributes.{has, allThere, howMany}
 use Rattle.table.specs.Lines.{numbersIn, upToNo, ruleOf}
@@ -79,15 +80,15 @@ take-numbers (suc k) (n ∷ ns) h = step (eqb n 0) (λ q. take-numbers k ns q) h
     step false q g = ap (λ (x : List ℕ). n ∷ x) (q (le-of-suc-le-suc g))
 
 -- the rule in a line is the rule of its number
-pub ruled-by : (rules : List scope.Rule) → Agreed rules → (n : ℕ) → scope.ruleIn rules n ≡ ruledIn (numbersIn rules) n
+pub ruled-by : (class : Class) (rules : List scope.Rule) → Agreed class rules → (n : ℕ) → scope.ruleIn rules n ≡ ruledIn class (numbersIn rules) n
 unfolding ruledIn numbersIn among scope.ruleIn
-ruled-by [] agreed-none n = refl
-ruled-by (r ∷ rs) (agreed-more e es) n = rw (eqb-turned n (r .number)) (hit (eqb (r .number) n) (λ q. eqb-true (r .number) n q) (ruled-by rs es n))
+ruled-by class [] agreed-none n = refl
+ruled-by class (r ∷ rs) (agreed-more e es) n = rw (eqb-turned n (r .number)) (hit (eqb (r .number) n) (λ q. eqb-true (r .number) n q) (ruled-by class rs es n))
   where
-    hit : (b : Bool) → (b ≡ true → r .number ≡ n) → scope.ruleIn rs n ≡ pick (among (numbersIn rs) n) (scope.Ruled.is (ruleOf n)) scope.Ruled.none
+    hit : (b : Bool) → (b ≡ true → r .number ≡ n) → scope.ruleIn rs n ≡ pick (among (numbersIn rs) n) (scope.Ruled.is (ruleOf class n)) scope.Ruled.none
         → elim b [ true ↦ scope.Ruled.is r | false ↦ scope.ruleIn rs n ]
-        ≡ pick (pick b true (among (numbersIn rs) n)) (scope.Ruled.is (ruleOf n)) scope.Ruled.none
-    hit true q k = ap scope.Ruled.is (sym e ∙ ap ruleOf (q refl))
+        ≡ pick (pick b true (among (numbersIn rs) n)) (scope.Ruled.is (ruleOf class n)) scope.Ruled.none
+    hit true q k = ap scope.Ruled.is (sym e ∙ ap (ruleOf class) (q refl))
     hit false q k = k
 
 not-lacking : (b x : Bool) → pick (not b) false x ≡ pick b x false

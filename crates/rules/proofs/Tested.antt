@@ -1,4 +1,4 @@
--- Facts of the whole table, each by one test that is computed: a rule is that of its number in every line, the rules that must be there come
+-- Facts of the whole table of each class, each by one test that is computed: a rule is that of its number in every line, the rules that must be there come
 -- first, and numbers are below 256.
 -- Assumes nothing.
 use Prim.Native.Nat.{ℕ, suc, _<_}
@@ -8,8 +8,9 @@ use mathlib.Core.List.{List, [], _∷_}
 use lib.Dec.{eqb, ltb}
 use borrow.Author.Tests.{eqb-true, ltb-true}
 use Rattle.scope.specs.Choice.{pick}
+use Rattle.scope.specs.Header.{Class, one, two}
 use Rattle.scope.specs.Table as scope
-use Rattle.scope.specs.Table.{Takes, Rule, Row, table, lineIn, ruleIn}
+use Rattle.scope.specs.Table.{Takes, Rule, Row, tableOne, tableTwo, table, lineIn, ruleIn}
 use Rattle.table.specs.Lines.{isLine, mustIn, rulesIn, ruleOf}
 use Rattle.rules.specs.Judging.{Agreed, agreed-none, agreed-more, Led, led-none, led-may, led-must}
 use Rattle.table.proofs.Keys.{both-left, both-right}
@@ -51,6 +52,8 @@ kindIn scope.B = 3
 kindIn (scope.A l h) = 4
 kindIn (scope.D l) = 5
 kindIn scope.M = 6
+kindIn scope.M2 = 7
+kindIn scope.L = 8
 
 lowIn : Takes → ℕ
 lowIn (scope.E l h) = l
@@ -60,6 +63,8 @@ lowIn scope.B = 0
 lowIn (scope.A l h) = l
 lowIn (scope.D l) = l
 lowIn scope.M = 0
+lowIn scope.M2 = 0
+lowIn scope.L = 0
 
 highIn : Takes → ℕ
 highIn (scope.E l h) = h
@@ -69,12 +74,14 @@ highIn scope.B = 0
 highIn (scope.A l h) = h
 highIn (scope.D l) = 0
 highIn scope.M = 0
+highIn scope.M2 = 0
+highIn scope.L = 0
 
 back : ℕ → ℕ → ℕ → Takes
 back k l h =
     pick (eqb k 0) (scope.E l h)
     (pick (eqb k 1) (scope.N l h)
-    (pick (eqb k 2) scope.P (pick (eqb k 3) scope.B (pick (eqb k 4) (scope.A l h) (pick (eqb k 5) (scope.D l) scope.M)))))
+    (pick (eqb k 2) scope.P (pick (eqb k 3) scope.B (pick (eqb k 4) (scope.A l h) (pick (eqb k 5) (scope.D l) (pick (eqb k 6) scope.M (pick (eqb k 7) scope.M2 scope.L)))))))
 
 there-and-back : (t : Takes) → back (kindIn t) (lowIn t) (highIn t) ≡ t
 unfolding kindIn lowIn highIn back
@@ -85,6 +92,8 @@ there-and-back scope.B = refl
 there-and-back (scope.A l h) = refl
 there-and-back (scope.D l) = refl
 there-and-back scope.M = refl
+there-and-back scope.M2 = refl
+there-and-back scope.L = refl
 
 same-takes : (t u : Takes) → kindIn t ≡ kindIn u → lowIn t ≡ lowIn u → highIn t ≡ highIn u → t ≡ u
 same-takes t u k l h = sym (there-and-back t) ∙ rw (k, l, h) (there-and-back u)
@@ -120,23 +129,24 @@ same-rule x y e =
     λ i. record { number = p i; takes = q i; must = n i }
 
 -- each rule of a line is that of its number
-agrees : List Rule → Bool
-agrees [] = true
-agrees (r ∷ rs) = pick (sameRule (ruleOf (r .number)) r) (agrees rs) false
+agrees : Class → List Rule → Bool
+agrees class [] = true
+agrees class (r ∷ rs) = pick (sameRule (ruleOf class (r .number)) r) (agrees class rs) false
 
-agreed-by : (rules : List Rule) → agrees rules ≡ true → Agreed rules
+agreed-by : (class : Class) (rules : List Rule) → agrees class rules ≡ true → Agreed class rules
 unfolding agrees
-agreed-by [] t = agreed-none
-agreed-by (r ∷ rs) t =
-    agreed-more (same-rule (ruleOf (r .number)) r (both-left (sameRule (ruleOf (r .number)) r) (agrees rs) t))
-    (agreed-by rs (both-right (sameRule (ruleOf (r .number)) r) (agrees rs) t))
+agreed-by class [] t = agreed-none
+agreed-by class (r ∷ rs) t =
+    agreed-more (same-rule (ruleOf class (r .number)) r (both-left (sameRule (ruleOf class (r .number)) r) (agrees class rs) t))
+    (agreed-by class rs (both-right (sameRule (ruleOf class (r .number)) r) (agrees class rs) t))
 
-table-agrees : everyRow (λ r. agrees (r .rules)) table ≡ true
-unfolding everyRow agrees sameRule alike kindIn lowIn highIn table rulesIn ruleOf ruleIn
-table-agrees = refl
+table-agrees : (class : Class) → everyRow (λ r. agrees class (r .rules)) (table class) ≡ true
+unfolding everyRow agrees sameRule alike kindIn lowIn highIn tableOne tableTwo table rulesIn ruleOf ruleIn
+table-agrees one = refl
+table-agrees two = refl
 
-pub row-agreed : (tag : ℕ) (r : Row) → lineIn table tag ≡ scope.Line.is r → Agreed (r .rules)
-row-agreed tag r e = agreed-by (r .rules) (row-passes (λ r. agrees (r .rules)) table table-agrees tag r e)
+pub row-agreed : (class : Class) (tag : ℕ) (r : Row) → lineIn (table class) tag ≡ scope.Line.is r → Agreed class (r .rules)
+row-agreed class tag r e = agreed-by class (r .rules) (row-passes (λ r. agrees class (r .rules)) (table class) (table-agrees class) tag r e)
 
 -- none of these rules must be there
 mays : List Rule → Bool
@@ -167,12 +177,13 @@ led-by (r ∷ rs) t = step (r .must) refl (λ q. led-by rs q) t
     step true e k q = led-must e (k q)
     step false e k q = led-may e (led-mays rs q)
 
-table-led : everyRow (λ r. musts (r .rules)) table ≡ true
-unfolding everyRow musts mays table
-table-led = refl
+table-led : (class : Class) → everyRow (λ r. musts (r .rules)) (table class) ≡ true
+unfolding everyRow musts mays tableOne tableTwo table
+table-led one = refl
+table-led two = refl
 
-pub row-led : (tag : ℕ) (r : Row) → lineIn table tag ≡ scope.Line.is r → Led (mustIn (r .rules)) (r .rules)
-row-led tag r e = led-by (r .rules) (row-passes (λ r. musts (r .rules)) table table-led tag r e)
+pub row-led : (class : Class) (tag : ℕ) (r : Row) → lineIn (table class) tag ≡ scope.Line.is r → Led (mustIn (r .rules)) (r .rules)
+row-led class tag r e = led-by (r .rules) (row-passes (λ r. musts (r .rules)) (table class) (table-led class) tag r e)
 
 -- a line's numbers are below 256
 small : List Rule → Bool
@@ -190,9 +201,10 @@ small-in (r ∷ rs) t n x e =
     hit true q k w = subst (λ (m : ℕ). m < 256) (q refl) (ltb-true (r .number) 256 (both-left (ltb (r .number) 256) (small rs) t))
     hit false q k w = k w
 
-table-small : everyRow (λ r. small (r .rules)) table ≡ true
-unfolding everyRow small table
-table-small = refl
+table-small : (class : Class) → everyRow (λ r. small (r .rules)) (table class) ≡ true
+unfolding everyRow small tableOne tableTwo table
+table-small one = refl
+table-small two = refl
 
-pub row-small : (tag : ℕ) (r : Row) → lineIn table tag ≡ scope.Line.is r → (n : ℕ) (x : Rule) → ruleIn (r .rules) n ≡ scope.Ruled.is x → n < 256
-row-small tag r e = small-in (r .rules) (row-passes (λ r. small (r .rules)) table table-small tag r e)
+pub row-small : (class : Class) (tag : ℕ) (r : Row) → lineIn (table class) tag ≡ scope.Line.is r → (n : ℕ) (x : Rule) → ruleIn (r .rules) n ≡ scope.Ruled.is x → n < 256
+row-small class tag r e = small-in (r .rules) (row-passes (λ r. small (r .rules)) (table class) (table-small class) tag r e)

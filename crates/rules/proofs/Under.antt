@@ -10,6 +10,7 @@ use lib.Dec.{eqb}
 use borrow.Author.Tests.{eqb-true}
 use Rattle.scope.specs.Choice.{pick}
 use Rattle.scope.specs.Item.{Attribute}
+use Rattle.scope.specs.Header.{Class}
 use Rattle.scope.specs.Table as scope
 use Rattle.scope.specs.Attributes.{Fault, fine, bad, attributeCode, oneByOne, formCode}
 use Rattle.scope.specs.Reading.{Context, Read, no, asWhole, withAttributes}
@@ -51,9 +52,9 @@ module _ (high : Bool) (s : List ℕ) (rules : List scope.Rule)
           (attributeCode high s before a (scope.Ruled.is x)) (a .at) w .1))
 
 -- of a line of the table
-pub numbers-under : (high : Bool) (s : List ℕ) (tag : ℕ) (r : scope.Row) (l : List Attribute) → scope.lineIn scope.table tag ≡ scope.Line.is r
+pub numbers-under : (class : Class) (high : Bool) (s : List ℕ) (tag : ℕ) (r : scope.Row) (l : List Attribute) → scope.lineIn (scope.table class) tag ≡ scope.Line.is r
     → oneByOne high s (r .rules) [] l ≡ fine → Under l
-numbers-under high s tag r l q e = under-by high s (r .rules) (row-small tag r q) [] l e
+numbers-under class high s tag r l q e = under-by high s (r .rules) (row-small class tag r q) [] l e
 
 -- attribute i of the lent array
 under-from : (a : List ℕ) (i k j : ℕ) → Under (rowsFrom a i k) → j < k → rowAt a (i + j) .number < 256
@@ -88,9 +89,9 @@ onFault c s tag at l fine = asWhole c s tag at l 0
 onFault c s tag at l (bad code place) = no code place
 
 pub reads-by : (c : Context) (s : List ℕ) (tag at : ℕ) (l : List Attribute) (r : scope.Row)
-    → withAttributes c s tag at l r (oneByOne (c .high) s (r .rules) [] l) ≡ onFault c s tag at l (lineFault (c .high) s at l (scope.Line.is r))
+    → withAttributes c s tag at l r (oneByOne (c .set .high) s (r .rules) [] l) ≡ onFault c s tag at l (lineFault (c .set .high) s at l (scope.Line.is r))
 unfolding lineFault thenWhole withAttributes asWhole
-reads-by c s tag at l r = parts (oneByOne (c .high) s (r .rules) [] l)
+reads-by c s tag at l r = parts (oneByOne (c .set .high) s (r .rules) [] l)
   where
     whole : (k : ℕ) (b : Bool) → eqb k 0 ≡ b → asWhole c s tag at l k ≡ onFault c s tag at l (pick b fine (bad k at))
     whole k true e = rw e

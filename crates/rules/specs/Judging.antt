@@ -7,6 +7,7 @@ use mathlib.Core.Bool.{Bool, true, false}
 use lib.Dec.{eqb}
 use Rattle.scope.specs.Choice.{pick, among}
 use Rattle.scope.specs.Names.{EndPoint, NumberOfPoints, PointType}
+use Rattle.scope.specs.Header.{Class}
 use Rattle.scope.specs.Item as item
 use Rattle.scope.specs.Table as scope
 use Rattle.scope.specs.Attributes as judged
@@ -35,9 +36,9 @@ faultAs (Bad c p) = judged.bad c p
 abbrev pub attributeAs : Attribute → item.Attribute
 attributeAs a = record { number = a .number; tag = a .tag; at = a .at; count = a .count; first = a .first }
 
--- the rule of an attribute in a line that has these numbers
-unfoldable pub ruledIn : List ℕ → ℕ → scope.Ruled
-ruledIn ns n = pick (among ns n) (scope.Ruled.is (ruleOf n)) scope.Ruled.none
+-- the rule of an attribute in a line of a class that has these numbers
+unfoldable pub ruledIn : Class → List ℕ → ℕ → scope.Ruled
+ruledIn class ns n = pick (among ns n) (scope.Ruled.is (ruleOf class n)) scope.Ruled.none
 
 -- each of these numbers is there
 unfoldable pub allIn : List item.Attribute → List ℕ → Bool
@@ -57,14 +58,14 @@ asUsual (a ∷ b ∷ []) = pick (eqb (a .number) NumberOfPoints) (eqb (b .number
 asUsual (a ∷ b ∷ c ∷ l) = false
 
 -- a line's rules are those of their numbers
-pub data Agreed : List scope.Rule → Type 0 where
-  agreed-none : Agreed []
-  agreed-more : {r : scope.Rule} {rs : List scope.Rule} → ruleOf (r .number) ≡ r → Agreed rs → Agreed (r ∷ rs)
+pub data Agreed (class : Class) : List scope.Rule → Type 0 where
+  agreed-none : Agreed class []
+  agreed-more : {r : scope.Rule} {rs : List scope.Rule} → ruleOf class (r .number) ≡ r → Agreed class rs → Agreed class (r ∷ rs)
 
 -- the numbers of a line of the code stand for these rules
-pub record Stands (ns : List ℕ) (rules : List scope.Rule) : Type 0 where
+pub record Stands (class : Class) (ns : List ℕ) (rules : List scope.Rule) : Type 0 where
   pub numbers : upToNo ns ≡ numbersIn rules
-  pub agreed : Agreed rules
+  pub agreed : Agreed class rules
 
 -- the first so many of a line's rules must be there, and no other
 pub data Led : ℕ → List scope.Rule → Type 0 where

@@ -6,9 +6,11 @@ ghost use Prim.Native.Nat.{ℕ, _+_, _<_};
 ghost use lib.Dec.{eqb};
 ghost use Rattle.scope.specs.Choice.{pick};
 ghost use Rattle.scope.specs.Names.{EndPoint, NumberOfPoints, PointType};
+ghost use Rattle.scope.specs.Header.{Class};
 ghost use Rattle.scope.specs.Table.{Rule as RuleIn, table, lineIn};
 ghost use Rattle.scope.specs.Attributes.{fine, bad, has as hasIn, attributeCode, oneByOne, choiceCode, pairCode, formCode};
 ghost use Rattle.items.specs.Rows.{rowAt, rowsOf, Sized};
+ghost use Rattle.setting.specs.Views.{classAs};
 ghost use Rattle.table.specs.Lines.{upToNo, isKnown, formAs, mustAs, briefAs, briefOf};
 ghost use Rattle.rules.specs.Judging.{attributeAs, ruledIn, Stands, Led, asUsual, faultAs, lineFault};
 use crate::line::all_there;
@@ -23,6 +25,7 @@ use attributes::is_given;
 use names::attributes::END_POINT;
 use names::attributes::NUMBER_OF_POINTS;
 use names::attributes::POINT_TYPE;
+use setting::Setting;
 use table::Form;
 use table::NO;
 use table::Row;
@@ -49,9 +52,15 @@ fn attribute_at(attrs: &[usize; 80], i: usize) -> Attribute
 }
 
 // The code of attribute i, given those before it; 0 is none.
-fn attribute_code(s: &[u8], high: bool, numbers: [u8; 8], attrs: &[usize; 80], i: usize) -> u32
+fn attribute_code(
+    s: &[u8],
+    set: Setting,
+    numbers: [u8; 8],
+    attrs: &[usize; 80],
+    i: usize,
+) -> u32
     requires { ⌜ i < 16 ⌝ }
-    ensures { λ r. ⌜ (Sized (now (attrs .entry)) i → r ≡ attributeCode high (now (s .entry)) (rowsOf (now (attrs .entry)) i) (rowAt (now (attrs .entry)) i) (ruledIn (upToNo numbers) (rowAt (now (attrs .entry)) i .number))) ⌝ }
+    ensures { λ r. ⌜ (Sized (now (attrs .entry)) i → r ≡ attributeCode (set .high) (now (s .entry)) (rowsOf (now (attrs .entry)) i) (rowAt (now (attrs .entry)) i) (ruledIn (classAs (set .class)) (upToNo numbers) (rowAt (now (attrs .entry)) i .number))) ⌝ }
 {
     let a = attribute_at(attrs, i);
     let number = listed(numbers, a.number);
@@ -61,12 +70,13 @@ fn attribute_code(s: &[u8], high: bool, numbers: [u8; 8], attrs: &[usize; 80], i
     if is_given(attrs, i, a.number) {
         return 12;
     }
-    let rule = rule_of(number);
+    let class = set.class;
+    let rule = rule_of(class, number);
     let kind = rule.kind;
     if !type_taken(kind, a.tag) {
         return 15;
     }
-    if in_range(s, high, kind, rule.low, rule.high, a) {
+    if in_range(s, set.high, kind, rule.low, rule.high, a) {
         0
     } else {
         16
@@ -74,13 +84,13 @@ fn attribute_code(s: &[u8], high: bool, numbers: [u8; 8], attrs: &[usize; 80], i
 }
 
 // Attribute by attribute.
-fn one_by_one(s: &[u8], high: bool, numbers: [u8; 8], attrs: &[usize; 80], n: usize) -> Fault
-    ensures { λ r. ⌜ ((rules : List RuleIn) → Stands numbers rules → Sized (now (attrs .entry)) n → faultAs r ≡ oneByOne high (now (s .entry)) rules [] (rowsOf (now (attrs .entry)) n)) ⌝ }
+fn one_by_one(s: &[u8], set: Setting, numbers: [u8; 8], attrs: &[usize; 80], n: usize) -> Fault
+    ensures { λ r. ⌜ ((rules : List RuleIn) → Stands (classAs (set .class)) numbers rules → Sized (now (attrs .entry)) n → faultAs r ≡ oneByOne (set .high) (now (s .entry)) rules [] (rowsOf (now (attrs .entry)) n)) ⌝ }
 {
     let end = at_most(n);
     let mut i: usize = 0;
     while i < end {
-        let code = attribute_code(s, high, numbers, attrs, i);
+        let code = attribute_code(s, set, numbers, attrs, i);
         if code != 0 {
             return Fault::Bad(code, attrs[i * 5 + 2]);
         }
@@ -153,7 +163,7 @@ fn line_code(attrs: &[usize; 80], n: usize) -> u32
 
 // 13 and 14, by the form of the line; 0 is none.
 fn form_code(form: Form, numbers: [u8; 8], attrs: &[usize; 80], n: usize) -> u32
-    ensures { λ r. ⌜ (isKnown form ≡ true → (rules : List RuleIn) → Stands numbers rules → Led (mustAs form) rules → Sized (now (attrs .entry)) n → r ≡ formCode (rowsOf (now (attrs .entry)) n) rules (formAs form)) ⌝ }
+    ensures { λ r. ⌜ (isKnown form ≡ true → (class : Class) (rules : List RuleIn) → Stands class numbers rules → Led (mustAs form) rules → Sized (now (attrs .entry)) n → r ≡ formCode (rowsOf (now (attrs .entry)) n) rules (formAs form)) ⌝ }
 {
     match form {
         Form::Each(must) => {
@@ -180,12 +190,19 @@ fn whole(at: usize, code: u32) -> Fault
 }
 
 // What is wrong with the attributes of an operator whose tag stands at a place, by its line: 11, 12, 15, 16, then 13, 14.
-pub fn line_fault(s: &[u8], high: bool, row: Row, at: usize, attrs: &[usize; 80], n: usize) -> Fault
-    ensures { λ r. ⌜ ((tag : ℕ) → briefAs row ≡ briefOf (lineIn table tag) → isKnown (row .form) ≡ true → Sized (now (attrs .entry)) n → faultAs r ≡ lineFault high (now (s .entry)) at (rowsOf (now (attrs .entry)) n) (lineIn table tag)) ⌝ }
+pub fn line_fault(
+    s: &[u8],
+    set: Setting,
+    row: Row,
+    at: usize,
+    attrs: &[usize; 80],
+    n: usize,
+) -> Fault
+    ensures { λ r. ⌜ ((tag : ℕ) → briefAs row ≡ briefOf (lineIn (table (classAs (set .class))) tag) → isKnown (row .form) ≡ true → Sized (now (attrs .entry)) n → faultAs r ≡ lineFault (set .high) (now (s .entry)) at (rowsOf (now (attrs .entry)) n) (lineIn (table (classAs (set .class))) tag)) ⌝ }
 {
     let form = row.form;
     let numbers = row.numbers;
-    match one_by_one(s, high, numbers, attrs, n) {
+    match one_by_one(s, set, numbers, attrs, n) {
         Fault::Bad(code, place) => Fault::Bad(code, place),
         Fault::Fine => whole(at, form_code(form, numbers, attrs, n)),
     }

@@ -5,6 +5,7 @@ ghost use Prim.Native.Nat.{ℕ};
 ghost use lib.Dec.{T, eqb, leb};
 ghost use lib.Ieee.{binary32, toBits, isNan};
 ghost use Rattle.scope.specs.Choice.{between};
+ghost use Rattle.scope.specs.Table.{M2};
 ghost use Rattle.scope.specs.Attributes.{Two, above, pointIn, sizesIn, firstOf, typeTaken, inRange};
 ghost use Rattle.table.specs.Lines.{takesAs};
 ghost use Rattle.rules.specs.Judging.{attributeAs};
@@ -73,6 +74,8 @@ pub fn type_taken(kind: Kind, tag: usize) -> bool
         Kind::A => tag == 0xc8,
         Kind::D => either(tag, 0xd1, 0xd5),
         Kind::M => tag == 0xc0,
+        Kind::M2 => either(tag, 0xc0, 0xc8),
+        Kind::L => any_of(tag, 0xc0, 0xc1, 0xc2),
     }
 }
 
@@ -139,7 +142,7 @@ fn are_sizes(low: usize, numbers: Numbers) -> bool
     }
 }
 
-// MediaSize: 0 to 12 and 14 to 16.
+// MediaSize in 1;1: 0 to 12 and 14 to 16.
 fn media_size(x: usize) -> bool
     ensures { λ r. ⌜ r ≡ (between 0 12 x || between 14 16 x) ⌝ }
 {
@@ -147,6 +150,20 @@ fn media_size(x: usize) -> bool
         return true;
     }
     within(14, 16, x)
+}
+
+// MediaSize in 2;1: 0 to 21 and 96, or a name of 1 to 1,024 bytes.
+fn media_size_two(s: &[u8], high: bool, a: Attribute) -> bool
+    ensures { λ r. ⌜ r ≡ inRange high (now (s .entry)) M2 (attributeAs a) ⌝ }
+{
+    if a.tag == 0xc8 {
+        return within(1, 1024, a.count);
+    }
+    let x = first_number(s, high, a);
+    if within(0, 21, x) {
+        return true;
+    }
+    x == 96
 }
 
 // The values taken, of a type that is taken.
@@ -161,5 +178,7 @@ pub fn in_range(s: &[u8], high: bool, kind: Kind, low: usize, top: usize, a: Att
         Kind::A => within(low, top, a.count),
         Kind::D => are_sizes(low, numbers_at(s, high, a.tag, a.first)),
         Kind::M => media_size(first_number(s, high, a)),
+        Kind::M2 => media_size_two(s, high, a),
+        Kind::L => true,
     }
 }

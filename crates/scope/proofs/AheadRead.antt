@@ -13,7 +13,7 @@ use Rattle.scope.specs.Choice.{pick, between}
 use Rattle.scope.specs.Number.{place, number}
 use Rattle.scope.specs.Item.{Attribute, Scan, kindOf, widthOf}
 use Rattle.scope.specs.Table.{Takes, E, N, P, B, A, D, M, M2, L, Rule, Row, Line, Ruled, table, lineIn, ruleIn}
-use Rattle.scope.specs.Attributes.{wholeBytes, Fault, fine, bad, has, Two, reals, twoAt, wholeIn, pointIn, sizesIn, firstOf, typeTaken, inRange, attributeCode, oneByOne, valueIn, bytesIn}
+use Rattle.scope.specs.Attributes.{longBytes, longIn, Fault, fine, bad, has, Two, reals, twoAt, wholeIn, pointIn, sizesIn, firstOf, typeTaken, inRange, attributeCode, oneByOne, valueIn, bytesIn}
 use Rattle.scope.specs.Data.{padOf, blockDue, Image, Due, Found, dueOf, blockOf, blockAt}
 use Rattle.scope.specs.Order.{lengthFits, mayCome, imageOf, rowsFit}
 use Rattle.scope.specs.Reading.{Context, Operator, Read, withBlock, withData, asWhole, withAttributes, withLine, scanned, operatorAt}
@@ -27,6 +27,9 @@ module _ (u v : List ℕ) where
   w = u ++ v
 
   -- what is looked at of attributes that stand in u
+  two-at-most : (t : ℕ) → pick (eqb t 0xc0) 1 2 ≤ 2
+  two-at-most t = pick-all (λ k. k ≤ 2) (eqb t 0xc0) (λ _. omega arith) (λ _. omega arith)
+
   pick-when : {A : Type 0} (b : Bool) (x y z : A) → (b ≡ true → x ≡ y) → pick b x z ≡ pick b y z
   pick-when true x y z h = h refl
   pick-when false x y z h = refl
@@ -51,19 +54,11 @@ module _ (u v : List ℕ) where
         let y = number-cut u v high 4 (a .first + 4) (omega arith) in
         (λ j. reals (x j) (y j))
 
-    -- a whole number lies in u, all its bytes
-    whole-in : {a : Attribute} → Inside (length u) a → a .first + wholeBytes (a .tag) ≤ length u
-    unfolding kindOf widthOf
-    whole-in {a} i =
-        let y = i .word in
-        pick-all (λ k. a .first + k ≤ length u) (eqb (a .tag) 0xc0) (λ _. omega arith)
-        (λ _. pick-all (λ k. a .first + k ≤ length u) (eqb (a .tag) 0xc2) (λ t. let z = i .words 1 4 (rw (eqb-true (a .tag) 0xc2 t) refl) in omega arith) (λ _. omega arith))
-
     first-cut : {a : Attribute} → Inside (length u) a → firstOf high u a ≡ firstOf high w a
     unfolding firstOf twoAt
     first-cut {a} i =
         pick-two wholeIn (eqb (a .tag) 0xd5) (λ _. refl)
-        (λ _. number-cut u v high (wholeBytes (a .tag)) (a .first) (whole-in i))
+        (λ _. let x = two-at-most (a .tag) in let y = i .word in number-cut u v high (pick (eqb (a .tag) 0xc0) 1 2) (a .first) (omega arith))
 
     second-cut : {a : Attribute} → Inside (length u) a → a .tag ≡ 0xd1 → number high 2 u (a .first + 2) ≡ number high 2 w (a .first + 2)
     unfolding kindOf widthOf
@@ -78,7 +73,9 @@ module _ (u v : List ℕ) where
     unfolding twoAt
     sizes-cut low {a} i e =
         pick-two (sizesIn low) (eqb (a .tag) 0xd5) (λ t. ap (sizesIn low) (real-cut i (eqb-true (a .tag) 0xd5 t)))
-        (λ f. let one = number-cut u v high (wholeBytes (a .tag)) (a .first) (whole-in i) in
+        (λ f. let x = two-at-most (a .tag) in
+        let y = i .word in
+        let one = number-cut u v high (pick (eqb (a .tag) 0xc0) 1 2) (a .first) (omega arith) in
         let two = second-cut i (eqb-true (a .tag) 0xd1 (or-left (eqb (a .tag) 0xd1) (eqb (a .tag) 0xd5) e f)) in
         (λ j. leb low (one j) && leb low (two j)))
 
@@ -113,13 +110,27 @@ module _ (u v : List ℕ) where
     value-in-cut n none = refl
     value-in-cut n (more {a = a} i k) = let e = first-cut i in let f = value-in-cut n k in (λ j. pick (eqb (a .number) n) (e j) (f j))
 
+    -- a whole number lies in u, all its bytes
+    long-in : {a : Attribute} → Inside (length u) a → a .first + longBytes (a .tag) ≤ length u
+    unfolding kindOf widthOf
+    long-in {a} i =
+        let y = i .word in
+        pick-all (λ k. a .first + k ≤ length u) (eqb (a .tag) 0xc2) (λ t. let z = i .words 1 4 (rw (eqb-true (a .tag) 0xc2 t) refl) in omega arith)
+        (λ _. pick-all (λ k. a .first + k ≤ length u) (eqb (a .tag) 0xc0) (λ _. omega arith) (λ _. omega arith))
+
+    long-in-cut : (n : ℕ) {l : List Attribute} → AllIn (length u) l → longIn high u l n ≡ longIn high w l n
+    unfolding longIn
+    long-in-cut n none = refl
+    long-in-cut n (more {a = a} i k) =
+        let e = number-cut u v high (longBytes (a .tag)) (a .first) (long-in i) in let f = long-in-cut n k in (λ j. pick (eqb (a .number) n) (e j) (f j))
+
     block-due-cut : (i : Image) {l : List Attribute} → AllIn (length u) l → blockDue high u i l ≡ blockDue high w i l
     unfolding blockDue padOf
     block-due-cut i k = rw (value-in-cut 99 k, value-in-cut 110 k) refl
 
     rows-cut : (i : Image) (tag : ℕ) {l : List Attribute} → AllIn (length u) l → rowsFit high u i tag l ≡ rowsFit high w i tag l
     unfolding rowsFit lengthFits
-    rows-cut i tag k = rw (value-in-cut 109 k, value-in-cut 99 k, value-in-cut 111 k, block-due-cut i k) refl
+    rows-cut i tag k = rw (value-in-cut 109 k, value-in-cut 99 k, long-in-cut 111 k, block-due-cut i k) refl
 
     due-cut : (i : Image) (tag : ℕ) {l : List Attribute} → AllIn (length u) l → dueOf high u i tag l ≡ dueOf high w i tag l
     unfolding dueOf

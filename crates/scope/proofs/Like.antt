@@ -15,7 +15,7 @@ use Rattle.scope.specs.Iterate.{Next, go, stop, onward, run, iterate}
 use Rattle.scope.specs.Item.{Kind, plain, array, other, Value, numbersAt, elementsAt, countedAt, arrayAt, valueOf, kindOf}
 use Rattle.scope.specs.Item.{Attribute, Pair, numbered, numberAt, pairOf, pairAt, Scan, Walk, endedWith, onPair, scanItem, scanStep, scanFrom, scanAt, spaces, after}
 use Rattle.scope.specs.Table.{Takes, E, N, P, B, A, D, M, M2, L, Rule, Row, Line, Ruled, Form, each, one, line, table, lineIn, ruleIn}
-use Rattle.scope.specs.Attributes.{wholeBytes, Fault, fine, bad, has, twoAt, twoOf, wholeIn, pointIn, sizesIn, firstOf, inRange, attributeCode, oneByOne, allThere, howMany, formCode, valueIn, bytesIn}
+use Rattle.scope.specs.Attributes.{longBytes, longIn, Fault, fine, bad, has, twoAt, twoOf, wholeIn, pointIn, sizesIn, firstOf, inRange, attributeCode, oneByOne, allThere, howMany, formCode, valueIn, bytesIn}
 use Rattle.scope.specs.Data.{padOf, blockDue, Image, Due, Found, dueOf, blockOf, blockAt}
 use Rattle.scope.specs.Order.{lengthFits, mayCome, imageOf, rowsFit}
 use Rattle.scope.specs.Reading.{Context, Operator, Read, withBlock, withData, asWhole, withAttributes, withLine, scanned, operatorAt}
@@ -254,7 +254,7 @@ module _ (s t : List ℕ) (p q : ℕ) (hp : p ≤ length s) (hq : q ≤ length t
     two-like : {a b : Attribute} → LikeAttr a b → twoOf high s a ≡ twoOf high t b
     unfolding twoAt
     two-like {a} {b} h =
-        rw (h .tag, number-like high 4 (h .first), number-like high 4 (far-add 4 (h .first)), number-like high (wholeBytes (b .tag)) (h .first), number-like high 2 (far-add 2 (h .first))) refl
+        rw (h .tag, number-like high 4 (h .first), number-like high 4 (far-add 4 (h .first)), number-like high (pick (eqb (b .tag) 0xc0) 1 2) (h .first), number-like high 2 (far-add 2 (h .first))) refl
 
     first-like : {a b : Attribute} → LikeAttr a b → firstOf high s a ≡ firstOf high t b
     unfolding firstOf
@@ -315,6 +315,11 @@ module _ (s t : List ℕ) (p q : ℕ) (hp : p ≤ length s) (hq : q ≤ length t
     value-in-like n nil = refl
     value-in-like n (cons h k) = rw (first-like high h, value-in-like n k, h .number) refl
 
+    long-in-like : (n : ℕ) {l m : List Attribute} → LikeAttrs l m → longIn high s l n ≡ longIn high t m n
+    unfolding longIn
+    long-in-like n nil = refl
+    long-in-like n (cons {b = b} h k) = rw (h .number, h .tag, number-like high (longBytes (b .tag)) (h .first), long-in-like n k) refl
+
   pub bytes-in-like : (n : ℕ) {l m : List Attribute} → LikeAttrs l m → bytesIn s l n ≡ bytesIn t m n
   unfolding bytesIn
   bytes-in-like n nil = refl
@@ -352,7 +357,7 @@ module _ (s t : List ℕ) (p q : ℕ) (hp : p ≤ length s) (hq : q ≤ length t
 
     rows-like : (i : Image) (tag : ℕ) {l m : List Attribute} → LikeAttrs l m → rowsFit high s i tag l ≡ rowsFit high t i tag m
     unfolding rowsFit lengthFits
-    rows-like i tag k = rw (value-in-like high 109 k, value-in-like high 99 k, has-like 111 k, value-in-like high 111 k, block-due-like i k) refl
+    rows-like i tag k = rw (value-in-like high 109 k, value-in-like high 99 k, has-like 111 k, long-in-like high 111 k, block-due-like i k) refl
 
     due-like : (i : Image) (tag : ℕ) {l m : List Attribute} → LikeAttrs l m → dueOf high s i tag l ≡ dueOf high t i tag m
     unfolding dueOf

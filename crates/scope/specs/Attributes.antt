@@ -21,15 +21,11 @@ pub data Two : Type 0 where
   wholes : (x y : ℕ) → Two
   reals : (x y : ℕ) → Two
 
--- the bytes of a whole number: ubyte, uint32, uint16
-abbrev pub wholeBytes : (tag : ℕ) → ℕ
-wholeBytes tag = pick (eqb tag 0xc0) 1 (pick (eqb tag 0xc2) 4 2)
-
--- the numbers of a value of this tag, the first of which stands at a place: two reals; or the first of ubytes, of uint32 or of uint16, and the second of two uint16
+-- the numbers of a value of this tag, the first of which stands at a place: two reals; or the first of ubytes or of uint16 and the second of two uint16
 unfoldable pub twoAt : Bool → List ℕ → (tag first : ℕ) → Two
 twoAt high s tag first =
     pick (eqb tag 0xd5) (reals (number high 4 s first) (number high 4 s (first + 4)))
-    (wholes (number high (wholeBytes tag) s first) (number high 2 s (first + 2)))
+    (wholes (number high (pick (eqb tag 0xc0) 1 2) s first) (number high 2 s (first + 2)))
 
 abbrev pub twoOf : Bool → List ℕ → Attribute → Two
 twoOf high s a = twoAt high s (a .tag) (a .first)
@@ -137,6 +133,14 @@ formCode l rs line = pairCode (has EndPoint l) (has NumberOfPoints l) (has Point
 unfoldable pub valueIn : Bool → List ℕ → List Attribute → ℕ → ℕ
 valueIn high s [] n = 0
 valueIn high s (a ∷ l) n = pick (eqb (a .number) n) (firstOf high s a) (valueIn high s l n)
+
+-- and one of a ubyte, uint16 or uint32
+abbrev pub longBytes : (tag : ℕ) → ℕ
+longBytes tag = pick (eqb tag 0xc2) 4 (pick (eqb tag 0xc0) 1 2)
+
+unfoldable pub longIn : Bool → List ℕ → List Attribute → ℕ → ℕ
+longIn high s [] n = 0
+longIn high s (a ∷ l) n = pick (eqb (a .number) n) (number high (longBytes (a .tag)) s (a .first)) (longIn high s l n)
 
 unfoldable pub bytesIn : List ℕ → List Attribute → ℕ → List ℕ
 bytesIn s [] n = []

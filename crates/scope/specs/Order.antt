@@ -6,7 +6,7 @@ use mathlib.Core.Bool.{Bool, true, _&&_, _||_}
 use lib.Dec.{leb, eqb}
 use Rattle.scope.specs.Choice.{pick, between, among}
 use Rattle.scope.specs.Item.{Attribute}
-use Rattle.scope.specs.Attributes.{has, valueIn}
+use Rattle.scope.specs.Attributes.{has, valueIn, longIn}
 use Rattle.scope.specs.Data.{Image, blockDue}
 use Rattle.scope.specs.Names.{PopGS, Comment, SetDefaultGS, ExecStream, PushGS, BeginSession, BeginStream, BeginPage, CloseDataSource, OpenDataSource, EndSession, ReadStream, EndStream, EndPage, EndImage, ReadImage, StartLine, BlockHeight, BlockByteLength}
 
@@ -44,7 +44,7 @@ imageOf (in-image i) = i
 
 -- BlockByteLength, if it is there, is the length due
 unfoldable pub lengthFits : Bool → List ℕ → Image → List Attribute → Bool
-lengthFits high s i l = pick (has BlockByteLength l) (eqb (valueIn high s l BlockByteLength) (blockDue high s i l)) true
+lengthFits high s i l = pick (has BlockByteLength l) (eqb (longIn high s l BlockByteLength) (blockDue high s i l)) true
 
 -- each StartLine is the number of rows read so far, rows never exceed SourceHeight, and BlockByteLength is right
 unfoldable pub rowsFit : Bool → List ℕ → Image → ℕ → List Attribute → Bool

@@ -6,12 +6,13 @@ use mathlib.Core.Bool.{Bool, true, false}
 use lib.ListN.{length, replicate}
 use lib.Dec.{eqb}
 use Rattle.scope.specs.Choice.{pick}
+use Rattle.scope.specs.Header.{Class}
 use Rattle.scope.specs.Table as scope
 use Rattle.table.specs.declared.table.Form.{Form}
 use Rattle.table.specs.declared.table.Form.the-variants.{Each, One, Line, Unknown}
 use Rattle.table.specs.declared.table.Row.{Row}
 use Rattle.table.specs.declared.table.Kind.{Kind}
-use Rattle.table.specs.declared.table.Kind.the-variants.{E, N, P, B, A, D, M}
+use Rattle.table.specs.declared.table.Kind.the-variants.{E, N, P, B, A, D, M, M2, L}
 use Rattle.table.specs.declared.table.Rule.{Rule}
 
 -- the table has such a line
@@ -87,9 +88,9 @@ abbrev pub orNothing : ℕ → scope.Ruled → scope.Rule
 orNothing n (scope.Ruled.is r) = r
 orNothing n scope.Ruled.none = scope.may n (scope.E 1 0)
 
--- the first rule of an attribute's number in the table
-unfoldable pub ruleOf : ℕ → scope.Rule
-ruleOf n = orNothing n (scope.ruleIn (rulesIn scope.table) n)
+-- the first rule of an attribute's number in the table of a class
+unfoldable pub ruleOf : Class → ℕ → scope.Rule
+ruleOf class n = orNothing n (scope.ruleIn (rulesIn (scope.table class)) n)
 
 -- the values that a kind with its lowest and highest stands for
 abbrev pub takesAs : Kind → ℕ → ℕ → scope.Takes
@@ -100,6 +101,8 @@ takesAs B l h = scope.B
 takesAs A l h = scope.A l h
 takesAs D l h = scope.D l
 takesAs M l h = scope.M
+takesAs M2 l h = scope.M2
+takesAs L l h = scope.L
 
 -- the values that a rule of the code stands for
 abbrev pub takesOf : Rule → scope.Takes

@@ -1,13 +1,16 @@
-// The operator table: a line for an operator, in the order of Appendix C of 000, and a line for each attribute.
+// The operator table: a line for an operator, in the order of Appendix C of 000, and a line for each attribute; and what class 2;1 has besides.
 ghost use mathlib.Core.Path.{_≡_};
 ghost use mathlib.Core.List.{_∷_, []};
-ghost use Rattle.scope.specs.Table.{table, lineIn};
+ghost use Rattle.scope.specs.Header.{one, two};
+ghost use Rattle.scope.specs.Table.{tableOne, tableTwo, table, lineIn};
+ghost use Rattle.setting.specs.Views.{classAs};
 ghost use Rattle.table.specs.Lines.{isKnown, rowWith, briefAs, briefOf, takesOf, ruleOf};
 ghost use Rattle.table.specs.declared.table.Form.the-variants.{Each, One, Line, Unknown};
 use names::attributes::SOURCE_HEIGHT as HEIGHT;
 use names::attributes::SOURCE_WIDTH as WIDTH;
 use names::attributes::*;
 use names::operators::*;
+use setting::Class;
 
 // How an operator's attributes belong together: each by itself, of which the first so many must be there; exactly one
 // of them; or the first alone or both others.
@@ -28,7 +31,7 @@ pub struct Row {
 pub const NO: u8 = 0;
 
 // The values that an attribute takes: E a ubyte, N a ubyte or uint16, P a point, B a box, A an array of ubytes,
-// D two uint16 or reals, M MediaSize.
+// D two uint16 or reals, M and M2 MediaSize in 1;1 and in 2;1, L a ubyte, uint16 or uint32.
 pub enum Kind {
     E,
     N,
@@ -37,6 +40,8 @@ pub enum Kind {
     A,
     D,
     M,
+    M2,
+    L,
 }
 
 // An attribute's values, the lowest and the highest.
@@ -106,6 +111,26 @@ fn needs_three(a: u8, b: u8, c: u8) -> Row
     }
 }
 
+// Takes three, which must be there, and two that may be missing.
+fn needs_three_may_two(a: u8, b: u8, c: u8, d: u8, e: u8) -> Row
+    ensures { λ r. ⌜ r ≡ rowWith (Each 3) (a ∷ b ∷ c ∷ d ∷ e ∷ []) ⌝ }
+{
+    Row {
+        form: Form::Each(3),
+        numbers: [a, b, c, d, e, NO, NO, NO],
+    }
+}
+
+// Takes four, which may be missing.
+fn may_four(a: u8, b: u8, c: u8, d: u8) -> Row
+    ensures { λ r. ⌜ r ≡ rowWith (Each 0) (a ∷ b ∷ c ∷ d ∷ []) ⌝ }
+{
+    Row {
+        form: Form::Each(0),
+        numbers: [a, b, c, d, NO, NO, NO, NO],
+    }
+}
+
 // Takes five, which must be there.
 fn needs_five(a: u8, b: u8, c: u8, d: u8, e: u8) -> Row
     ensures { λ r. ⌜ r ≡ rowWith (Each 5) (a ∷ b ∷ c ∷ d ∷ e ∷ []) ⌝ }
@@ -146,9 +171,9 @@ fn unknown() -> Row
     }
 }
 
-// What attributes an operator takes: one line for one operator.
-pub fn row_of(tag: u8) -> Row
-    ensures { λ r. ⌜ briefAs r ≡ briefOf (lineIn table tag) ⌝ }
+// What attributes an operator takes in class 1;1: one line for one operator.
+fn row_of_one(tag: u8) -> Row
+    ensures { λ r. ⌜ briefAs r ≡ briefOf (lineIn tableOne tag) ⌝ }
 {
     match tag {
         BEGIN_IMAGE => needs_five(COLOR_MAPPING, COLOR_DEPTH, WIDTH, HEIGHT, DESTINATION_SIZE),
@@ -183,15 +208,43 @@ pub fn row_of(tag: u8) -> Row
     }
 }
 
+// And in class 2;1: three lines that are its own, the others as in 1;1.
+fn row_of_two(tag: u8) -> Row
+    ensures { λ r. ⌜ briefAs r ≡ briefOf (lineIn tableTwo tag) ⌝ }
+{
+    match tag {
+        BEGIN_PAGE => may_four(ORIENTATION, MEDIA_SIZE, MEDIA_SOURCE, MEDIA_TYPE),
+        READ_IMAGE => needs_three_may_two(
+            START_LINE,
+            BLOCK_HEIGHT,
+            COMPRESS_MODE,
+            PAD_BYTES_MULTIPLE,
+            BLOCK_BYTE_LENGTH,
+        ),
+        SET_DEFAULT_GS => nothing(),
+        _ => row_of_one(tag),
+    }
+}
+
+// What attributes an operator takes in a class.
+pub fn row_of(class: Class, tag: u8) -> Row
+    ensures { λ r. ⌜ briefAs r ≡ briefOf (lineIn (table (classAs class)) tag) ⌝ }
+{
+    match class {
+        Class::One => row_of_one(tag),
+        Class::Two => row_of_two(tag),
+    }
+}
+
 fn takes(kind: Kind, low: usize, high: usize) -> Rule
     ensures { λ r. ⌜ r ≡ record { kind = kind; low = low; high = high } ⌝ }
 {
     Rule { kind, low, high }
 }
 
-// The values that an attribute takes, which are the same in every line that has it.
-pub fn rule_of(number: u8) -> Rule
-    ensures { λ r. ⌜ takesOf r ≡ ruleOf number .takes ⌝ }
+// The values that an attribute takes in class 1;1, which are the same in every line that has it.
+fn rule_of_one(number: u8) -> Rule
+    ensures { λ r. ⌜ takesOf r ≡ ruleOf one number .takes ⌝ }
 {
     match number {
         COLOR_SPACE => takes(Kind::E, 1, 2),
@@ -226,6 +279,30 @@ pub fn rule_of(number: u8) -> Rule
         STREAM_DATA_LENGTH => takes(Kind::N, 1, 65_535),
         ERROR_REPORT => takes(Kind::E, 0, 3),
         _ => takes(Kind::E, 1, 0),
+    }
+}
+
+// And in class 2;1: those of its own lines, the others as in 1;1.
+fn rule_of_two(number: u8) -> Rule
+    ensures { λ r. ⌜ takesOf r ≡ ruleOf two number .takes ⌝ }
+{
+    match number {
+        ORIENTATION => takes(Kind::E, 0, 3),
+        MEDIA_SIZE => takes(Kind::M2, 0, 0),
+        MEDIA_TYPE => takes(Kind::A, 0, 1024),
+        PAD_BYTES_MULTIPLE => takes(Kind::E, 1, 255),
+        BLOCK_BYTE_LENGTH => takes(Kind::L, 0, 0),
+        _ => rule_of_one(number),
+    }
+}
+
+// The values that an attribute takes in a class.
+pub fn rule_of(class: Class, number: u8) -> Rule
+    ensures { λ r. ⌜ takesOf r ≡ ruleOf (classAs class) number .takes ⌝ }
+{
+    match class {
+        Class::One => rule_of_one(number),
+        Class::Two => rule_of_two(number),
     }
 }
 

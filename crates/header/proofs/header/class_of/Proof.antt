@@ -1,19 +1,23 @@
--- `class_of` meets its contract.
+-- `class_of`: the second digit, then the first.
 -- Assumes nothing.
 use Prim.Native.Nat.{ℕ}
 use mathlib.Core.Path.{_≡_, refl, sym, ap, _∙_}
-use mathlib.Core.Bool.{true, false}
+use mathlib.Core.Bool.{Bool, true, false, _&&_}
 use lib.ListN.{getD}
 use lib.Dec.{eqb}
 use borrow.Author.Tests.{eq-eqb, ne-eqb}
-use Rattle.scope.specs.Header.{classed}
+use Rattle.scope.specs.Choice.{pick}
+use Rattle.scope.specs.Header.{Header, classed}
 use borrow.Author.Needs.{needs}
 use Rattle.header.proofs.header.class_of.Statement.{statement}
 use Rattle.header.proofs.header.class_of.Tie as tie
 
--- the first digit, once it was tested
-first : (c : tie.After-byte-at2) → eqb (getD (c .before .before .before .before .args .s .now) 12 0) 0x31 ≡ true
-first c = ap (λ (x : ℕ). eqb x 0x31) (sym (c .before .before .byte-at .ensures)) ∙ eq-eqb _ _ (c .before .if1 .left)
+-- a second digit that is no 1
+neither : (a b : Bool) (x y z : Header) → pick (a && false) x (pick (b && false) y z) ≡ z
+neither true true x y z = refl
+neither true false x y z = refl
+neither false true x y z = refl
+neither false false x y z = refl
 
 byte-at-requires : tie.Need-byte-at-requires
 byte-at-requires c κs = search needs
@@ -21,28 +25,39 @@ byte-at-requires c κs = search needs
 returns : tie.Need-returns
 unfolding classed
 returns c =
-    let h : eqb (getD (c .before .before .before .args .s .now) 12 0) 0x31 ≡ false = ap (λ (x : ℕ). eqb x 0x31) (sym (c .before .byte-at .ensures)) ∙ ne-eqb _ _ (c .if1 .taken) in
-    rw h (refl, tt)
+    let s : _ = c .before .before .before .args .s .now in
+    let h : eqb (getD s 14 0) 0x31 ≡ false = ap (λ (x : ℕ). eqb x 0x31) (sym (c .before .byte-at .ensures)) ∙ ne-eqb _ _ (c .if1 .taken) in
+    rw h (sym (neither (eqb (getD s 12 0) 0x31) (eqb (getD s 12 0) 0x32) _ _ _), tt)
 
 byte-at-requires-2 : tie.Need-byte-at-requires-2
 byte-at-requires-2 c κs = search needs
 
+byte-at-requires-3 : tie.Need-byte-at-requires-3
+byte-at-requires-3 c κs = search needs
+
+-- the second digit is a 1
+second : (c : tie.After-byte-at3) → eqb (getD (c .before .before .before .before .before .args .s .now) 14 0) 0x31 ≡ true
+second c = ap (λ (x : ℕ). eqb x 0x31) (sym (c .before .before .before .byte-at .ensures)) ∙ eq-eqb _ _ (c .before .before .if1 .left)
+
 returns-2 : tie.Need-returns-2
 unfolding classed
 returns-2 c =
-    let h : eqb (getD (c .before .before .before .before .before .args .s .now) 14 0) 0x31 ≡ false = ap (λ (x : ℕ). eqb x 0x31) (sym (c .before .byte-at2 .ensures)) ∙ ne-eqb _ _ (c .if2 .taken) in
-    rw (first (c .before), h) (refl, tt)
-
-byte-at-requires-3 : tie.Need-byte-at-requires-3
-byte-at-requires-3 c κs = search needs
+    let k = c .before .before .before .before .before .before .pre in
+    rw (second (c .before), sym (c .before .byte-at3 .ensures) ∙ c .match .keys1, c .before .before .byte-at2 .ensures) (refl, k)
 
 returns-3 : tie.Need-returns-3
 unfolding classed
 returns-3 c =
-    let h : eqb (getD (c .before .before .before .before .before .before .args .s .now) 14 0) 0x31 ≡ true = ap (λ (x : ℕ). eqb x 0x31) (sym (c .before .before .byte-at2 .ensures)) ∙ eq-eqb _ _ (c .before .if2 .left) in
-    rw (first (c .before .before), h, c .byte-at3 .ensures) (refl, c .before .before .before .before .before .before .pre)
+    let k = c .before .before .before .before .before .before .pre in
+    rw (second (c .before), sym (c .before .byte-at3 .ensures) ∙ c .match .keys2, c .before .before .byte-at2 .ensures) (refl, k)
+
+returns-4 : tie.Need-returns-4
+unfolding classed
+returns-4 c =
+    let e = sym (c .before .byte-at3 .ensures) in
+    rw (second (c .before), ap (λ (x : ℕ). eqb x 0x31) e ∙ ne-eqb _ _ (c .match .rest .0 .1), ap (λ (x : ℕ). eqb x 0x32) e ∙ ne-eqb _ _ (c .match .rest .1)) (refl, tt)
 
 pub class-of-spec : {M : Type 1} → statement M
 class-of-spec =
     tie.close
-    (tie.spec byte-at-requires returns byte-at-requires-2 returns-2 byte-at-requires-3 returns-3)
+    (tie.spec byte-at-requires returns byte-at-requires-2 byte-at-requires-3 returns-2 returns-3 returns-4)

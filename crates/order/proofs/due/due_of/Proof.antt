@@ -1,22 +1,15 @@
--- `due_of` meets its contract.
+-- `due_of`: by the operator.
 -- Assumes nothing.
-use Prim.Native.Nat.{ℕ, _*_, _≤_}
 use mathlib.Core.Path.{_≡_}
 use mathlib.Core.Bool.{true, _||_}
 use mathlib.Core.Logic.{⊎-elim}
 use lib.Dec.{eqb}
-use native.Mathlib.Nat.{mul-le-mul}
-use native.Mathlib.Omega.{arith}
 use borrow.Author.Tests.{eq-eqb, ne-eqb}
 use Rattle.scope.specs.Data.{dueOf}
 use Rattle.order.specs.Views.{pointsDue}
 use borrow.Author.Needs.{needs}
 use Rattle.order.proofs.due.due_of.Statement.{statement}
 use Rattle.order.proofs.due.due_of.Tie as tie
-
--- rows of an image fit
-product : (x y : ℕ) → x ≤ 65535 → y ≤ 65536 → x * y ≤ 65535 * 65536
-product x y h k = mul-le-mul h k
 
 -- where points are read, the tag is one of a line's two
 is-line : (c : tie.Joined3) → let tag = c .before .before .before .before .args .tag in (eqb tag 0x9b || eqb tag 0x9d) ≡ true
@@ -25,30 +18,19 @@ is-line c = ⊎-elim (λ w. simp (ne-eqb _ _ (w .0 .taken), eq-eqb _ _ (w .1 .le
 value-in-requires : tie.Need-value-in-requires
 value-in-requires c κs = search needs
 
-cast-t10 : tie.Need-cast-t10
-cast-t10 c = search needs
+cast-t9 : tie.Need-cast-t9
+cast-t9 c = search needs
 
 returns : tie.Need-returns
 unfolding dueOf
 returns c = λ z. rw (eq-eqb _ _ (c .before .if1 .taken), ← c .value-in .ensures .0 z)
 
-value-in-requires-2 : tie.Need-value-in-requires-2
-value-in-requires-2 c κs = search needs
-
-cast-rows : tie.Need-cast-rows
-cast-rows c = search needs
-
-row-of-requires : tie.Need-row-of-requires
-row-of-requires c κs = search needs
-
-mul-t13 : tie.Need-mul-t13
-mul-t13 c =
-    let m = product (c .before .value-in2 .result) (c .row-of .result) (omega (arith, c .before .value-in2 .ensures .1)) (c .row-of .ensures .1) in
-    omega (arith, m)
+block-due-requires : tie.Need-block-due-requires
+block-due-requires c κs = search needs
 
 returns-2 : tie.Need-returns-2
 unfolding dueOf
-returns-2 c = λ z. rw (ne-eqb _ _ (c .before .before .before .if1 .left), eq-eqb _ _ (c .before .before .if2 .taken), ← c .before .value-in2 .ensures .0 z, ← c .row-of .ensures .0)
+returns-2 c = λ z. rw (ne-eqb _ _ (c .before .before .if1 .left), eq-eqb _ _ (c .before .if2 .taken), ← c .block-due .ensures z)
 
 returns-3 : tie.Need-returns-3
 unfolding dueOf
@@ -68,12 +50,9 @@ due-of-spec =
     tie.close
     (tie.spec
     value-in-requires
-    cast-t10
+    cast-t9
     returns
-    value-in-requires-2
-    cast-rows
-    row-of-requires
-    mul-t13
+    block-due-requires
     returns-2
     returns-3
     points-due-requires

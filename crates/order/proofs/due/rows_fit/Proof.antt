@@ -1,6 +1,6 @@
--- `rows_fit` meets its contract.
+-- `rows_fit`: StartLine, then the rows, then BlockByteLength.
 -- Assumes nothing.
-use borrow.Author.Tests.{eq-eqb, ne-eqb}
+use borrow.Author.Tests.{eq-eqb, ne-eqb, le-leb, lt-leb}
 use Rattle.scope.specs.Order.{rowsFit}
 use borrow.Author.Needs.{needs}
 use Rattle.order.proofs.due.rows_fit.Statement.{statement}
@@ -23,20 +23,31 @@ value-in-requires-2 c κs = search needs
 cast-height : tie.Need-cast-height
 cast-height c = search needs
 
-cast-result : tie.Need-cast-result
-cast-result c = search needs
+cast-if3 : tie.Need-cast-if3
+cast-if3 c = search needs
 
-cast-result-2 : tie.Need-cast-result-2
-cast-result-2 c = search needs
+cast-if3-2 : tie.Need-cast-if3-2
+cast-if3-2 c = search needs
 
-add-result : tie.Need-add-result
-add-result c = search needs
+add-if3 : tie.Need-add-if3
+add-if3 c = search needs
 
 returns-3 : tie.Need-returns-3
 unfolding rowsFit
 returns-3 c =
-    let e = c .before .before in
-    λ z. rw (eq-eqb _ _ (e .before .before .if1 .left), ← e .before .value-in .ensures .0 z, eq-eqb _ _ (e .if2 .left), ← c .before .value-in2 .ensures .0 z)
+    let b = c .before .before in
+    let e = b .before in
+    λ z. rw (eq-eqb _ _ (e .before .before .if1 .left), ← e .before .value-in .ensures .0 z, eq-eqb _ _ (e .if2 .left), ← b .value-in2 .ensures .0 z, lt-leb _ _ (c .if3 .taken))
+
+length-fits-requires : tie.Need-length-fits-requires
+length-fits-requires c κs = search needs
+
+returns-4 : tie.Need-returns-4
+unfolding rowsFit
+returns-4 c =
+    let b = c .before .before .before in
+    let e = b .before in
+    λ z. rw (eq-eqb _ _ (e .before .before .if1 .left), ← e .before .value-in .ensures .0 z, eq-eqb _ _ (e .if2 .left), ← b .value-in2 .ensures .0 z, le-leb _ _ (c .before .if3 .left)) (c .length-fits .ensures z)
 
 pub rows-fit-spec : {M : Type 1} → statement M
 rows-fit-spec =
@@ -47,7 +58,9 @@ rows-fit-spec =
     returns-2
     value-in-requires-2
     cast-height
-    cast-result
-    cast-result-2
-    add-result
-    returns-3)
+    cast-if3
+    cast-if3-2
+    add-if3
+    returns-3
+    length-fits-requires
+    returns-4)

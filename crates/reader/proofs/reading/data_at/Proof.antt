@@ -31,10 +31,10 @@ block-at-requires c κs = search needs
 returns-2 : tie.Need-returns-2
 unfolding dataAt
 returns-2 c =
-    let w = c .before .after-white in
-    let e = c .before .before in
+    let w = c .before .before .after-white in
+    let e = c .before .before .before in
     let a = e .before .before .before .args in
-    let l = after-le (a .c .high) (a .s .now) (a .at + 1) in
+    let l = after-le (a .c .set .high) (a .s .now) (a .at + 1) in
     let m : a .at ≤ w .result = omega (arith, w .ensures, l) in (
       rw (sym (e .before .lacks .ensures) ∙ e .if1 .left, ← add-one, ← w .ensures) (c .block-at .ensures .0),
       placed-from (length (a .s .now)) (a .at) (w .result) (a .due) (c .block-at .result) m (c .block-at .ensures .1),

@@ -3,6 +3,7 @@
 use mathlib.Core.Path.{_≡_, sym, _∙_}
 use borrow.Author.Tests.{not-true, not-false}
 use Rattle.scope.specs.Table.{table, lineIn}
+use Rattle.setting.specs.Views.{classAs}
 use Rattle.table.specs.Lines.{isLine}
 use Rattle.rules.proofs.Briefs.{line-known}
 use Rattle.reader.specs.Reads.{lineAt}
@@ -17,10 +18,10 @@ is-known-requires : tie.Need-is-known-requires
 is-known-requires c κs = search needs
 
 -- the table has the line exactly if its form is known
-known : (c : tie.After-is-known) → isLine (lineIn table (c .before .before .before .args .tag)) ≡ c .is-known .result
+known : (c : tie.After-is-known) → isLine (lineIn (table (classAs (c .before .before .before .before .args .c .set .class))) (c .before .before .before .before .args .tag)) ≡ c .is-known .result
 known c =
     let w = c .before in
-    sym (c .is-known .ensures ∙ line-known (w .row-of .result) (lineIn table (w .before .before .args .tag)) (w .row-of .ensures))
+    sym (c .is-known .ensures ∙ line-known (w .row-of .result) (lineIn (table (classAs (w .before .before .before .args .c .set .class))) (w .before .before .before .args .tag)) (w .row-of .ensures))
 
 returns : tie.Need-returns
 unfolding lineAt
@@ -46,7 +47,7 @@ returns-3 c =
     let k = e .before in
     let w = k .before in
     λ z. rw (known k ∙ not-false _ (e .if1 .left), sym (f .before .may-come .ensures) ∙ not-false _ (f .if2 .left))
-    (c .line-fault .ensures (w .before .before .args .tag) (w .row-of .ensures) (sym (k .is-known .ensures) ∙ not-false _ (e .if1 .left)) z)
+    (c .line-fault .ensures (w .before .before .before .args .tag) (w .row-of .ensures) (sym (k .is-known .ensures) ∙ not-false _ (e .if1 .left)) z)
 
 pub line-at-spec : {M : Type 1} → statement M
 line-at-spec =

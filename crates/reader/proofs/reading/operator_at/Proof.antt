@@ -29,21 +29,21 @@ use Rattle.reader.proofs.reading.operator_at.Tie as tie
 
 -- what is read, and the array as the scan left it
 abbrev context : tie.After-scan-at → Context
-context c = contextAs (c .before .before .before .args .c)
+context c = contextAs (c .before .before .before .before .args .c)
 
 abbrev bytes : tie.After-scan-at → List ℕ
-bytes c = c .before .before .before .args .s .now
+bytes c = c .before .before .before .before .args .s .now
 
 abbrev array : tie.After-scan-at → List ℕ
 array c = c .scan-at .last .1 .1 .1 .0
 
 -- the array has its length
 abbrev Long : tie.After-scan-at → Type 0
-Long c = length (c .before .before .before .args .attrs .now) ≡ 80
+Long c = length (c .before .before .before .before .args .attrs .now) ≡ 80
 
 -- what the definition comes to
 abbrev Comes : tie.After-scan-at → Read → Type 0
-Comes c r = Long c → operatorAt (context c) (bytes c) (c .before .before .before .args .start) ≡ r
+Comes c r = Long c → operatorAt (context c) (bytes c) (c .before .before .before .before .args .start) ≡ r
 
 -- what the scan found
 by-scan : (c : tie.After-scan-at) (r : Scan) → c .scan-at .result ≡ r → Comes c (scanned (context c) (bytes c) (scanAs r (array c)))
@@ -67,7 +67,7 @@ abbrev attributes : tie.After-tag → List Attribute
 attributes t = rowsOf (array (scan t)) (many t)
 
 -- its tag stands within the bytes, and its attributes are few
-inside : (t : tie.After-tag) → (scan t .before .before .before .args .start ≤ at t) × (at t < length (bytes (scan t))) × (many t ≤ 16)
+inside : (t : tie.After-tag) → (scan t .before .before .before .before .args .start ≤ at t) × (at t < length (bytes (scan t))) × (many t ≤ 16)
 inside t =
     let w = rw (t .tag .given .1) at (t .before .before .scan-at .ensures .1 .1) in
     (w .0, w .1, w .2)
@@ -101,7 +101,7 @@ by-line c r e z =
     let t = lined c in
     let f = scan t in
     by-scan f _ (t .tag .given .1) z
-    ∙ line-after (context f) (bytes f) (tag t) (at t) (attributes t) (lineIn table (tag t))
+    ∙ line-after (context f) (bytes f) (tag t) (at t) (attributes t) (lineIn (table (context f .set .class)) (tag t))
     ∙ ap (afterLine (context f) (bytes f) (tag t) (at t) (attributes t)) (sym (c .line-at .ensures (sized t z)) ∙ ap faultAs e)
 
 -- 14 for rows
@@ -110,7 +110,7 @@ by-rows : (c : tie.After-rows-fit) (b : Bool) → c .rows-fit .result ≡ b
     let f = scan t in
     Comes f (pick b
     (withData (context f) (bytes f) (tag t) (at t) (attributes t)
-    (dueOf (context f .high) (bytes f) (imageAs (c .before .before .image-of .result)) (tag t) (attributes t)))
+    (dueOf (context f .set .high) (bytes f) (imageAs (c .before .before .image-of .result)) (tag t) (attributes t)))
     (Read.no 14 (at t)))
 by-rows c b e z =
     let t = fitted c in
@@ -187,10 +187,10 @@ due-of-requires c κs = search needs
 enum-told-3 : tie.Need-enum-told-3
 enum-told-3 c = search needs
 
-add-t31 : tie.Need-add-t31
-add-t31 c =
+add-t32 : tie.Need-add-t32
+add-t32 c =
     let t = owed (c .before .before) in
-    omega (arith, inside t .1, scan t .before .before .before .good .1 .0 .0)
+    omega (arith, inside t .1, scan t .before .before .before .before .good .1 .0 .0)
 
 enum-known-due : tie.Need-enum-known-due
 enum-known-due c = search needs
@@ -204,10 +204,10 @@ enum-known-code-3 c = search needs
 enum-known-first : tie.Need-enum-known-first
 enum-known-first c = search needs
 
-add-t35 : tie.Need-add-t35
-add-t35 c =
+add-t36 : tie.Need-add-t36
+add-t36 c =
     let t = placed (c .before .before .before) in
-    omega (arith, found (c .before) .1, scan t .before .before .before .good .1 .0 .0)
+    omega (arith, found (c .before) .1, scan t .before .before .before .before .good .1 .0 .0)
 
 returns-2 : tie.Need-returns-2
 unfolding scanned
@@ -278,12 +278,12 @@ operator-at-spec =
     returns
     due-of-requires
     enum-told-3
-    add-t31
+    add-t32
     enum-known-due
     data-at-requires
     enum-known-code-3
     enum-known-first
-    add-t35
+    add-t36
     returns-2
     returns-3
     returns-4

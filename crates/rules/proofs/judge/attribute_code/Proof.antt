@@ -6,6 +6,7 @@ use mathlib.Core.Bool.{true, false}
 use borrow.Author.Tests.{not-true, not-false}
 use Rattle.scope.specs.Choice.{among}
 use Rattle.items.specs.Rows.{rowsOf}
+use Rattle.setting.specs.Views.{classAs}
 use Rattle.table.specs.Lines.{upToNo, takesOf, ruleOf}
 use Rattle.rules.specs.Judging.{attributeAs}
 use Rattle.rules.proofs.Numbered.{listed-none, listed-is}
@@ -24,7 +25,7 @@ returns : tie.Need-returns
 returns c =
     let e = c .before .before in
     let a = e .before .before .args in
-    λ z. rw (← e .attribute-at .ensures) (sym (code-11 (a .high) (a .s .now) (rowsOf (a .attrs .now) (a .i)) (attributeAs (e .attribute-at .result)) (upToNo (a .numbers))
+    λ z. rw (← e .attribute-at .ensures) (sym (code-11 (a .set .high) (a .s .now) (rowsOf (a .attrs .now) (a .i)) (attributeAs (e .attribute-at .result)) (classAs (a .set .class)) (upToNo (a .numbers))
     (listed-none (a .numbers) (e .attribute-at .result .number) (c .before .listed .result) (c .before .listed .ensures) (c .if1 .taken))))
 
 -- the line has the attribute's number, and that is what `listed` answered
@@ -42,7 +43,7 @@ returns-2 : tie.Need-returns-2
 returns-2 c =
     let e = c .before .before .before .before in
     let a = e .before .before .args in
-    λ z. rw (← e .attribute-at .ensures) (sym (code-12 (a .high) (a .s .now) (rowsOf (a .attrs .now) (a .i)) (attributeAs (e .attribute-at .result)) (upToNo (a .numbers))
+    λ z. rw (← e .attribute-at .ensures) (sym (code-12 (a .set .high) (a .s .now) (rowsOf (a .attrs .now) (a .i)) (attributeAs (e .attribute-at .result)) (classAs (a .set .class)) (upToNo (a .numbers))
     (there (c .before .before) .0)
     (sym (c .before .is-given .ensures z) ∙ c .if2 .taken)))
 
@@ -59,10 +60,10 @@ returns-3 c =
     let e = h .before .before .before in
     let a = e .before .before .args in
     let r = u .rule-of .result in
-    λ z. rw (← e .attribute-at .ensures) (sym (code-15 (a .high) (a .s .now) (rowsOf (a .attrs .now) (a .i)) (attributeAs (e .attribute-at .result)) (upToNo (a .numbers))
+    λ z. rw (← e .attribute-at .ensures) (sym (code-15 (a .set .high) (a .s .now) (rowsOf (a .attrs .now) (a .i)) (attributeAs (e .attribute-at .result)) (classAs (a .set .class)) (upToNo (a .numbers))
     (there (h .before) .0)
     (sym (h .is-given .ensures z) ∙ u .before .if2 .left)
-    (takesOf r) (u .rule-of .ensures ∙ ap (λ (k : ℕ). ruleOf k .takes) (there (h .before) .1))
+    (takesOf r) (u .rule-of .ensures ∙ ap (λ (k : ℕ). ruleOf (classAs (a .set .class)) k .takes) (there (h .before) .1))
     (sym (c .before .type-taken .ensures (r .low) (r .high)) ∙ not-true _ (c .if3 .taken))))
 
 in-range-requires : tie.Need-in-range-requires
@@ -76,10 +77,10 @@ returns-4 c =
     let e = h .before .before .before in
     let a = e .before .before .args in
     let r = u .rule-of .result in
-    λ z. rw (← e .attribute-at .ensures) (sym (code-16 (a .high) (a .s .now) (rowsOf (a .attrs .now) (a .i)) (attributeAs (e .attribute-at .result)) (upToNo (a .numbers))
+    λ z. rw (← e .attribute-at .ensures) (sym (code-16 (a .set .high) (a .s .now) (rowsOf (a .attrs .now) (a .i)) (attributeAs (e .attribute-at .result)) (classAs (a .set .class)) (upToNo (a .numbers))
     (there (h .before) .0)
     (sym (h .is-given .ensures z) ∙ u .before .if2 .left)
-    (takesOf r) (u .rule-of .ensures ∙ ap (λ (k : ℕ). ruleOf k .takes) (there (h .before) .1))
+    (takesOf r) (u .rule-of .ensures ∙ ap (λ (k : ℕ). ruleOf (classAs (a .set .class)) k .takes) (there (h .before) .1))
     (sym (v .before .type-taken .ensures (r .low) (r .high)) ∙ not-false _ (v .if3 .left))
     true (sym (c .before .in-range .ensures) ∙ c .if4 .taken)))
 
@@ -91,10 +92,10 @@ returns-5 c =
     let e = h .before .before .before in
     let a = e .before .before .args in
     let r = u .rule-of .result in
-    λ z. rw (← e .attribute-at .ensures) (sym (code-16 (a .high) (a .s .now) (rowsOf (a .attrs .now) (a .i)) (attributeAs (e .attribute-at .result)) (upToNo (a .numbers))
+    λ z. rw (← e .attribute-at .ensures) (sym (code-16 (a .set .high) (a .s .now) (rowsOf (a .attrs .now) (a .i)) (attributeAs (e .attribute-at .result)) (classAs (a .set .class)) (upToNo (a .numbers))
     (there (h .before) .0)
     (sym (h .is-given .ensures z) ∙ u .before .if2 .left)
-    (takesOf r) (u .rule-of .ensures ∙ ap (λ (k : ℕ). ruleOf k .takes) (there (h .before) .1))
+    (takesOf r) (u .rule-of .ensures ∙ ap (λ (k : ℕ). ruleOf (classAs (a .set .class)) k .takes) (there (h .before) .1))
     (sym (v .before .type-taken .ensures (r .low) (r .high)) ∙ not-false _ (v .if3 .left))
     false (sym (c .before .in-range .ensures) ∙ c .if4 .left)))
 

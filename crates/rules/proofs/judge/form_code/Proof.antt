@@ -3,6 +3,7 @@
 use mathlib.Core.Path.{_≡_, sym, ap, _∙_}
 use mathlib.Core.Bool.{false≢true}
 use mathlib.Core.List.{List}
+use Rattle.scope.specs.Header.{Class}
 use Rattle.scope.specs.Table.{Rule}
 use Rattle.scope.specs.Attributes.{allThere, formCode}
 use Rattle.items.specs.Rows.{rowsOf, Sized}
@@ -38,36 +39,36 @@ enum-told-3 : tie.Need-enum-told-3
 enum-told-3 c = search needs
 
 -- the rules that must be there are there if `all_there` says so
-there : (c : tie.After-all-there) (rules : List Rule)
+there : (c : tie.After-all-there) (class : Class) (rules : List Rule)
     → let a = c .before .before .before .before .args in
-    Stands (a .numbers) rules → Led (mustAs (a .form)) rules → Sized (a .attrs .now) (a .n)
+    Stands class (a .numbers) rules → Led (mustAs (a .form)) rules → Sized (a .attrs .now) (a .n)
     → allThere (rowsOf (a .attrs .now) (a .n)) rules ≡ c .all-there .result
-there c rules st led z =
+there c class rules st led z =
     let f = c .before .before in
     let a = f .before .before .args in
-    sym (stands-all (a .numbers) rules st (f .form .given .0 .0) (rw (f .form .given .1) at led) (rowsOf (a .attrs .now) (a .n))) ∙ sym (c .all-there .ensures z)
+    sym (stands-all class (a .numbers) rules st (f .form .given .0 .0) (rw (f .form .given .1) at led) (rowsOf (a .attrs .now) (a .n))) ∙ sym (c .all-there .ensures z)
 
 returns : tie.Need-returns
 unfolding formCode
-returns c = λ k rules st led z. rw (c .before .before .before .form .given .1, there (c .before) rules st led z ∙ c .if1 .taken)
+returns c = λ k class rules st led z. rw (c .before .before .before .form .given .1, there (c .before) class rules st led z ∙ c .if1 .taken)
 
 returns-2 : tie.Need-returns-2
 unfolding formCode
-returns-2 c = λ k rules st led z. rw (c .before .before .before .form .given .1, there (c .before) rules st led z ∙ c .if1 .left)
+returns-2 c = λ k class rules st led z. rw (c .before .before .before .form .given .1, there (c .before) class rules st led z ∙ c .if1 .left)
 
 returns-3 : tie.Need-returns-3
 unfolding formCode
 returns-3 c =
     let e = c .before in
     let a = e .before .before .before .args in
-    λ k rules st led z. rw (e .before .enum-told .given .1, ← stands-many (a .numbers) rules st (rowsOf (a .attrs .now) (a .n)), ← e .how-many .ensures z) (c .choice-code .ensures)
+    λ k class rules st led z. rw (e .before .enum-told .given .1, ← stands-many class (a .numbers) rules st (rowsOf (a .attrs .now) (a .n)), ← e .how-many .ensures z) (c .choice-code .ensures)
 
 returns-4 : tie.Need-returns-4
 unfolding formCode
-returns-4 c = λ k rules st led z. rw (c .before .enum-told2 .given .1) (c .line-code .ensures z)
+returns-4 c = λ k class rules st led z. rw (c .before .enum-told2 .given .1) (c .line-code .ensures z)
 
 returns-5 : tie.Need-returns-5
-returns-5 c = λ k rules st led z. absurd (false≢true (sym (ap isKnown (c .enum-told3 .given .1)) ∙ k))
+returns-5 c = λ k class rules st led z. absurd (false≢true (sym (ap isKnown (c .enum-told3 .given .1)) ∙ k))
 
 pub form-code-spec : {M : Type 1} → statement M
 form-code-spec =

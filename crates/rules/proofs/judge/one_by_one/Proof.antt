@@ -9,6 +9,7 @@ use borrow.Author.Tests.{eq-eqb, ne-eqb}
 use Rattle.scope.specs.Table.{Rule}
 use Rattle.scope.specs.Attributes.{oneByOne, attributeCode}
 use Rattle.items.specs.Rows.{rowAt, rowsFrom, rowsOf, Sized}
+use Rattle.setting.specs.Views.{classAs}
 use Rattle.rules.specs.Judging.{Stands}
 use Rattle.rules.proofs.Faults.{stands-ruled, one-more, one-end}
 use borrow.Author.Needs.{needs}
@@ -16,13 +17,13 @@ use Rattle.rules.proofs.judge.one_by_one.Statement.{statement}
 use Rattle.rules.proofs.judge.one_by_one.Tie as tie
 
 abbrev Inv-loop : tie.InvT-loop
-Inv-loop s high numbers attrs n end i₀ i =
+Inv-loop s set numbers attrs n end i₀ i =
     (i ≤ end)
-    × ((rules : List Rule) → Stands numbers rules → length attrs ≡ 80
-    → oneByOne high s rules (rowsOf attrs i) (rowsFrom attrs i (end - i)) ≡ oneByOne high s rules [] (rowsOf attrs end))
+    × ((rules : List Rule) → Stands (classAs (set .class)) numbers rules → length attrs ≡ 80
+    → oneByOne (set .high) s rules (rowsOf attrs i) (rowsFrom attrs i (end - i)) ≡ oneByOne (set .high) s rules [] (rowsOf attrs end))
 
 abbrev μ-loop : tie.MeasureT-loop
-μ-loop s high numbers attrs n end i₀ i = end - i
+μ-loop s set numbers attrs n end i₀ i = end - i
 
 at-most-requires : tie.Need-at-most-requires Inv-loop μ-loop
 at-most-requires c κs = search needs
@@ -56,8 +57,8 @@ returns c =
     let a = e .before .before .before .args in
     let h = o .before .loop-test .taken in
     λ rules st z. let y : Sized (a .attrs .now) (e .loop .i) = record { long = z .long; few = omega arith } in
-    let k = one-more (a .high) (a .s .now) rules (a .attrs .now) (e .loop .i) (e .before .at-most .result) (o .attribute-code .result) h
-    (o .attribute-code .ensures y ∙ ap (attributeCode (a .high) (a .s .now) (rowsOf (a .attrs .now) (e .loop .i)) (rowAt (a .attrs .now) (e .loop .i))) (stands-ruled (a .numbers) rules st (rowAt (a .attrs .now) (e .loop .i) .number))) in
+    let k = one-more (a .set .high) (a .s .now) rules (a .attrs .now) (e .loop .i) (e .before .at-most .result) (o .attribute-code .result) h
+    (o .attribute-code .ensures y ∙ ap (attributeCode (a .set .high) (a .s .now) (rowsOf (a .attrs .now) (e .loop .i)) (rowAt (a .attrs .now) (e .loop .i))) (stands-ruled (classAs (a .set .class)) (a .numbers) rules st (rowAt (a .attrs .now) (e .loop .i) .number))) in
     rw (← e .before .at-most .ensures .1 (z .few)) (sym (sym (e .loop .inv .1 rules st (z .long)) ∙ k ∙ rw (ne-eqb _ _ (c .before .if1 .taken))))
 
 add-i : tie.Need-add-i Inv-loop μ-loop
@@ -74,8 +75,8 @@ loop-again c =
     let h = o .before .loop-test .taken in (
       omega arith,
       λ rules st long. let y : Sized (a .attrs .now) (e .loop .i) = record { long = long; few = omega arith } in
-          let k = one-more (a .high) (a .s .now) rules (a .attrs .now) (e .loop .i) (e .before .at-most .result) (o .attribute-code .result) h
-          (o .attribute-code .ensures y ∙ ap (attributeCode (a .high) (a .s .now) (rowsOf (a .attrs .now) (e .loop .i)) (rowAt (a .attrs .now) (e .loop .i))) (stands-ruled (a .numbers) rules st (rowAt (a .attrs .now) (e .loop .i) .number))) in
+          let k = one-more (a .set .high) (a .s .now) rules (a .attrs .now) (e .loop .i) (e .before .at-most .result) (o .attribute-code .result) h
+          (o .attribute-code .ensures y ∙ ap (attributeCode (a .set .high) (a .s .now) (rowsOf (a .attrs .now) (e .loop .i)) (rowAt (a .attrs .now) (e .loop .i))) (stands-ruled (classAs (a .set .class)) (a .numbers) rules st (rowAt (a .attrs .now) (e .loop .i) .number))) in
           sym (k ∙ rw (eq-eqb _ _ (c .if1 .left))) ∙ e .loop .inv .1 rules st long,
     )
 
@@ -84,7 +85,7 @@ returns-2 c =
     let e = c .before in
     let a = e .before .before .before .args in
     λ rules st z. rw (← e .before .at-most .ensures .1 (z .few)) (sym (sym (e .loop .inv .1 rules st (z .long))
-    ∙ one-end (a .high) (a .s .now) rules (a .attrs .now) (e .loop .i) (e .before .at-most .result) (c .loop-test .left)))
+    ∙ one-end (a .set .high) (a .s .now) rules (a .attrs .now) (e .loop .i) (e .before .at-most .result) (c .loop-test .left)))
 
 pub one-by-one-spec : {M : Type 1} → statement M
 one-by-one-spec =

@@ -59,6 +59,15 @@ first-number-requires-3 c κs = search needs
 media-size-requires : tie.Need-media-size-requires
 media-size-requires c κs = search needs
 
+enum-told-8 : tie.Need-enum-told-8
+enum-told-8 c = search needs
+
+media-size-two-requires : tie.Need-media-size-two-requires
+media-size-two-requires c κs = search needs
+
+enum-told-9 : tie.Need-enum-told-9
+enum-told-9 c = search needs
+
 returns : tie.Need-returns
 unfolding inRange
 returns c = rw (c .before .before .enum-told .given .1, ← c .before .first-number .ensures) (c .within .ensures)
@@ -93,6 +102,13 @@ returns-7 : tie.Need-returns-7
 unfolding inRange
 returns-7 c = rw (c .before .before .enum-told7 .given .1, ← c .before .first-number3 .ensures) (c .media-size .ensures)
 
+returns-8 : tie.Need-returns-8
+returns-8 c = rw (c .before .enum-told8 .given .1) (c .media-size-two .ensures)
+
+returns-9 : tie.Need-returns-9
+unfolding inRange
+returns-9 c = rw (c .enum-told9 .given .1)
+
 pub in-range-spec : {M : Type 1} → statement M
 in-range-spec =
     tie.close
@@ -115,10 +131,15 @@ in-range-spec =
     enum-told-7
     first-number-requires-3
     media-size-requires
+    enum-told-8
+    media-size-two-requires
+    enum-told-9
     returns
     returns-2
     returns-3
     returns-4
     returns-5
     returns-6
-    returns-7)
+    returns-7
+    returns-8
+    returns-9)

@@ -38,6 +38,18 @@ either-requires-2 c κs = search needs
 enum-told-7 : tie.Need-enum-told-7
 enum-told-7 c = search needs
 
+enum-told-8 : tie.Need-enum-told-8
+enum-told-8 c = search needs
+
+either-requires-3 : tie.Need-either-requires-3
+either-requires-3 c κs = search needs
+
+enum-told-9 : tie.Need-enum-told-9
+enum-told-9 c = search needs
+
+any-of-requires-2 : tie.Need-any-of-requires-2
+any-of-requires-2 c κs = search needs
+
 returns : tie.Need-returns
 unfolding typeTaken
 returns c = λ low high. rw (c .enum-told .given .1)
@@ -66,6 +78,14 @@ returns-7 : tie.Need-returns-7
 unfolding typeTaken
 returns-7 c = λ low high. rw (c .enum-told7 .given .1)
 
+returns-8 : tie.Need-returns-8
+unfolding typeTaken
+returns-8 c = λ low high. rw (c .before .enum-told8 .given .1) (c .either3 .ensures)
+
+returns-9 : tie.Need-returns-9
+unfolding typeTaken
+returns-9 c = λ low high. rw (c .before .enum-told9 .given .1) (c .any-of2 .ensures)
+
 pub type-taken-spec : {M : Type 1} → statement M
 type-taken-spec =
     tie.close
@@ -81,10 +101,16 @@ type-taken-spec =
     enum-told-6
     either-requires-2
     enum-told-7
+    enum-told-8
+    either-requires-3
+    enum-told-9
+    any-of-requires-2
     returns
     returns-2
     returns-3
     returns-4
     returns-5
     returns-6
-    returns-7)
+    returns-7
+    returns-8
+    returns-9)
