@@ -6,41 +6,43 @@ use mathlib.Core.Bool.{Bool, true, false, not, true≢false, _||_}
 use mathlib.Core.List.{List}
 use lib.Dec.{eqb}
 use Rattle.scope.specs.Choice.{pick, among}
+use Rattle.scope.specs.Setting.{Setting}
 use Rattle.scope.specs.Reading.{Operator}
-use Rattle.scope.specs.Names.{PopGS, PushGS, SetBrushSource, SetColorSpace, SetCursor, SetPenSource, NewPath, BeginImage}
+use Rattle.scope.specs.Names.{SetDefaultGS, PopGS, PushGS, SetBrushSource, SetColorSpace, SetCursor, SetPenSource, NewPath, BeginImage}
 use Rattle.scope.specs.Arm.{Act, Space, any, gray, Effect, push, pop, put, kept, to, needsCursor, needsSpace, effectOf, actOf}
 use Rattle.arm.specs.Views.{keeping}
 use Rattle.act.specs.Acts.{actFor, plain}
 
-pub act-is : (high : Bool) (s : List ℕ) (o : Operator) → actFor high s (o .tag) (o .reads) (o .attrs) ≡ actOf high s o
+pub act-is : (set : Setting) (s : List ℕ) (o : Operator) → actFor set s (o .tag) (o .reads) (o .attrs) ≡ actOf set s o
 unfolding actFor actOf
-act-is high s o = refl
+act-is set s o = refl
 
 -- a plain operator needs at most an open source and a set cursor, and leaves the page as it is
-pub plain-keeps : (high : Bool) (s : List ℕ) (o : Operator) → plain (o .tag) ≡ true → actOf high s o ≡ keeping (o .reads) (needsCursor (o .tag))
+pub plain-keeps : (set : Setting) (s : List ℕ) (o : Operator) → plain (o .tag) ≡ true → actOf set s o ≡ keeping (o .reads) (needsCursor (o .tag))
 unfolding actOf needsSpace effectOf plain among
-plain-keeps high s o =
-    go (eqb (o .tag) PopGS) (eqb (o .tag) PushGS) (eqb (o .tag) SetBrushSource) (eqb (o .tag) SetColorSpace) (eqb (o .tag) SetCursor) (eqb (o .tag) SetPenSource)
-    (eqb (o .tag) NewPath) (eqb (o .tag) BeginImage) _ _
+plain-keeps set s o =
+    go (eqb (o .tag) SetDefaultGS) (eqb (o .tag) PopGS) (eqb (o .tag) PushGS) (eqb (o .tag) SetBrushSource) (eqb (o .tag) SetColorSpace) (eqb (o .tag) SetCursor) (eqb (o .tag) SetPenSource)
+    (eqb (o .tag) NewPath) (eqb (o .tag) BeginImage) _ _ _
   where
-    go : (a b c d e f g h : Bool) (brush : Space) (space : Effect)
-        → not (pick a true (pick b true (pick c true (pick d true (pick e true (pick f true (pick g true (pick h true false)))))))) ≡ true
+    go : (z a b c d e f g h : Bool) (brush : Space) (space default : Effect)
+        → not (pick z true (pick a true (pick b true (pick c true (pick d true (pick e true (pick f true (pick g true (pick h true false))))))))) ≡ true
         → _≡_ {A = Act} (record {
           source = o .reads;
           cursor = needsCursor (o .tag);
           space = pick h gray (pick (c || f) brush any);
-          effect = pick b push (pick a pop (pick e (put (to true) kept) (pick g (put (to false) kept) (pick d space (put kept kept)))));
+          effect = pick b push (pick a pop (pick e (put (to true) kept) (pick g (put (to false) kept) (pick d space (pick z default (put kept kept))))));
         })
         (keeping (o .reads) (needsCursor (o .tag)))
-    go true b c d e f g h x y t = absurd (true≢false (sym t))
-    go false true c d e f g h x y t = absurd (true≢false (sym t))
-    go false false true d e f g h x y t = absurd (true≢false (sym t))
-    go false false false true e f g h x y t = absurd (true≢false (sym t))
-    go false false false false true f g h x y t = absurd (true≢false (sym t))
-    go false false false false false true g h x y t = absurd (true≢false (sym t))
-    go false false false false false false true h x y t = absurd (true≢false (sym t))
-    go false false false false false false false true x y t = absurd (true≢false (sym t))
-    go false false false false false false false false x y t = refl
+    go true a b c d e f g h x y w t = absurd (true≢false (sym t))
+    go false true b c d e f g h x y w t = absurd (true≢false (sym t))
+    go false false true c d e f g h x y w t = absurd (true≢false (sym t))
+    go false false false true d e f g h x y w t = absurd (true≢false (sym t))
+    go false false false false true e f g h x y w t = absurd (true≢false (sym t))
+    go false false false false false true f g h x y w t = absurd (true≢false (sym t))
+    go false false false false false false true g h x y w t = absurd (true≢false (sym t))
+    go false false false false false false false true h x y w t = absurd (true≢false (sym t))
+    go false false false false false false false false true x y w t = absurd (true≢false (sym t))
+    go false false false false false false false false false x y w t = refl
 
 -- a choice of true and false is the test itself
 pub pick-self : (t : Bool) → t ≡ pick t true false

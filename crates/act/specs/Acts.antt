@@ -5,7 +5,8 @@ use mathlib.Core.Bool.{Bool, not}
 use mathlib.Core.List.{List, [], _∷_}
 use lib.Dec.{eqb}
 use Rattle.scope.specs.Choice.{pick, among}
-use Rattle.scope.specs.Names.{PopGS, PushGS, SetBrushSource, SetColorSpace, SetCursor, SetPenSource, NewPath, BeginImage}
+use Rattle.scope.specs.Names.{SetDefaultGS, PopGS, PushGS, SetBrushSource, SetColorSpace, SetCursor, SetPenSource, NewPath, BeginImage}
+use Rattle.scope.specs.Setting.{Setting}
 use Rattle.scope.specs.Item.{Attribute}
 use Rattle.scope.specs.Attributes.{has, valueIn}
 use Rattle.scope.specs.Arm.{Act, Space, any, gray, rgb, Effect, put, kept, to, needsCursor, needsSpace, effectOf}
@@ -19,10 +20,10 @@ unfoldable pub spaceEffect : Bool → List ℕ → List Attribute → Effect
 spaceEffect high s l = put kept (to (eqb (valueIn high s l 3) 1))
 
 -- an operator of this tag, which reads data or not, with these attributes
-unfoldable pub actFor : Bool → List ℕ → ℕ → Bool → List Attribute → Act
-actFor high s tag reads l =
-    record { source = reads; cursor = needsCursor tag; space = needsSpace tag l; effect = effectOf high s tag l }
+unfoldable pub actFor : Setting → List ℕ → ℕ → Bool → List Attribute → Act
+actFor set s tag reads l =
+    record { source = reads; cursor = needsCursor tag; space = needsSpace tag l; effect = effectOf set s tag l }
 
 -- these need a colour space or do something to the page; every other operator needs at most an open source and a set cursor, and leaves the page as it is
 unfoldable pub plain : ℕ → Bool
-plain tag = not (among (PopGS ∷ PushGS ∷ SetBrushSource ∷ SetColorSpace ∷ SetCursor ∷ SetPenSource ∷ NewPath ∷ BeginImage ∷ []) tag)
+plain tag = not (among (SetDefaultGS ∷ PopGS ∷ PushGS ∷ SetBrushSource ∷ SetColorSpace ∷ SetCursor ∷ SetPenSource ∷ NewPath ∷ BeginImage ∷ []) tag)

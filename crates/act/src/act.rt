@@ -2,6 +2,7 @@
 ghost use mathlib.Core.Path.{_≡_};
 ghost use Rattle.items.specs.Rows.{rowsOf, Sized};
 ghost use Rattle.scope.specs.Arm.{needsCursor, needsSpace, effectOf};
+ghost use Rattle.setting.specs.Views.{settingAs};
 ghost use Rattle.arm.specs.Views.{spaceAs, effectAs, actAs};
 ghost use Rattle.act.specs.Acts.{actFor, brushSpace, spaceEffect, plain};
 use arm::page::Act;
@@ -21,13 +22,16 @@ use names::operators::SET_BRUSH_SOURCE;
 use names::operators::SET_COLOR_SPACE;
 use names::operators::SET_CURSOR;
 use names::operators::SET_CURSOR_REL;
+use names::operators::SET_DEFAULT_GS;
 use names::operators::SET_PEN_SOURCE;
+use setting::Setting;
 
 // The operator needs no colour space and does nothing to the page, as most.
 pub fn is_plain(tag: u8) -> bool
     ensures { λ r. ⌜ r ≡ plain tag ⌝ }
 {
     match tag {
+        SET_DEFAULT_GS => false,
         POP_GS => false,
         PUSH_GS => false,
         SET_BRUSH_SOURCE => false,
@@ -92,8 +96,8 @@ fn space_effect(s: &[u8], high: bool, attrs: &[usize; 80], n: usize) -> Effect
     Effect::Put(Mark::Keep, Mark::To(space == 1))
 }
 
-fn effect_of(s: &[u8], high: bool, tag: u8, attrs: &[usize; 80], n: usize) -> Effect
-    ensures { λ r. ⌜ (Sized (now (attrs .entry)) n → effectAs r ≡ effectOf high (now (s .entry)) tag (rowsOf (now (attrs .entry)) n)) ⌝ }
+fn effect_of(s: &[u8], set: Setting, tag: u8, attrs: &[usize; 80], n: usize) -> Effect
+    ensures { λ r. ⌜ (Sized (now (attrs .entry)) n → effectAs r ≡ effectOf (settingAs set) (now (s .entry)) tag (rowsOf (now (attrs .entry)) n)) ⌝ }
 {
     if tag == PUSH_GS {
         return Effect::Push;
@@ -108,18 +112,21 @@ fn effect_of(s: &[u8], high: bool, tag: u8, attrs: &[usize; 80], n: usize) -> Ef
         return Effect::Put(Mark::To(false), Mark::Keep);
     }
     if tag == SET_COLOR_SPACE {
-        return space_effect(s, high, attrs, n);
+        return space_effect(s, set.high, attrs, n);
+    }
+    if tag == SET_DEFAULT_GS {
+        return Effect::Put(Mark::To(false), Mark::To(set.gray));
     }
     Effect::Put(Mark::Keep, Mark::Keep)
 }
 
 // What an operator needs and does, which reads data or not.
-pub fn act_of(s: &[u8], high: bool, tag: u8, reads: bool, attrs: &[usize; 80], n: usize) -> Act
-    ensures { λ r. ⌜ (Sized (now (attrs .entry)) n → actAs r ≡ actFor high (now (s .entry)) tag reads (rowsOf (now (attrs .entry)) n)) ⌝ }
+pub fn act_of(s: &[u8], set: Setting, tag: u8, reads: bool, attrs: &[usize; 80], n: usize) -> Act
+    ensures { λ r. ⌜ (Sized (now (attrs .entry)) n → actAs r ≡ actFor (settingAs set) (now (s .entry)) tag reads (rowsOf (now (attrs .entry)) n)) ⌝ }
 {
     let cursor = needs_cursor(tag);
     let space = needs_space(tag, attrs, n);
-    let effect = effect_of(s, high, tag, attrs, n);
+    let effect = effect_of(s, set, tag, attrs, n);
     Act {
         source: reads,
         cursor,

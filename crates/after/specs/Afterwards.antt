@@ -9,6 +9,7 @@ use lib.Dec.{eqb}
 use Rattle.items.specs.Rows.{rowsOf, Sized}
 use Rattle.scope.specs.Names.{OpenDataSource, CloseDataSource, BeginPage, EndPage, BeginStream, StreamName}
 use Rattle.scope.specs.Choice.{pick}
+use Rattle.scope.specs.Setting.{Setting}
 use Rattle.scope.specs.Item.{Attribute}
 use Rattle.scope.specs.Attributes.{bytesIn}
 use Rattle.scope.specs.Order.{mayCome, rowsFit, imageOf}
@@ -60,7 +61,7 @@ Joins job o used joined work work₁ r =
     → (r ≡ joined + o .length) × (take r (drop used work₁) ≡ take joined (drop used work) ++ take (o .length) (drop (o .first) job))
 
 -- an operator that was read and is not refused by these rules, where the code's place keeps q and the code's page is the one after it
-pub record Comes (job attrs : List ℕ) (high : Bool) (o : Operator) (early : Early) (page : Page) (rows sums work : List ℕ) (place : Place)
+pub record Comes (job attrs : List ℕ) (set : Setting) (o : Operator) (early : Early) (page : Page) (rows sums work : List ℕ) (place : Place)
     (q : scope.Place) (st : State) : Type 0 where
   pub holds : PlaceHolds job rows sums work place q
   pub sized : Sized attrs (o .count)
@@ -69,14 +70,14 @@ pub record Comes (job attrs : List ℕ) (high : Bool) (o : Operator) (early : Ea
   pub room : 16384 ≤ length work
   pub within : o .first + o .length ≤ length job
   pub may : mayCome (phaseOf q) (sessionOf q .opened) (o .tag) ≡ true
-  pub fits : rowsFit high job (imageOf (phaseOf q)) (o .tag) (rowsOf attrs (o .count)) ≡ true
+  pub fits : rowsFit (set .high) job (imageOf (phaseOf q)) (o .tag) (rowsOf attrs (o .count)) ≡ true
   pub passes : Passes early
-  pub earlier : Earlies (caseOf high job st (sessionOf q) (operatorAs o attrs)) early
-  pub drawn : PageHolds page (caseOf high job st (sessionOf q) (operatorAs o attrs) .seen .page)
+  pub earlier : Earlies (caseOf set job st (sessionOf q) (operatorAs o attrs)) early
+  pub drawn : PageHolds page (caseOf set job st (sessionOf q) (operatorAs o attrs) .seen .page)
 
 -- the code's place r, with these rows, sums and work buffer, keeps the definitions' place after the operator
-pub record After (job attrs : List ℕ) (high gray : Bool) (o : Operator) (early : Early) (page : Page) (rows sums work : List ℕ) (place : Place)
+pub record After (job attrs : List ℕ) (set : Setting) (o : Operator) (early : Early) (page : Page) (rows sums work : List ℕ) (place : Place)
     (rows₁ sums₁ work₁ : List ℕ) (r : Place) : Type 0 where
-  pub keeps : (q : scope.Place) (st : State) → Comes job attrs high o early page rows sums work place q st
+  pub keeps : (q : scope.Place) (st : State) → Comes job attrs set o early page rows sums work place q st
       → PlaceHolds job rows₁ sums₁ work₁ r
-      (placeAfter (record { high = high; gray = gray }) job (operatorAs o attrs) (caseOf high job st (sessionOf q) (operatorAs o attrs) .seen .page) q)
+      (placeAfter set job (operatorAs o attrs) (caseOf set job st (sessionOf q) (operatorAs o attrs) .seen .page) q)

@@ -1,9 +1,11 @@
 // Where the job stands after an operator.
 ghost use mathlib.Core.Path.{_≡_};
-ghost use mathlib.Core.Bool.{Bool, true};
+ghost use mathlib.Core.Bool.{true};
 ghost use mathlib.Core.List.{List};
 ghost use Prim.Native.Nat.{ℕ, _+_, _≤_};
 ghost use lib.ListN.{length, drop};
+ghost use Rattle.scope.specs.Setting.{Setting as Setting·of};
+ghost use Rattle.setting.specs.Views.{settingAs};
 ghost use Rattle.after.specs.Afterwards.{openedAfter, Begins, Draws, Joins, After};
 ghost use Rattle.after.specs.Kept.{blockJoined, workAfter, rowsEnded, rowsAfter, sumsEnded, sumsAfter};
 ghost use Rattle.early.specs.declared.early.Early.the-variants as early-is;
@@ -25,6 +27,7 @@ use order::Picture;
 use place::Busy;
 use place::Place;
 use reader::Operator;
+use setting::Setting;
 
 // OpenDataSource opens the source, CloseDataSource closes it.
 fn opened_after(tag: u8, opened: bool) -> bool
@@ -40,12 +43,12 @@ fn opened_after(tag: u8, opened: bool) -> bool
 }
 
 // BeginPage begins a page, BeginStream a motif.
-fn begun(job: &[u8], gray: bool, o: Operator, attrs: &[usize; 80]) -> Busy
-    ensures { λ r. ⌜ Begins (now (job .entry)) (now (attrs .entry)) gray o r ⌝ }
+fn begun(job: &[u8], set: Setting, o: Operator, attrs: &[usize; 80]) -> Busy
+    ensures { λ r. ⌜ Begins (now (job .entry)) (now (attrs .entry)) (set .gray) o r ⌝ }
 {
     let tag = o.tag;
     if tag == BEGIN_PAGE {
-        return Busy::Drawing(arm::page::blank(gray), Picture::Nothing);
+        return Busy::Drawing(arm::page::blank(set.gray), Picture::Nothing);
     }
     if tag == BEGIN_STREAM {
         let name = motif::name_in(job, attrs, o.count);
@@ -57,15 +60,15 @@ fn begun(job: &[u8], gray: bool, o: Operator, attrs: &[usize; 80]) -> Busy
 // In a session at rest: EndSession drops all.
 fn resting_after(
     job: &[u8],
-    gray: bool,
+    set: Setting,
     o: Operator,
     attrs: &[usize; 80],
     opened: bool,
     held: usize,
     used: usize,
 ) -> Place
-    ensures { λ r. ⌜ ((high : Bool) (early : Early) (page : Page) (rows sums work : List ℕ)
-        → After (now (job .entry)) (now (attrs .entry)) high gray o early page rows sums work (place-is.Inside opened held used busy-is.Resting) rows sums work r) ⌝ }
+    ensures { λ r. ⌜ ((early : Early) (page : Page) (rows sums work : List ℕ)
+        → After (now (job .entry)) (now (attrs .entry)) (settingAs set) o early page rows sums work (place-is.Inside opened held used busy-is.Resting) rows sums work r) ⌝ }
 {
     let tag = o.tag;
     if tag == END_SESSION {
@@ -75,7 +78,7 @@ fn resting_after(
         opened_after(tag, opened),
         held,
         used,
-        begun(job, gray, o, attrs),
+        begun(job, set, o, attrs),
     )
 }
 
@@ -152,8 +155,8 @@ fn hold(
 ) -> Place
     ensures { λ _. ⌜ now (rows .exit) ≡ rowsEnded (early-is.Held depth sum) held used first count joined (now (rows .entry)) ⌝ }
     ensures { λ _. ⌜ now (sums .exit) ≡ sumsEnded (early-is.Held depth sum) held used joined (now (sums .entry)) ⌝ }
-    ensures { λ r. ⌜ ((job attrs work : List ℕ) (high gray : Bool) (o : Operator) (page : Page) → (o .tag ≡ 0x5c → ⊥)
-        → After job attrs high gray o (early-is.Held depth sum) page (now (rows .entry)) (now (sums .entry)) work (place-is.Inside opened held used (busy-is.Reading first count joined))
+    ensures { λ r. ⌜ ((job attrs work : List ℕ) (by : Setting·of) (o : Operator) (page : Page) → (o .tag ≡ 0x5c → ⊥)
+        → After job attrs by o (early-is.Held depth sum) page (now (rows .entry)) (now (sums .entry)) work (place-is.Inside opened held used (busy-is.Reading first count joined))
         (now (rows .exit)) (now (sums .exit)) work r) ⌝ }
 {
     if MOTIFS_MOST <= held {
@@ -186,8 +189,8 @@ fn ended(
 ) -> Place
     ensures { λ _. ⌜ now (rows .exit) ≡ rowsEnded early held used first count joined (now (rows .entry)) ⌝ }
     ensures { λ _. ⌜ now (sums .exit) ≡ sumsEnded early held used joined (now (sums .entry)) ⌝ }
-    ensures { λ r. ⌜ ((job attrs work : List ℕ) (high gray : Bool) (o : Operator) (page : Page) → (o .tag ≡ 0x5c → ⊥)
-        → After job attrs high gray o early page (now (rows .entry)) (now (sums .entry)) work (place-is.Inside opened held used (busy-is.Reading first count joined))
+    ensures { λ r. ⌜ ((job attrs work : List ℕ) (by : Setting·of) (o : Operator) (page : Page) → (o .tag ≡ 0x5c → ⊥)
+        → After job attrs by o early page (now (rows .entry)) (now (sums .entry)) work (place-is.Inside opened held used (busy-is.Reading first count joined))
         (now (rows .exit)) (now (sums .exit)) work r) ⌝ }
 {
     match early {
@@ -227,8 +230,8 @@ fn reading_after(
     ensures { λ _. ⌜ now (work .exit) ≡ workAfter (now (job .entry)) o (place-is.Inside opened held used (busy-is.Reading first count joined)) (now (work .entry)) ⌝ }
     ensures { λ _. ⌜ now (rows .exit) ≡ rowsAfter o early (place-is.Inside opened held used (busy-is.Reading first count joined)) (now (rows .entry)) ⌝ }
     ensures { λ _. ⌜ now (sums .exit) ≡ sumsAfter o early (place-is.Inside opened held used (busy-is.Reading first count joined)) (now (sums .entry)) ⌝ }
-    ensures { λ r. ⌜ ((attrs : List ℕ) (high gray : Bool) (page : Page)
-        → After (now (job .entry)) attrs high gray o early page (now (rows .entry)) (now (sums .entry)) (now (work .entry))
+    ensures { λ r. ⌜ ((attrs : List ℕ) (by : Setting·of) (page : Page)
+        → After (now (job .entry)) attrs by o early page (now (rows .entry)) (now (sums .entry)) (now (work .entry))
         (place-is.Inside opened held used (busy-is.Reading first count joined)) (now (rows .exit)) (now (sums .exit)) (now (work .exit)) r) ⌝ }
 {
     if o.tag == READ_STREAM {
@@ -241,8 +244,7 @@ fn reading_after(
 // In a session.
 fn inside_after(
     job: &[u8],
-    high: bool,
-    gray: bool,
+    set: Setting,
     o: Operator,
     attrs: &[usize; 80],
     early: Early,
@@ -258,11 +260,11 @@ fn inside_after(
     ensures { λ _. ⌜ now (work .exit) ≡ workAfter (now (job .entry)) o (place-is.Inside opened held used busy) (now (work .entry)) ⌝ }
     ensures { λ _. ⌜ now (rows .exit) ≡ rowsAfter o early (place-is.Inside opened held used busy) (now (rows .entry)) ⌝ }
     ensures { λ _. ⌜ now (sums .exit) ≡ sumsAfter o early (place-is.Inside opened held used busy) (now (sums .entry)) ⌝ }
-    ensures { λ r. ⌜ After (now (job .entry)) (now (attrs .entry)) high gray o early page (now (rows .entry)) (now (sums .entry)) (now (work .entry))
+    ensures { λ r. ⌜ After (now (job .entry)) (now (attrs .entry)) (settingAs set) o early page (now (rows .entry)) (now (sums .entry)) (now (work .entry))
         (place-is.Inside opened held used busy) (now (rows .exit)) (now (sums .exit)) (now (work .exit)) r ⌝ }
 {
     match busy {
-        Busy::Resting => resting_after(job, gray, o, attrs, opened, held, used),
+        Busy::Resting => resting_after(job, set, o, attrs, opened, held, used),
         Busy::Reading(first, count, joined) => reading_after(
             job,
             o,
@@ -281,7 +283,7 @@ fn inside_after(
             opened,
             held,
             used,
-            drawn_on(job, high, o, attrs, page, picture),
+            drawn_on(job, set.high, o, attrs, page, picture),
         ),
     }
 }
@@ -289,8 +291,7 @@ fn inside_after(
 // After an operator that no rule refuses, which leaves `page`. BeginSession begins a session.
 pub fn place_after(
     job: &[u8],
-    high: bool,
-    gray: bool,
+    set: Setting,
     o: Operator,
     attrs: &[usize; 80],
     early: Early,
@@ -304,7 +305,7 @@ pub fn place_after(
     ensures { λ _. ⌜ length (now (rows .exit)) ≡ length (now (rows .entry)) ⌝ }
     ensures { λ _. ⌜ length (now (sums .exit)) ≡ length (now (sums .entry)) ⌝ }
     ensures { λ _. ⌜ drop 16384 (now (work .exit)) ≡ drop 16384 (now (work .entry)) ⌝ }
-    ensures { λ r. ⌜ After (now (job .entry)) (now (attrs .entry)) high gray o early page (now (rows .entry)) (now (sums .entry)) (now (work .entry)) place
+    ensures { λ r. ⌜ After (now (job .entry)) (now (attrs .entry)) (settingAs set) o early page (now (rows .entry)) (now (sums .entry)) (now (work .entry)) place
         (now (rows .exit)) (now (sums .exit)) (now (work .exit)) r ⌝ }
     ensures { λ _. ⌜ now (work .exit) ≡ workAfter (now (job .entry)) o place (now (work .entry)) ⌝ }
     ensures { λ _. ⌜ now (rows .exit) ≡ rowsAfter o early place (now (rows .entry)) ⌝ }
@@ -314,8 +315,7 @@ pub fn place_after(
         Place::Outside(_) => Place::Inside(false, 0, 0, Busy::Resting),
         Place::Inside(opened, held, used, busy) => inside_after(
             job,
-            high,
-            gray,
+            set,
             o,
             attrs,
             early,

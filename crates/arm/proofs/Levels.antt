@@ -7,6 +7,7 @@ use mathlib.Core.Bool.{Bool, true, false}
 use mathlib.Core.List.{List, [], _∷_, _++_}
 use lib.Dec.{eqb}
 use borrow.Author.Tests.{eqb-true, leb-true}
+use Rattle.scope.specs.Setting.{Setting}
 use Rattle.scope.specs.Choice.{pick, among, same}
 use Rattle.scope.specs.Item.{Attribute}
 use Rattle.scope.specs.Attributes.{valueIn}
@@ -91,38 +92,40 @@ depth-pop : (n : ℕ) → depthAfter pop n ≡ n - 1
 depth-pop zero = refl
 depth-pop (suc n) = omega arith
 
-pub saved-depth : (high : Bool) (s : List ℕ) (tag : ℕ) (l : List Attribute) (n : ℕ) → depthAfter (effectOf high s tag l) n ≡ savedAfter tag n
+pub saved-depth : (set : Setting) (s : List ℕ) (tag : ℕ) (l : List Attribute) (n : ℕ) → depthAfter (effectOf set s tag l) n ≡ savedAfter tag n
 unfolding effectOf savedAfter
-saved-depth high s tag l n = go (eqb tag 0x61) (eqb tag 0x60) (eqb tag 0x6b) (eqb tag 0x85) (eqb tag 0x6a)
+saved-depth set s tag l n = go (eqb tag 0x61) (eqb tag 0x60) (eqb tag 0x6b) (eqb tag 0x85) (eqb tag 0x6a) (eqb tag 0x57)
   where
-    go : (a b c d e : Bool)
+    go : (a b c d e f : Bool)
         → depthAfter
-        (pick a push (pick b pop (pick c (put (to true) kept) (pick d (put (to false) kept) (pick e (put kept (to (eqb (valueIn high s l 3) 1))) (put kept kept)))))) n
+        (pick a push (pick b pop (pick c (put (to true) kept) (pick d (put (to false) kept) (pick e (put kept (to (eqb (valueIn (set .high) s l 3) 1))) (pick f (put (to false) (to (set .gray))) (put kept kept))))))) n
         ≡ pick a (suc n) (pick b (n - 1) n)
-    go true b c d e = refl
-    go false true c d e = depth-pop n
-    go false false true d e = refl
-    go false false false true e = refl
-    go false false false false true = refl
-    go false false false false false = refl
+    go true b c d e f = refl
+    go false true c d e f = depth-pop n
+    go false false true d e f = refl
+    go false false false true e f = refl
+    go false false false false true f = refl
+    go false false false false false true = refl
+    go false false false false false false = refl
 
 may-pop : (n : ℕ) → 0 < n → mayDo pop n
 may-pop zero h = absurd (omega arith)
 may-pop (suc n) h = tt
 
-pub may-saved : (high : Bool) (s : List ℕ) (tag : ℕ) (l : List Attribute) (n : ℕ) → (tag ≡ 0x60 → 0 < n) → mayDo (effectOf high s tag l) n
+pub may-saved : (set : Setting) (s : List ℕ) (tag : ℕ) (l : List Attribute) (n : ℕ) → (tag ≡ 0x60 → 0 < n) → mayDo (effectOf set s tag l) n
 unfolding effectOf
-may-saved high s tag l n h = go (eqb tag 0x61) (eqb tag 0x60) (eqb tag 0x6b) (eqb tag 0x85) (eqb tag 0x6a) (λ e. h (eqb-true tag 0x60 e))
+may-saved set s tag l n h = go (eqb tag 0x61) (eqb tag 0x60) (eqb tag 0x6b) (eqb tag 0x85) (eqb tag 0x6a) (eqb tag 0x57) (λ e. h (eqb-true tag 0x60 e))
   where
-    go : (a b c d e : Bool) → (b ≡ true → 0 < n)
+    go : (a b c d e f : Bool) → (b ≡ true → 0 < n)
         → mayDo
-        (pick a push (pick b pop (pick c (put (to true) kept) (pick d (put (to false) kept) (pick e (put kept (to (eqb (valueIn high s l 3) 1))) (put kept kept)))))) n
-    go true b c d e k = tt
-    go false true c d e k = may-pop n (k refl)
-    go false false true d e k = tt
-    go false false false true e k = tt
-    go false false false false true k = tt
-    go false false false false false k = tt
+        (pick a push (pick b pop (pick c (put (to true) kept) (pick d (put (to false) kept) (pick e (put kept (to (eqb (valueIn (set .high) s l 3) 1))) (pick f (put (to false) (to (set .gray))) (put kept kept))))))) n
+    go true b c d e f k = tt
+    go false true c d e f k = may-pop n (k refl)
+    go false false true d e f k = tt
+    go false false false true e f k = tt
+    go false false false false true f k = tt
+    go false false false false false true k = tt
+    go false false false false false false k = tt
 
 -- a PopGS that may come in a motif finds something saved
 pub drawn-pop : (n tag : ℕ) → drawn n tag ≡ true → tag ≡ 0x60 → 0 < n

@@ -55,10 +55,10 @@ records-in gray job work list a m p =
 
 pub isolated-of-check : SessionsIsolated
 unfolding verdictOf
-isolated-of-check gray job other work work′ list list′ a b high p q x y hj ho hw hx f g same goes cv cw =
+isolated-of-check set job other work work′ list list′ a b p q x y hj ho hw hx f g same goes cv cw =
     let v = x .verdict in
     let w = y .verdict in
-    let i = alike-same (isolated gray job other (length work) (length work′) (length list) (length list′) high p q hw hx hj ho f g same goes)
+    let i = alike-same (isolated set job other (length work) (length work′) (length list) (length list′) p q hw hx hj ho f g same goes)
     (ap (λ z. limit (z .code)) (sym v) ∙ cv) (ap (λ z. limit (z .code)) (sym w) ∙ cw) in
     record {
       code = ap (λ z. z .code) v ∙ i .code ∙ sym (ap (λ z. z .code) w);
@@ -66,8 +66,8 @@ isolated-of-check gray job other work work′ list list′ a b high p q x y hj h
       inner = ap (λ z. z .inner) v ∙ i .inner ∙ sym (ap (λ z. z .inner) w);
       records = ap (λ z. z .records + q .records) v ∙ i .records ∙ sym (ap (λ z. z .records + p .records) w);
       performed = ap (λ z. z .performed + q .performed) v ∙ i .performed ∙ sym (ap (λ z. z .performed + p .performed) w);
-      listed = subst₂ (RecordsMoved (p .at) (q .at)) (sym (records-in gray job work list a (p .records) x)) (sym (records-in gray other work′ list′ b (q .records) y))
-          (same-list gray job other (length work) (length work′) (length list) (length list′) high p q f g i);
+      listed = subst₂ (RecordsMoved (p .at) (q .at)) (sym (records-in (set .gray) job work list a (p .records) x)) (sym (records-in (set .gray) other work′ list′ b (q .records) y))
+          (same-list set job other (length work) (length work′) (length list) (length list′) p q f g i);
     }
 
 pub demand-3-of-check : PassesAsDrawn

@@ -6,7 +6,7 @@ use mathlib.Core.Bool.{Bool}
 use mathlib.Core.List.{List, [], _++_}
 use borrow.Author.Tests.{lt-ltb, le-ltb}
 use lib.ListN.{length, drop}
-use Rattle.scope.specs.Header.{Header, headerOf}
+use Rattle.scope.specs.Header.{Class, Header, headerOf}
 use Rattle.scope.specs.Judge.{Outcome, refusedAt, outer, starting, judgedFrom}
 use Rattle.scope.specs.Verdict as verdict
 use Rattle.scope.specs.Verdict.{every, refused, admitted, entryOf, judgedAfter, outcomeAt, outcomeOf, verdictOf, listOf, listAfter, clearedBy, workAfter}
@@ -71,11 +71,11 @@ header-no gray job list v code place e f =
     let o : refusedAt code place outer (starting 0) ≡ judgedAfter gray every job (length list) (headerOf job) = rw (← e) in
     (f ∙ ap verdict.told o, subst (λ x. Listed list (x .state .past) list) o (unlisted list))
 
-pub header-is : (gray : Bool) (job list list₁ : List ℕ) (v : Verdict) (high : Bool) (next : ℕ) → Header.is high next ≡ headerOf job
-    → (verdictAs v ≡ verdict.told (judgedFrom every (record { high = high; gray = gray }) job (length list) (starting next)))
-    × Listed list (judgedFrom every (record { high = high; gray = gray }) job (length list) (starting next) .state .past) list₁
+pub header-is : (gray : Bool) (job list list₁ : List ℕ) (v : Verdict) (class : Class) (high : Bool) (next : ℕ) → Header.is class high next ≡ headerOf job
+    → (verdictAs v ≡ verdict.told (judgedFrom every (record { class = class; high = high; gray = gray }) job (length list) (starting next)))
+    × Listed list (judgedFrom every (record { class = class; high = high; gray = gray }) job (length list) (starting next) .state .past) list₁
     → (verdictAs v ≡ verdict.told (judgedAfter gray every job (length list) (headerOf job))) × Listed list (judgedAfter gray every job (length list) (headerOf job) .state .past) list₁
 unfolding judgedAfter
-header-is gray job list list₁ v high next e f =
-    let o : judgedFrom every (record { high = high; gray = gray }) job (length list) (starting next) ≡ judgedAfter gray every job (length list) (headerOf job) = rw (← e) in
+header-is gray job list list₁ v class high next e f =
+    let o : judgedFrom every (record { class = class; high = high; gray = gray }) job (length list) (starting next) ≡ judgedAfter gray every job (length list) (headerOf job) = rw (← e) in
     (f .0 ∙ ap verdict.told o, subst (λ x. Listed list (x .state .past) list₁) o (f .1))

@@ -6,6 +6,7 @@ use mathlib.Core.Logic.{_↔_}
 use mathlib.Core.Bool.{Bool, true, false}
 use mathlib.Core.List.{List, _++_}
 use lib.ListN.{length, drop}
+use Rattle.scope.specs.Setting.{Setting}
 use Rattle.scope.specs.Item.{after}
 use Rattle.scope.specs.Judge.{State}
 use Rattle.scope.specs.Verdict.{zeros, verdictOf, listAfter, workAfter}
@@ -65,12 +66,12 @@ pub record AnswersAlike (p q : State) (a b : Answer) : Type 0 where
   pub performed : a .verdict .performed + q .performed ≡ b .verdict .performed + p .performed
   pub listed : RecordsMoved (p .at) (q .at) (recordsFrom (p .records) (a .verdict .records) (a .list)) (recordsFrom (q .records) (b .verdict .records) (b .list))
 
--- demand 2: sessions are isolated: two jobs of one byte order, each standing outside a session, whose bytes from there on are the same and not all white, get the
+-- demand 2: sessions are isolated: two jobs of one class, byte order and start, each standing outside a session, whose bytes from there on are the same and not all white, get the
 -- same answer from there on, whatever each has performed and listed before, unless one of them gets 26 or 28
 abbrev pub SessionsIsolated : Type 0
 SessionsIsolated =
-    (gray : Bool) (job other work work′ list list′ : List ℕ) (a b : Answer) (high : Bool) (p q : State) → Promised gray job work list a → Promised gray other work′ list′ b
-    → length job ≤ 61440 → length other ≤ 61440 → 16384 ≤ length work → 16384 ≤ length work′ → Between gray job (length list) high p → Between gray other (length list′) high q
+    (set : Setting) (job other work work′ list list′ : List ℕ) (a b : Answer) (p q : State) → Promised (set .gray) job work list a → Promised (set .gray) other work′ list′ b
+    → length job ≤ 61440 → length other ≤ 61440 → 16384 ≤ length work → 16384 ≤ length work′ → Between set job (length list) p → Between set other (length list′) q
     → drop (p .at) job ≡ drop (q .at) other → after job (p .at) < length job → limit (a .verdict .code) ≡ false → limit (b .verdict .code) ≡ false
     → AnswersAlike p q a b
 

@@ -12,6 +12,7 @@ ghost use Rattle.state.specs.Standing.{Lasts, Listed};
 use header::Header;
 use names::limits::JOB_MOST;
 use names::limits::WORK_LEAST;
+use setting::Setting;
 use state::OUTER;
 use state::Verdict;
 use state::told;
@@ -26,7 +27,10 @@ fn judge_job(job: &[u8], gray: bool, work: &mut [u8], list: &mut [u8]) -> Verdic
 {
     match header::header_of(job) {
         Header::No(code, place) => told(code, place, OUTER, 0, 0),
-        Header::Is(high, next) => judge_items(job, high, gray, next, work, list),
+        Header::Is(class, high, next) => {
+            let set = Setting { class, high, gray };
+            judge_items(job, set, next, work, list)
+        }
     }
 }
 

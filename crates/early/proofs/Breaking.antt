@@ -8,6 +8,7 @@ use native.Mathlib.Omega.{arith}
 use lib.ListN.{length, getD}
 use lib.Dec.{eqb, leb, ltb}
 use borrow.Author.Tests.{eq-eqb, ne-eqb, le-leb, lt-leb, leb-false, lt-ltb, le-ltb, ltb-false}
+use Rattle.scope.specs.Setting.{Setting}
 use Rattle.scope.specs.Motif as scope-motif
 use Rattle.scope.specs.Motif.{Motif, heldAs, isHeld, bytesHeld, unfolded, Judged, valid, faulty, motifOf}
 use Rattle.scope.specs.Order.{mayCome}
@@ -98,161 +99,161 @@ module _ (c : Case) where
       (record { room = much false false tb (ne-eqb (c .op .tag) 0x5c r); new = not-known tb; known = not-missing te; sound = sound-valid m })
 
 -- the same of an operator with these attributes in a session
-module _ (job attrs : List ℕ) (x : Session) (o : Operator) where
-  abbrev of-it : State → Bool → Case
-  of-it st high = caseOf high job st x (operatorAs o attrs)
+module _ (set : Setting) (job attrs : List ℕ) (x : Session) (o : Operator) where
+  abbrev of-it : State → Case
+  of-it st = caseOf set job st x (operatorAs o attrs)
 
   -- nothing is judged but at EndStream
-  made-other : (st : State) (high : Bool) → (o .tag ≡ 0x5d → ⊥) → of-it st high .made ≡ valid [] 1
+  made-other : (st : State) → (o .tag ≡ 0x5d → ⊥) → of-it st .made ≡ valid [] 1
   unfolding caseOf judgedAt
-  made-other st high h = rw (ne-eqb (o .tag) 0x5d h)
+  made-other st h = rw (ne-eqb (o .tag) 0x5d h)
 
-  pub fine-in : (o .tag ≡ 0x5b → ⊥) → (o .tag ≡ 0x5c → ⊥) → (o .tag ≡ 0x5d → ⊥) → (o .tag ≡ 0x5e → ⊥) → EarliesIn job attrs x o Fine
+  pub fine-in : (o .tag ≡ 0x5b → ⊥) → (o .tag ≡ 0x5c → ⊥) → (o .tag ≡ 0x5d → ⊥) → (o .tag ≡ 0x5e → ⊥) → EarliesIn set job attrs x o Fine
   unfolding EarliesIn caseOf
-  fine-in b r d e = λ st high. other-fine (of-it st high) b r d e (made-other st high d)
+  fine-in b r d e = λ st. other-fine (of-it st) b r d e (made-other st d)
 
   module _ (b : o .tag ≡ 0x5b) where
-    pub begin-much : {n : ℕ} → length (x .held) ≡ n → 64 ≤ n → EarliesIn job attrs x o (No 19 outer)
+    pub begin-much : {n : ℕ} → length (x .held) ≡ n → 64 ≤ n → EarliesIn set job attrs x o (No 19 outer)
     unfolding EarliesIn caseOf
     begin-much l h =
         let k : 64 ≤ length (x .held) = rw l h in
         let nr : o .tag ≡ 0x5c → ⊥ = λ y. omega arith in
-        λ st high. no-19 (of-it st high)
-        (much (of-it st high) true false (eq-eqb (o .tag) 0x5b b) (ne-eqb (o .tag) 0x5c nr) ∙ rw (le-leb 64 (length (x .held)) k))
+        λ st. no-19 (of-it st)
+        (much (of-it st) true false (eq-eqb (o .tag) 0x5b b) (ne-eqb (o .tag) 0x5c nr) ∙ rw (le-leb 64 (length (x .held)) k))
 
-    begin-room : (st : State) (high : Bool) → length (x .held) < 64 → tooMuch (of-it st high) ≡ false
+    begin-room : (st : State) → length (x .held) < 64 → tooMuch (of-it st) ≡ false
     unfolding caseOf
-    begin-room st high h =
+    begin-room st h =
         let nr : o .tag ≡ 0x5c → ⊥ = λ y. omega arith in
-        much (of-it st high) true false (eq-eqb (o .tag) 0x5b b) (ne-eqb (o .tag) 0x5c nr) ∙ rw (lt-leb 64 (length (x .held)) h)
+        much (of-it st) true false (eq-eqb (o .tag) 0x5b b) (ne-eqb (o .tag) 0x5c nr) ∙ rw (lt-leb 64 (length (x .held)) h)
 
-    begin-held : (m : Motif) → length (x .held) < 64 → heldAs (bytesIn job (rowsOf attrs (o .count)) 139) (x .held) ≡ scope-motif.Held.is m → EarliesIn job attrs x o (No 20 outer)
+    begin-held : (m : Motif) → length (x .held) < 64 → heldAs (bytesIn job (rowsOf attrs (o .count)) 139) (x .held) ≡ scope-motif.Held.is m → EarliesIn set job attrs x o (No 20 outer)
     unfolding EarliesIn caseOf isHeld
-    begin-held m h e = λ st high. no-20 (of-it st high) (begin-room st high h)
-        (known (of-it st high) true (scope-motif.Held.is m) (eq-eqb (o .tag) 0x5b b) e)
+    begin-held m h e = λ st. no-20 (of-it st) (begin-room st h)
+        (known (of-it st) true (scope-motif.Held.is m) (eq-eqb (o .tag) 0x5b b) e)
 
-    begin-new : length (x .held) < 64 → heldAs (bytesIn job (rowsOf attrs (o .count)) 139) (x .held) ≡ scope-motif.Held.none → EarliesIn job attrs x o Fine
+    begin-new : length (x .held) < 64 → heldAs (bytesIn job (rowsOf attrs (o .count)) 139) (x .held) ≡ scope-motif.Held.none → EarliesIn set job attrs x o Fine
     unfolding EarliesIn caseOf isHeld
     begin-new h e =
         let ne : o .tag ≡ 0x5e → ⊥ = λ y. omega arith in
         let nd : o .tag ≡ 0x5d → ⊥ = λ y. omega arith in
-        λ st high. early-fine (ne-eqb (o .tag) 0x5e ne) (ne-eqb (o .tag) 0x5d nd)
+        λ st. early-fine (ne-eqb (o .tag) 0x5e ne) (ne-eqb (o .tag) 0x5d nd)
         (record {
-          room = begin-room st high h;
-          new = known (of-it st high) true scope-motif.Held.none (eq-eqb (o .tag) 0x5b b) e;
-          known = not-missing (of-it st high) (ne-eqb (o .tag) 0x5e ne);
-          sound = sound-valid (of-it st high) (made-other st high nd);
+          room = begin-room st h;
+          new = known (of-it st) true scope-motif.Held.none (eq-eqb (o .tag) 0x5b b) e;
+          known = not-missing (of-it st) (ne-eqb (o .tag) 0x5e ne);
+          sound = sound-valid (of-it st) (made-other st nd);
         })
 
     -- BeginStream that is not refused by 19
-    pub begin-few : (st : State) (high : Bool) → tooMuch (of-it st high) ≡ false → length (x .held) < 64
+    pub begin-few : (st : State) → tooMuch (of-it st) ≡ false → length (x .held) < 64
     unfolding caseOf
-    begin-few st high f =
+    begin-few st f =
         let nr : o .tag ≡ 0x5c → ⊥ = λ y. omega arith in
         leb-false 64 (length (x .held))
-        (first-not _ (sym (much (of-it st high) true false (eq-eqb (o .tag) 0x5b b) (ne-eqb (o .tag) 0x5c nr)) ∙ f))
+        (first-not _ (sym (much (of-it st) true false (eq-eqb (o .tag) 0x5b b) (ne-eqb (o .tag) 0x5c nr)) ∙ f))
 
     -- BeginStream by what a search for its name finds
     pub begin-at : {rows sums name : List ℕ} {n i : ℕ} → length (x .held) ≡ n → n < 64 → name ≡ bytesIn job (rowsOf attrs (o .count)) 139
-        → Finds rows sums (x .held) name (At i) → EarliesIn job attrs x o (No 20 outer)
+        → Finds rows sums (x .held) name (At i) → EarliesIn set job attrs x o (No 20 outer)
     begin-at l h e (finds-at {m = m} f d s) = begin-held m (rw l h) (rw e at f)
 
     pub begin-nowhere : {rows sums name : List ℕ} {n : ℕ} → length (x .held) ≡ n → n < 64 → name ≡ bytesIn job (rowsOf attrs (o .count)) 139
-        → Finds rows sums (x .held) name Nowhere → EarliesIn job attrs x o Fine
+        → Finds rows sums (x .held) name Nowhere → EarliesIn set job attrs x o Fine
     begin-nowhere l h e (finds-none f) = begin-new (rw l h) (rw e at f)
 
   module _ (b : o .tag ≡ 0x5c) where
-    much-read : (st : State) (high : Bool) → tooMuch (of-it st high)
+    much-read : (st : State) → tooMuch (of-it st)
         ≡ ltb 16384 (bytesHeld (x .held) + (length (joinedOf (x .busy)) + o .length))
     unfolding caseOf
-    much-read st high =
+    much-read st =
         let nb : o .tag ≡ 0x5b → ⊥ = λ y. omega arith in
-        much (of-it st high) false true (ne-eqb (o .tag) 0x5b nb) (eq-eqb (o .tag) 0x5c b)
+        much (of-it st) false true (ne-eqb (o .tag) 0x5b nb) (eq-eqb (o .tag) 0x5c b)
 
     -- ReadStream that is not refused by 19
-    pub read-few : (st : State) (high : Bool) → tooMuch (of-it st high) ≡ false
+    pub read-few : (st : State) → tooMuch (of-it st) ≡ false
         → bytesHeld (x .held) + (length (joinedOf (x .busy)) + o .length) ≤ 16384
-    read-few st high f = ltb-false _ _ (sym (much-read st high) ∙ f)
+    read-few st f = ltb-false _ _ (sym (much-read st) ∙ f)
 
     -- ReadStream
-    pub read-past : 16384 < bytesHeld (x .held) + (length (joinedOf (x .busy)) + o .length) → EarliesIn job attrs x o (No 19 outer)
+    pub read-past : 16384 < bytesHeld (x .held) + (length (joinedOf (x .busy)) + o .length) → EarliesIn set job attrs x o (No 19 outer)
     unfolding EarliesIn
-    read-past h = λ st high. no-19 (of-it st high) (much-read st high ∙ lt-ltb _ _ h)
+    read-past h = λ st. no-19 (of-it st) (much-read st ∙ lt-ltb _ _ h)
 
-    pub read-room : bytesHeld (x .held) + (length (joinedOf (x .busy)) + o .length) ≤ 16384 → EarliesIn job attrs x o Fine
+    pub read-room : bytesHeld (x .held) + (length (joinedOf (x .busy)) + o .length) ≤ 16384 → EarliesIn set job attrs x o Fine
     unfolding EarliesIn caseOf
     read-room h =
         let nb : o .tag ≡ 0x5b → ⊥ = λ y. omega arith in
         let ne : o .tag ≡ 0x5e → ⊥ = λ y. omega arith in
         let nd : o .tag ≡ 0x5d → ⊥ = λ y. omega arith in
-        λ st high. early-fine (ne-eqb (o .tag) 0x5e ne) (ne-eqb (o .tag) 0x5d nd)
+        λ st. early-fine (ne-eqb (o .tag) 0x5e ne) (ne-eqb (o .tag) 0x5d nd)
         (record {
-          room = much-read st high ∙ le-ltb _ _ h;
-          new = not-known (of-it st high) (ne-eqb (o .tag) 0x5b nb);
-          known = not-missing (of-it st high) (ne-eqb (o .tag) 0x5e ne);
-          sound = sound-valid (of-it st high) (made-other st high nd);
+          room = much-read st ∙ le-ltb _ _ h;
+          new = not-known (of-it st) (ne-eqb (o .tag) 0x5b nb);
+          known = not-missing (of-it st) (ne-eqb (o .tag) 0x5e ne);
+          sound = sound-valid (of-it st) (made-other st nd);
         })
 
   module _ (b : o .tag ≡ 0x5e) where
-    not-much : (st : State) (high : Bool) → tooMuch (of-it st high) ≡ false
+    not-much : (st : State) → tooMuch (of-it st) ≡ false
     unfolding caseOf
-    not-much st high =
+    not-much st =
         let nb : o .tag ≡ 0x5b → ⊥ = λ y. omega arith in
         let nr : o .tag ≡ 0x5c → ⊥ = λ y. omega arith in
-        much (of-it st high) false false (ne-eqb (o .tag) 0x5b nb) (ne-eqb (o .tag) 0x5c nr)
+        much (of-it st) false false (ne-eqb (o .tag) 0x5b nb) (ne-eqb (o .tag) 0x5c nr)
 
-    not-new : (st : State) (high : Bool) → nameHeld (of-it st high) ≡ false
+    not-new : (st : State) → nameHeld (of-it st) ≡ false
     unfolding caseOf
-    not-new st high =
+    not-new st =
         let nb : o .tag ≡ 0x5b → ⊥ = λ y. omega arith in
-        not-known (of-it st high) (ne-eqb (o .tag) 0x5b nb)
+        not-known (of-it st) (ne-eqb (o .tag) 0x5b nb)
 
     exec-held : (m : Motif) (v : ℕ) → heldAs (bytesIn job (rowsOf attrs (o .count)) 139) (x .held) ≡ scope-motif.Held.is m
-        → SumsAs v (unfolded (x .held) (bytesIn job (rowsOf attrs (o .count)) 139)) → EarliesIn job attrs x o (Call v)
+        → SumsAs v (unfolded (x .held) (bytesIn job (rowsOf attrs (o .count)) 139)) → EarliesIn set job attrs x o (Call v)
     unfolding EarliesIn caseOf isHeld
     exec-held m v e s =
         let nd : o .tag ≡ 0x5d → ⊥ = λ y. omega arith in
-        λ st high. early-call (eq-eqb (o .tag) 0x5e b) s
+        λ st. early-call (eq-eqb (o .tag) 0x5e b) s
         (record {
-          room = not-much st high;
-          new = not-new st high;
-          known = missing (of-it st high) true (scope-motif.Held.is m) (eq-eqb (o .tag) 0x5e b) e;
-          sound = sound-valid (of-it st high) (made-other st high nd);
+          room = not-much st;
+          new = not-new st;
+          known = missing (of-it st) true (scope-motif.Held.is m) (eq-eqb (o .tag) 0x5e b) e;
+          sound = sound-valid (of-it st) (made-other st nd);
         })
 
-    exec-not : heldAs (bytesIn job (rowsOf attrs (o .count)) 139) (x .held) ≡ scope-motif.Held.none → EarliesIn job attrs x o (No 21 outer)
+    exec-not : heldAs (bytesIn job (rowsOf attrs (o .count)) 139) (x .held) ≡ scope-motif.Held.none → EarliesIn set job attrs x o (No 21 outer)
     unfolding EarliesIn caseOf isHeld
-    exec-not e = λ st high. no-21 (of-it st high) (not-much st high) (not-new st high)
-        (missing (of-it st high) true scope-motif.Held.none (eq-eqb (o .tag) 0x5e b) e)
+    exec-not e = λ st. no-21 (of-it st) (not-much st) (not-new st)
+        (missing (of-it st) true scope-motif.Held.none (eq-eqb (o .tag) 0x5e b) e)
 
     -- ExecStream by what a search for its name finds
     pub exec-at : {rows sums name : List ℕ} {i : ℕ} → name ≡ bytesIn job (rowsOf attrs (o .count)) 139
-        → Finds rows sums (x .held) name (At i) → EarliesIn job attrs x o (Call (getD sums i 0))
+        → Finds rows sums (x .held) name (At i) → EarliesIn set job attrs x o (Call (getD sums i 0))
     exec-at {sums = sums} {i = i} e (finds-at {m = m} f d s) = exec-held m (getD sums i 0) (rw e at f) (rw e at s)
 
     pub exec-nowhere : {rows sums name : List ℕ} → name ≡ bytesIn job (rowsOf attrs (o .count)) 139
-        → Finds rows sums (x .held) name Nowhere → EarliesIn job attrs x o (No 21 outer)
+        → Finds rows sums (x .held) name Nowhere → EarliesIn set job attrs x o (No 21 outer)
     exec-nowhere e (finds-none f) = exec-not (rw e at f)
 
   module _ (b : o .tag ≡ 0x5d) where
-    ends-free : (st : State) (high : Bool) → tooMuch (of-it st high) ≡ false
+    ends-free : (st : State) → tooMuch (of-it st) ≡ false
     unfolding caseOf
-    ends-free st high =
+    ends-free st =
         let nb : o .tag ≡ 0x5b → ⊥ = λ y. omega arith in
         let nr : o .tag ≡ 0x5c → ⊥ = λ y. omega arith in
-        much (of-it st high) false false (ne-eqb (o .tag) 0x5b nb) (ne-eqb (o .tag) 0x5c nr)
+        much (of-it st) false false (ne-eqb (o .tag) 0x5b nb) (ne-eqb (o .tag) 0x5c nr)
 
-    ends-new : (st : State) (high : Bool) → nameHeld (of-it st high) ≡ false
+    ends-new : (st : State) → nameHeld (of-it st) ≡ false
     unfolding caseOf
-    ends-new st high = let nb : o .tag ≡ 0x5b → ⊥ = λ y. omega arith in not-known (of-it st high) (ne-eqb (o .tag) 0x5b nb)
+    ends-new st = let nb : o .tag ≡ 0x5b → ⊥ = λ y. omega arith in not-known (of-it st) (ne-eqb (o .tag) 0x5b nb)
 
-    ends-known : (st : State) (high : Bool) → nameMissing (of-it st high) ≡ false
+    ends-known : (st : State) → nameMissing (of-it st) ≡ false
     unfolding caseOf
-    ends-known st high = let ne : o .tag ≡ 0x5e → ⊥ = λ y. omega arith in not-missing (of-it st high) (ne-eqb (o .tag) 0x5e ne)
+    ends-known st = let ne : o .tag ≡ 0x5e → ⊥ = λ y. omega arith in not-missing (of-it st) (ne-eqb (o .tag) 0x5e ne)
 
-    made-end : (st : State) (high : Bool) → of-it st high .made ≡ motifOf (x .held) (joinedOf (x .busy))
+    made-end : (st : State) → of-it st .made ≡ motifOf set (x .held) (joinedOf (x .busy))
     unfolding caseOf judgedAt
-    made-end st high = rw (eq-eqb (o .tag) 0x5d b)
+    made-end st = rw (eq-eqb (o .tag) 0x5d b)
 
     valid-sound : {ms : List Motif} {d v : ℕ} {m : Judged} → Judges ms (Valid d v) m → (r : Refusal) → ownOr m r ≡ r
     valid-sound (judges-valid e s) r = refl
@@ -261,36 +262,36 @@ module _ (job attrs : List ℕ) (x : Session) (o : Operator) where
     faulty-is judges-faulty = refl
 
     -- EndStream of a valid motif
-    pub end-valid : {s : List ℕ} {d v : ℕ} → s ≡ joinedOf (x .busy) → Judges (x .held) (Valid d v) (motifOf (x .held) s) → EarliesIn job attrs x o (Held d v)
+    pub end-valid : {s : List ℕ} {d v : ℕ} → s ≡ joinedOf (x .busy) → Judges (x .held) (Valid d v) (motifOf set (x .held) s) → EarliesIn set job attrs x o (Held d v)
     unfolding EarliesIn caseOf
     end-valid {d = d} {v = v} e h =
-        let h₂ : Judges (x .held) (Valid d v) (motifOf (x .held) (joinedOf (x .busy))) = rw e at h in
-        λ st high. let j : Judges (x .held) (Valid d v) (of-it st high .made) = rw (made-end st high) h₂ in
+        let h₂ : Judges (x .held) (Valid d v) (motifOf set (x .held) (joinedOf (x .busy))) = rw e at h in
+        λ st. let j : Judges (x .held) (Valid d v) (of-it st .made) = rw (made-end st) h₂ in
         early-held (eq-eqb (o .tag) 0x5d b) j
-        (record { room = ends-free st high; new = ends-new st high; known = ends-known st high; sound = valid-sound j })
+        (record { room = ends-free st; new = ends-new st; known = ends-known st; sound = valid-sound j })
 
     -- EndStream of a faulty one: its place lies within it
-    pub end-faulty : {s : List ℕ} {code place : ℕ} → s ≡ joinedOf (x .busy) → length s ≤ 16384 → Judges (x .held) (Faulty code place) (motifOf (x .held) s)
-        → EarliesIn job attrs x o (No code place)
+    pub end-faulty : {s : List ℕ} {code place : ℕ} → s ≡ joinedOf (x .busy) → length s ≤ 16384 → Judges (x .held) (Faulty code place) (motifOf set (x .held) s)
+        → EarliesIn set job attrs x o (No code place)
     unfolding EarliesIn
     end-faulty {s} {code} {place} e l h =
-        let f : motifOf (x .held) s ≡ faulty code place = faulty-is h in
-        let k : place ≤ length s = motif-placed (x .held) s code place f in
-        let g : motifOf (x .held) (joinedOf (x .busy)) ≡ faulty code place = rw e at f in
-        λ st high. no-own (of-it st high) (ends-free st high) (ends-new st high) (ends-known st high) (made-end st high ∙ g) (omega arith)
+        let f : motifOf set (x .held) s ≡ faulty code place = faulty-is h in
+        let k : place ≤ length s = motif-placed set (x .held) s code place f in
+        let g : motifOf set (x .held) (joinedOf (x .busy)) ≡ faulty code place = rw e at f in
+        λ st. no-own (of-it st) (ends-free st) (ends-new st) (ends-known st) (made-end st ∙ g) (omega arith)
 
 -- an operator between sessions
-pub outer-fine : {job rows sums work : List ℕ} {b : Bool} (attrs : List ℕ) (q : scope.Place) (o : Operator) (st : State) (high : Bool) → PlaceHolds job rows sums work (Outside b) q
-    → mayCome (phaseOf q) (sessionOf q .opened) (o .tag) ≡ true → Earlies (caseOf high job st (sessionOf q) (operatorAs o attrs)) Fine
+pub outer-fine : (set : Setting) {job rows sums work : List ℕ} {b : Bool} (attrs : List ℕ) (q : scope.Place) (o : Operator) (st : State) → PlaceHolds job rows sums work (Outside b) q
+    → mayCome (phaseOf q) (sessionOf q .opened) (o .tag) ≡ true → Earlies (caseOf set job st (sessionOf q) (operatorAs o attrs)) Fine
 unfolding phaseOf EarliesIn
-outer-fine {job} attrs q o st high outside-holds m =
-    fine-in job attrs scope.opening o (tags.first-not false (o .tag) 0x5b refl m) (tags.first-not false (o .tag) 0x5c refl m) (tags.first-not false (o .tag) 0x5d refl m) (tags.first-not false (o .tag) 0x5e refl m) st high
+outer-fine set {job} attrs q o st outside-holds m =
+    fine-in set job attrs scope.opening o (tags.first-not false (o .tag) 0x5b refl m) (tags.first-not false (o .tag) 0x5c refl m) (tags.first-not false (o .tag) 0x5d refl m) (tags.first-not false (o .tag) 0x5e refl m) st
 
 -- an operator in a session
-pub inner-early : {job rows sums work attrs : List ℕ} {i : Bool} {n u : ℕ} {y : Busy} (q : scope.Place) (o : Operator) (st : State) (high : Bool) (r : Early)
+pub inner-early : (set : Setting) {job rows sums work attrs : List ℕ} {i : Bool} {n u : ℕ} {y : Busy} (q : scope.Place) (o : Operator) (st : State) (r : Early)
     → ((x : Session) → n ≤ 64 → u ≡ bytesHeld (x .held) → Keeps job rows sums n (x .held) → BusyHolds job work n u y (x .busy) → Sized attrs (o .count)
-    → 16384 ≤ length work → mayCome (phaseBusy (x .busy)) (x .opened) (o .tag) ≡ true → EarliesIn job attrs x o r)
+    → 16384 ≤ length work → mayCome (phaseBusy (x .busy)) (x .opened) (o .tag) ≡ true → EarliesIn set job attrs x o r)
     → PlaceHolds job rows sums work (Inside i n u y) q → Sized attrs (o .count) → 16384 ≤ length work
-    → mayCome (phaseOf q) (sessionOf q .opened) (o .tag) ≡ true → Earlies (caseOf high job st (sessionOf q) (operatorAs o attrs)) r
+    → mayCome (phaseOf q) (sessionOf q .opened) (o .tag) ≡ true → Earlies (caseOf set job st (sessionOf q) (operatorAs o attrs)) r
 unfolding phaseOf EarliesIn
-inner-early q o st high r f (inside-holds {x = x} e h hu w k y) z l m = f x h w k y z l m st high
+inner-early set q o st r f (inside-holds {x = x} e h hu w k y) z l m = f x h w k y z l m st

@@ -2,10 +2,11 @@
 -- Assumes nothing.
 use Prim.Native.Nat.{ℕ, _<_}
 use mathlib.Core.Path.{_≡_}
-use mathlib.Core.Bool.{Bool, true, false}
+use mathlib.Core.Bool.{true, false}
 use mathlib.Core.List.{List, _∷_}
 use lib.Dec.{eqb}
 use Rattle.scope.specs.Names.{EndStream, ExecStream}
+use Rattle.scope.specs.Setting.{Setting}
 use Rattle.scope.specs.Motif.{unfolded}
 use Rattle.scope.specs.Session.{Session}
 use Rattle.scope.specs.Judge.{State, caseOf, Case, Rule, rule, motifs-own, Refusal, refused, firstBroken, ownOr, tooMuch, nameHeld, nameMissing}
@@ -37,8 +38,8 @@ pub data Earlies (c : Case) : Early → Type 0 where
   early-no : {code inner : ℕ} → ((rest : List Rule) → firstBroken every c (before rest) ≡ refused code inner) → inner < 4_294_967_296 → Earlies c (No code inner)
 
 -- the answer of the code to an operator with these attributes in a session, whatever was performed before
-unfoldable pub EarliesIn : (job attrs : List ℕ) → Session → Operator → Early → Type 0
-EarliesIn job attrs x o r = (st : State) (high : Bool) → Earlies (caseOf high job st x (operatorAs o attrs)) r
+unfoldable pub EarliesIn : Setting → (job attrs : List ℕ) → Session → Operator → Early → Type 0
+EarliesIn set job attrs x o r = (st : State) → Earlies (caseOf set job st x (operatorAs o attrs)) r
 
 -- the rules of codes 19 to 21 and of a motif at EndStream do not refuse
 abbrev pub Passes : Early → Type 0

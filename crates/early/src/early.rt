@@ -1,10 +1,12 @@
 // The rules of codes 19 to 21, and those of a motif that EndStream holds.
 ghost use mathlib.Core.Path.{_≡_};
-ghost use mathlib.Core.Bool.{Bool, true};
+ghost use mathlib.Core.Bool.{true};
 ghost use mathlib.Core.List.{List};
 ghost use Prim.Native.Nat.{ℕ, _+_, _≤_};
 ghost use lib.ListN.{length, take, drop};
 ghost use Rattle.items.specs.Rows.{Sized};
+ghost use Rattle.scope.specs.Setting.{Setting as Setting·of};
+ghost use Rattle.setting.specs.Views.{settingAs};
 ghost use Rattle.scope.specs.Motif.{bytesHeld};
 ghost use Rattle.scope.specs.Order.{mayCome, in-session};
 ghost use Rattle.scope.specs.Session as scope;
@@ -24,6 +26,7 @@ use names::operators::READ_STREAM;
 use place::Busy;
 use place::Place;
 use reader::Operator;
+use setting::Setting;
 use stream::Judged;
 
 // Inner, unless said otherwise.
@@ -45,8 +48,8 @@ fn begin_stream(
     held: usize,
     o: Operator,
 ) -> Early
-    ensures { λ r. ⌜ ((sums : List ℕ) (x : Session) → held ≤ 64 → Keeps (now (job .entry)) (now (rows .entry)) sums held (x .held) → Sized (now (attrs .entry)) (o .count)
-        → o .tag ≡ 0x5b → EarliesIn (now (job .entry)) (now (attrs .entry)) x o r) ⌝ }
+    ensures { λ r. ⌜ ((set : Setting·of) (sums : List ℕ) (x : Session) → held ≤ 64 → Keeps (now (job .entry)) (now (rows .entry)) sums held (x .held) → Sized (now (attrs .entry)) (o .count)
+        → o .tag ≡ 0x5b → EarliesIn set (now (job .entry)) (now (attrs .entry)) x o r) ⌝ }
 {
     if MOTIFS_MOST <= held {
         return Early::No(19, OUTER);
@@ -66,8 +69,8 @@ fn resting_early(
     held: usize,
     o: Operator,
 ) -> Early
-    ensures { λ r. ⌜ ((sums : List ℕ) (x : Session) → held ≤ 64 → Keeps (now (job .entry)) (now (rows .entry)) sums held (x .held) → Sized (now (attrs .entry)) (o .count)
-        → mayCome in-session (x .opened) (o .tag) ≡ true → EarliesIn (now (job .entry)) (now (attrs .entry)) x o r) ⌝ }
+    ensures { λ r. ⌜ ((set : Setting·of) (sums : List ℕ) (x : Session) → held ≤ 64 → Keeps (now (job .entry)) (now (rows .entry)) sums held (x .held) → Sized (now (attrs .entry)) (o .count)
+        → mayCome in-session (x .opened) (o .tag) ≡ true → EarliesIn set (now (job .entry)) (now (attrs .entry)) x o r) ⌝ }
 {
     if o.tag == BEGIN_STREAM {
         return begin_stream(job, rows, attrs, held, o);
@@ -77,8 +80,8 @@ fn resting_early(
 
 // ReadStream: 19 past 16,384 bytes.
 fn read_stream(used: usize, joined: usize, o: Operator) -> Early
-    ensures { λ r. ⌜ ((job attrs : List ℕ) (x : Session) → used ≡ bytesHeld (x .held) → joined ≡ length (joinedOf (x .busy)) → used + joined ≤ 16384
-        → o .tag ≡ 0x5c → EarliesIn job attrs x o r) ⌝ }
+    ensures { λ r. ⌜ ((set : Setting·of) (job attrs : List ℕ) (x : Session) → used ≡ bytesHeld (x .held) → joined ≡ length (joinedOf (x .busy)) → used + joined ≤ 16384
+        → o .tag ≡ 0x5c → EarliesIn set job attrs x o r) ⌝ }
 {
     let length = o.length;
     if STORE_MOST < used {
@@ -96,6 +99,7 @@ fn read_stream(used: usize, joined: usize, o: Operator) -> Early
 // EndStream: a faulty motif gives its own code, and the position inside it.
 fn end_stream(
     job: &[u8],
+    set: Setting,
     work: &[u8],
     rows: &[usize; 192],
     sums: &[u64; 64],
@@ -105,7 +109,7 @@ fn end_stream(
 ) -> Early
     ensures { λ r. ⌜ ((attrs : List ℕ) (x : Session) (o : Operator) → held ≤ 64 → Keeps (now (job .entry)) (now (rows .entry)) (now (sums .entry)) held (x .held)
         → 16384 ≤ length (now (work .entry)) → used + joined ≤ 16384
-        → take joined (drop used (now (work .entry))) ≡ joinedOf (x .busy) → o .tag ≡ 0x5d → EarliesIn (now (job .entry)) attrs x o r) ⌝ }
+        → take joined (drop used (now (work .entry))) ≡ joinedOf (x .busy) → o .tag ≡ 0x5d → EarliesIn (settingAs set) (now (job .entry)) attrs x o r) ⌝ }
 {
     if work.len() < used {
         return Early::No(19, OUTER);
@@ -113,7 +117,7 @@ fn end_stream(
     if work.len() - used < joined {
         return Early::No(19, OUTER);
     }
-    match stream::judge_motif(&work[used..used + joined], job, rows, sums, held) {
+    match stream::judge_motif(&work[used..used + joined], set, job, rows, sums, held) {
         Judged::Valid(depth, sum) => Early::Held(depth, sum),
         Judged::Faulty(code, place) => Early::No(code, place),
     }
@@ -122,6 +126,7 @@ fn end_stream(
 // While a motif is read.
 fn reading_early(
     job: &[u8],
+    set: Setting,
     work: &[u8],
     rows: &[usize; 192],
     sums: &[u64; 64],
@@ -134,12 +139,12 @@ fn reading_early(
         → Keeps (now (job .entry)) (now (rows .entry)) (now (sums .entry)) held (x .held)
         → BusyHolds (now (job .entry)) (now (work .entry)) held used (busy-is.Reading first count joined) (x .busy)
         → 16384 ≤ length (now (work .entry)) → mayCome (phaseBusy (x .busy)) (x .opened) (o .tag) ≡ true
-        → EarliesIn (now (job .entry)) attrs x o r) ⌝ }
+        → EarliesIn (settingAs set) (now (job .entry)) attrs x o r) ⌝ }
 {
     if o.tag == READ_STREAM {
         return read_stream(used, joined, o);
     }
-    end_stream(job, work, rows, sums, held, used, joined)
+    end_stream(job, set, work, rows, sums, held, used, joined)
 }
 
 // ExecStream: 21 if the name is not held.
@@ -151,8 +156,8 @@ fn exec_stream(
     held: usize,
     o: Operator,
 ) -> Early
-    ensures { λ r. ⌜ ((x : Session) → held ≤ 64 → Keeps (now (job .entry)) (now (rows .entry)) (now (sums .entry)) held (x .held) → Sized (now (attrs .entry)) (o .count)
-        → o .tag ≡ 0x5e → EarliesIn (now (job .entry)) (now (attrs .entry)) x o r) ⌝ }
+    ensures { λ r. ⌜ ((set : Setting·of) (x : Session) → held ≤ 64 → Keeps (now (job .entry)) (now (rows .entry)) (now (sums .entry)) held (x .held) → Sized (now (attrs .entry)) (o .count)
+        → o .tag ≡ 0x5e → EarliesIn set (now (job .entry)) (now (attrs .entry)) x o r) ⌝ }
 {
     let name = motif::name_in(job, attrs, o.count);
     match motif::find(job, rows, held, job, name.first, name.count) {
@@ -170,8 +175,8 @@ fn drawing_early(
     held: usize,
     o: Operator,
 ) -> Early
-    ensures { λ r. ⌜ ((x : Session) → held ≤ 64 → Keeps (now (job .entry)) (now (rows .entry)) (now (sums .entry)) held (x .held) → Sized (now (attrs .entry)) (o .count)
-        → Drawn (x .busy) → mayCome (phaseBusy (x .busy)) (x .opened) (o .tag) ≡ true → EarliesIn (now (job .entry)) (now (attrs .entry)) x o r) ⌝ }
+    ensures { λ r. ⌜ ((set : Setting·of) (x : Session) → held ≤ 64 → Keeps (now (job .entry)) (now (rows .entry)) (now (sums .entry)) held (x .held) → Sized (now (attrs .entry)) (o .count)
+        → Drawn (x .busy) → mayCome (phaseBusy (x .busy)) (x .opened) (o .tag) ≡ true → EarliesIn set (now (job .entry)) (now (attrs .entry)) x o r) ⌝ }
 {
     if o.tag == EXEC_STREAM {
         return exec_stream(job, rows, sums, attrs, held, o);
@@ -182,6 +187,7 @@ fn drawing_early(
 // In a session.
 fn inside_early(
     job: &[u8],
+    set: Setting,
     work: &[u8],
     rows: &[usize; 192],
     sums: &[u64; 64],
@@ -194,11 +200,21 @@ fn inside_early(
     ensures { λ r. ⌜ ((x : Session) → held ≤ 64 → used ≡ bytesHeld (x .held) → Keeps (now (job .entry)) (now (rows .entry)) (now (sums .entry)) held (x .held)
         → BusyHolds (now (job .entry)) (now (work .entry)) held used busy (x .busy) → Sized (now (attrs .entry)) (o .count)
         → 16384 ≤ length (now (work .entry)) → mayCome (phaseBusy (x .busy)) (x .opened) (o .tag) ≡ true
-        → EarliesIn (now (job .entry)) (now (attrs .entry)) x o r) ⌝ }
+        → EarliesIn (settingAs set) (now (job .entry)) (now (attrs .entry)) x o r) ⌝ }
 {
     match busy {
         Busy::Resting => resting_early(job, rows, attrs, held, o),
-        Busy::Reading(_, _, joined) => reading_early(job, work, rows, sums, held, used, joined, o),
+        Busy::Reading(_, _, joined) => reading_early(
+            job,
+            set,
+            work,
+            rows,
+            sums,
+            held,
+            used,
+            joined,
+            o,
+        ),
         Busy::Drawing(_, _) => drawing_early(job, rows, sums, attrs, held, o),
     }
 }
@@ -206,6 +222,7 @@ fn inside_early(
 // These rules, of any operator that may come.
 pub fn early_of(
     job: &[u8],
+    set: Setting,
     work: &[u8],
     rows: &[usize; 192],
     sums: &[u64; 64],
@@ -213,15 +230,16 @@ pub fn early_of(
     place: Place,
     o: Operator,
 ) -> Early
-    ensures { λ r. ⌜ ((q : scope.Place) (st : State) (high : Bool) → PlaceHolds (now (job .entry)) (now (rows .entry)) (now (sums .entry)) (now (work .entry)) place q
+    ensures { λ r. ⌜ ((q : scope.Place) (st : State) → PlaceHolds (now (job .entry)) (now (rows .entry)) (now (sums .entry)) (now (work .entry)) place q
         → Sized (now (attrs .entry)) (o .count) → 16384 ≤ length (now (work .entry))
         → mayCome (phaseOf q) (sessionOf q .opened) (o .tag) ≡ true
-        → Earlies (caseOf high (now (job .entry)) st (sessionOf q) (operatorAs o (now (attrs .entry)))) r) ⌝ }
+        → Earlies (caseOf (settingAs set) (now (job .entry)) st (sessionOf q) (operatorAs o (now (attrs .entry)))) r) ⌝ }
 {
     match place {
         Place::Outside(_) => Early::Fine,
         Place::Inside(_, held, used, busy) => inside_early(
             job,
+            set,
             work,
             rows,
             sums,

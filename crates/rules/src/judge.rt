@@ -52,13 +52,7 @@ fn attribute_at(attrs: &[usize; 80], i: usize) -> Attribute
 }
 
 // The code of attribute i, given those before it; 0 is none.
-fn attribute_code(
-    s: &[u8],
-    set: Setting,
-    numbers: [u8; 8],
-    attrs: &[usize; 80],
-    i: usize,
-) -> u32
+fn attribute_code(s: &[u8], set: Setting, numbers: [u8; 8], attrs: &[usize; 80], i: usize) -> u32
     requires { ⌜ i < 16 ⌝ }
     ensures { λ r. ⌜ (Sized (now (attrs .entry)) i → r ≡ attributeCode (set .high) (now (s .entry)) (rowsOf (now (attrs .entry)) i) (rowAt (now (attrs .entry)) i) (ruledIn (classAs (set .class)) (upToNo numbers) (rowAt (now (attrs .entry)) i .number))) ⌝ }
 {

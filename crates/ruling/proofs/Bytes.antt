@@ -8,7 +8,7 @@ use borrow.Author.Tests.{eqb-true}
 use lib.Dec.{eqb, lit<}
 use Rattle.scope.specs.Choice.{pick}
 use Rattle.scope.specs.Item.{Attribute}
-use Rattle.scope.specs.Table.{Takes, E, N, P, B, A, D, M, Rule, Ruled, ruleIn}
+use Rattle.scope.specs.Table.{Takes, E, N, P, B, A, D, M, M2, L, Rule, Ruled, ruleIn}
 use Rattle.scope.specs.Attributes.{Fault, fine, bad, has, typeTaken, inRange, attributeCode, oneByOne}
 use Rattle.scope.specs.Reading.{Context, Operator, Read}
 use Rattle.scope.proofs.Taken.{Taken}
@@ -51,6 +51,8 @@ taken-byte B t e = either t 0xe0 (eqb t 0xe1 || eqb t 0xe3) (lit< tt) (either t 
 taken-byte (A low high) t e = same t 0xc8 (lit< tt) e
 taken-byte (D low) t e = either t 0xd1 (eqb t 0xd5) (lit< tt) (same t 0xd5 (lit< tt)) e
 taken-byte M t e = same t 0xc0 (lit< tt) e
+taken-byte M2 t e = either t 0xc0 (eqb t 0xc8) (lit< tt) (same t 0xc8 (lit< tt)) e
+taken-byte L t e = either t 0xc0 (eqb t 0xc1 || eqb t 0xc2) (lit< tt) (either t 0xc1 (eqb t 0xc2) (lit< tt) (same t 0xc2 (lit< tt))) e
 
 code-byte : (high : Bool) (s : List ℕ) (before : List Attribute) (a : Attribute) (r : Ruled) → eqb (attributeCode high s before a r) 0 ≡ true → a .tag < 256
 unfolding attributeCode
@@ -75,4 +77,4 @@ tags-byte high s rules before (under-more {a = a} {l = l} h u) e =
     go false p q k = unfine q
 
 pub bytes-taken : {c : Context} {s : List ℕ} {o : Operator} → Taken c s (Read.operator o) → BytesIn (o .attrs)
-bytes-taken {c} {s} {o} (Taken.operator {r = r} a b e) = tags-byte (c .high) s (r .rules) [] (numbers-under (c .high) s (o .tag) r (o .attrs) a b) b
+bytes-taken {c} {s} {o} (Taken.operator {r = r} a b e) = tags-byte (c .set .high) s (r .rules) [] (numbers-under (c .set .class) (c .set .high) s (o .tag) r (o .attrs) a b) b

@@ -6,6 +6,7 @@ use mathlib.Core.Bool.{Bool, true, false}
 use mathlib.Core.List.{List, [], _∷_}
 use borrow.Author.Tests.{eqb-true, eq-eqb, ne-eqb}
 use lib.Dec.{eqb}
+use Rattle.scope.specs.Setting.{Setting}
 use Rattle.scope.specs.Choice.{pick}
 use Rattle.scope.specs.Attributes.{bytesIn}
 use Rattle.scope.specs.Reading.{Operator}
@@ -27,14 +28,14 @@ use Rattle.early.specs.declared.early.Early.the-variants as Early-is
 use Rattle.ruling.specs.Judged.{Judgement, judged-to, judged-no}
 
 -- the row of an operator that is no call, and of a call
-module _ (high : Bool) (s : List ℕ) (st : State) (x : Session) (o : Operator) where
+module _ (set : Setting) (s : List ℕ) (st : State) (x : Session) (o : Operator) where
   pub seen-plain : eqb (o .tag) 0x5e ≡ false
-      → walk (record { motif = 0; at = o .at; act = actOf high s o } ∷ []) (from (pageOf (x .busy)) (st .performed)) ≡ caseOf high s st x o .seen
+      → walk (record { motif = 0; at = o .at; act = actOf set s o } ∷ []) (from (pageOf (x .busy)) (st .performed)) ≡ caseOf set s st x o .seen
   unfolding caseOf rowFor
   seen-plain e = rw e
 
   pub seen-call : eqb (o .tag) 0x5e ≡ true
-      → walk (record { motif = 0; at = o .at; act = idle } ∷ unfolded (x .held) (bytesIn s (o .attrs) 139)) (from (pageOf (x .busy)) (st .performed)) ≡ caseOf high s st x o .seen
+      → walk (record { motif = 0; at = o .at; act = idle } ∷ unfolded (x .held) (bytesIn s (o .attrs) 139)) (from (pageOf (x .busy)) (st .performed)) ≡ caseOf set s st x o .seen
   unfolding caseOf rowFor
   seen-call e = rw e
 
@@ -86,22 +87,22 @@ pub held-unbroken : (c : Case) {n v : ℕ} → Earlies c (Early-is.Held n v) →
 held-unbroken c (early-held a b u) = u
 
 -- what the arm answers to an operator in the page where the session stands
-module _ (high : Bool) (s : List ℕ) (st : State) (x : Session) (o : Operator) (b : Bool) (n : ℕ) (m : Moved) (opened : b ≡ x .opened) (performed : n ≡ st .performed) where
+module _ (set : Setting) (s : List ℕ) (st : State) (x : Session) (o : Operator) (b : Bool) (n : ℕ) (m : Moved) (opened : b ≡ x .opened) (performed : n ≡ st .performed) where
   there : (w : ℕ → Seen) → Moves b m (w n) → Moves (x .opened) m (w (st .performed))
   there w h = subst (λ k. Moves (x .opened) m (w k)) performed (subst (λ t. Moves t m (w n)) opened h)
 
-  pub plain-judged : Unbroken (caseOf high s st x o) → eqb (o .tag) 0x5e ≡ false
-      → Moves b m (walk (record { motif = 0; at = o .at; act = actOf high s o } ∷ []) (from (pageOf (x .busy)) n)) → Judgement (caseOf high s st x o) outer m
+  pub plain-judged : Unbroken (caseOf set s st x o) → eqb (o .tag) 0x5e ≡ false
+      → Moves b m (walk (record { motif = 0; at = o .at; act = actOf set s o } ∷ []) (from (pageOf (x .busy)) n)) → Judgement (caseOf set s st x o) outer m
   unfolding caseOf
   plain-judged u e h =
-      moved-judged (caseOf high s st x o) u (seen-plain high s st x o e)
-      (there (λ k. walk (record { motif = 0; at = o .at; act = actOf high s o } ∷ []) (from (pageOf (x .busy)) k)) h)
+      moved-judged (caseOf set s st x o) u (seen-plain set s st x o e)
+      (there (λ k. walk (record { motif = 0; at = o .at; act = actOf set s o } ∷ []) (from (pageOf (x .busy)) k)) h)
 
-  pub call-judged : (v : ℕ) → Earlies (caseOf high s st x o) (Early-is.Call v)
+  pub call-judged : (v : ℕ) → Earlies (caseOf set s st x o) (Early-is.Call v)
       → ((row : List Stroke) → SumsAs v row → Moves b m (walk (record { motif = 0; at = o .at; act = idle } ∷ row) (from (pageOf (x .busy)) n)))
-      → Judgement (caseOf high s st x o) outer m
+      → Judgement (caseOf set s st x o) outer m
   unfolding caseOf
   call-judged v (early-call e k u) h =
-      moved-judged (caseOf high s st x o) u (seen-call high s st x o e)
+      moved-judged (caseOf set s st x o) u (seen-call set s st x o e)
       (there (λ k. walk (record { motif = 0; at = o .at; act = idle } ∷ unfolded (x .held) (bytesIn s (o .attrs) 139)) (from (pageOf (x .busy)) k))
       (h (unfolded (x .held) (bytesIn s (o .attrs) 139)) k))

@@ -26,7 +26,8 @@ use Rattle.scope.specs.Iterate.{Next, go, stop, onward}
 use Rattle.scope.specs.Order.{Phase, mayCome, rowsFit, imageOf}
 use Rattle.scope.specs.Reading.{Context, Operator, Read, operatorAt}
 use Rattle.scope.specs.Session as session
-use Rattle.scope.specs.Session.{Setting, sessionOf, phaseOf, placeAfter}
+use Rattle.scope.specs.Setting.{Setting}
+use Rattle.scope.specs.Session.{sessionOf, phaseOf, placeAfter}
 use Rattle.scope.specs.Judge.{State, Case, caseOf, Outcome, Refusal, refused, refusedAt, outer, firstBroken, rules, roomOver, after, endAt, onRefusal, onCase, onRead, contextOf, jobStep, judgedFrom, starting}
 use Rattle.scope.specs.Verdict as verdict
 use Rattle.scope.specs.Verdict.{every}
@@ -54,10 +55,10 @@ module _ (c : Context) (s : List ℕ) (at : ℕ) (o : Operator) (e : operatorAt 
   pub read-may : mayCome (c .phase) (c .opened) (o .tag) ≡ true
   read-may = may-read (subst (λ r. GoodRead (length s) at (mayCome (c .phase) (c .opened)) r) e (read-good c s at))
 
-  rows-read : Taken c s (Read.operator o) → rowsFit (c .high) s (imageOf (c .phase)) (o .tag) (o .attrs) ≡ true
+  rows-read : Taken c s (Read.operator o) → rowsFit (c .set .high) s (imageOf (c .phase)) (o .tag) (o .attrs) ≡ true
   rows-read (Taken.operator a b k) = k
 
-  pub read-rows : rowsFit (c .high) s (imageOf (c .phase)) (o .tag) (o .attrs) ≡ true
+  pub read-rows : rowsFit (c .set .high) s (imageOf (c .phase)) (o .tag) (o .attrs) ≡ true
   read-rows = rows-read (subst (λ r. Taken c s r) e (read-taken c s at))
 
   pub read-bytes : BytesIn (o .attrs)
@@ -66,7 +67,7 @@ module _ (c : Context) (s : List ℕ) (at : ℕ) (o : Operator) (e : operatorAt 
 -- what the rules come to decides the step
 module _ (set : Setting) (s : List ℕ) (room : ℕ) (d : State) (o : Operator) where
   abbrev c : Case
-  c = caseOf (set .high) s d (sessionOf (d .place)) o
+  c = caseOf set s d (sessionOf (d .place)) o
 
   pub step-refused : (code inner : ℕ) → firstBroken every c (rules room) ≡ refused code inner
       → onRead every set s room d (Read.operator o) ≡ stop (refusedAt code (o .at) inner d)
@@ -116,10 +117,10 @@ module _ (list₀ list : List ℕ) (past : List Operator) (n : ℕ) (o : Operato
 
 -- a step that goes on
 pub gone : {job list₀ : List ℕ} {l l₁ : Lent} {st t : Code.State} {d : State} (set : Setting) (o : Operator) (n : Next State Outcome) → Stands job list₀ l st d
-    → n ≡ go (after set job d (caseOf (set .high) job d (sessionOf (d .place)) o)) → t .at ≡ o .next
+    → n ≡ go (after set job d (caseOf set job d (sessionOf (d .place)) o)) → t .at ≡ o .next
     → PlaceHolds job (l₁ .rows) (l₁ .sums) (l₁ .work) (t .place)
-    (placeAfter set job o (caseOf (set .high) job d (sessionOf (d .place)) o .seen .page) (d .place))
-    → t .performed ≡ caseOf (set .high) job d (sessionOf (d .place)) o .seen .count → t .records ≡ st .records + length (o .attrs) + 1
+    (placeAfter set job o (caseOf set job d (sessionOf (d .place)) o .seen .page) (d .place))
+    → t .performed ≡ caseOf set job d (sessionOf (d .place)) o .seen .count → t .records ≡ st .records + length (o .attrs) + 1
     → l₁ .list ≡ over (l .list) (st .records * 16) (recordsFor (o .tag) (o .at) (o .length) (o .first) (o .attrs))
     → length (l₁ .rows) ≡ length (l .rows) → length (l₁ .sums) ≡ length (l .sums) → Steps job list₀ l₁ (Go t) n
 unfolding after caseOf
@@ -141,13 +142,13 @@ gone {job} {list₀} {l} {l₁} {st} {t} {d} set o n h e a p c r w x y =
     }))
 
 -- what reading knows where the definition stands
-pub context-is : (high : Bool) (job : List ℕ) (at : ℕ) (d : State) (p : Phase) (b : Bool) → at ≡ d .at → p ≡ phaseOf (d .place) → b ≡ sessionOf (d .place) .opened
-    → operatorAt (record { high = high; phase = p; opened = b; asked = true }) job at ≡ operatorAt (contextOf every high (d .place)) job (d .at)
+pub context-is : (set : Setting) (job : List ℕ) (at : ℕ) (d : State) (p : Phase) (b : Bool) → at ≡ d .at → p ≡ phaseOf (d .place) → b ≡ sessionOf (d .place) .opened
+    → operatorAt (record { set = set; phase = p; opened = b; asked = true }) job at ≡ operatorAt (contextOf every set (d .place)) job (d .at)
 unfolding contextOf
-context-is high job at d p b e f g = λ i. operatorAt (record { high = high; phase = f i; opened = g i; asked = true }) job (e i)
+context-is set job at d p b e f g = λ i. operatorAt (record { set = set; phase = f i; opened = g i; asked = true }) job (e i)
 
 module _ (set : Setting) (s : List ℕ) (room : ℕ) (d : State) where
-  pub step-no : (code place : ℕ) → operatorAt (contextOf every (set .high) (d .place)) s (d .at) ≡ Read.no code place
+  pub step-no : (code place : ℕ) → operatorAt (contextOf every set (d .place)) s (d .at) ≡ Read.no code place
       → jobStep every set s room d ≡ stop (refusedAt code place outer d)
   unfolding jobStep onRead
   step-no code place e = rw e
@@ -158,12 +159,12 @@ module _ (set : Setting) (s : List ℕ) (room : ℕ) (d : State) where
   end-is (session.outside false) = refl
   end-is (session.inside x) = refl
 
-  pub step-ended : operatorAt (contextOf every (set .high) (d .place)) s (d .at) ≡ Read.ended
+  pub step-ended : operatorAt (contextOf every set (d .place)) s (d .at) ≡ Read.ended
       → jobStep every set s room d ≡ stop (refusedAt (endCode (d .place)) (length s) outer d)
   unfolding jobStep onRead
   step-ended e = rw e (ap stop (end-is (d .place)))
 
-  pub step-operator : (o : Operator) → operatorAt (contextOf every (set .high) (d .place)) s (d .at) ≡ Read.operator o
+  pub step-operator : (o : Operator) → operatorAt (contextOf every set (d .place)) s (d .at) ≡ Read.operator o
       → jobStep every set s room d ≡ onRead every set s room d (Read.operator o)
   unfolding jobStep
   step-operator o e = rw e
@@ -203,8 +204,8 @@ starts job list₀ l st next a p b c e x y =
 -- an operator whose records do not fit, and one whose do
 module _ (job list₀ : List ℕ) (l : Lent) (st : Code.State) (d : State) (set : Setting) (o : Operator) (n : ℕ) (h : Stands job list₀ l st d) (many : n ≡ length (o .attrs))
     (same : length list₀ ≡ length (l .list))
-    (ruled : firstBroken every (caseOf (set .high) job d (sessionOf (d .place)) o) (rules (length list₀))
-    ≡ pick (roomOver (length list₀) (caseOf (set .high) job d (sessionOf (d .place)) o)) (refused 28 outer) Refusal.none) where
+    (ruled : firstBroken every (caseOf set job d (sessionOf (d .place)) o) (rules (length list₀))
+    ≡ pick (roomOver (length list₀) (caseOf set job d (sessionOf (d .place)) o)) (refused 28 outer) Refusal.none) where
   room-is : (b : Bool) → b ≡ leb ((st .records + suc n) * 16) (length (l .list)) → leb ((d .records + suc (length (o .attrs))) * 16) (length list₀) ≡ b
   room-is b e = let t = sym same in sym (e ∙ (λ i. leb ((h .records i + suc (many i)) * 16) (t i)))
 
@@ -217,8 +218,8 @@ module _ (job list₀ : List ℕ) (l : Lent) (st : Code.State) (d : State) (set 
 
   pub listed-go : (l₁ : Lent) (t : Code.State) → true ≡ leb ((st .records + suc n) * 16) (length (l .list)) → t .at ≡ o .next
       → PlaceHolds job (l₁ .rows) (l₁ .sums) (l₁ .work) (t .place)
-      (placeAfter set job o (caseOf (set .high) job d (sessionOf (d .place)) o .seen .page) (d .place))
-      → t .performed ≡ caseOf (set .high) job d (sessionOf (d .place)) o .seen .count → t .records ≡ st .records + n + 1
+      (placeAfter set job o (caseOf set job d (sessionOf (d .place)) o .seen .page) (d .place))
+      → t .performed ≡ caseOf set job d (sessionOf (d .place)) o .seen .count → t .records ≡ st .records + n + 1
       → l₁ .list ≡ over (l .list) (st .records * 16) (recordsFor (o .tag) (o .at) (o .length) (o .first) (o .attrs))
       → length (l₁ .rows) ≡ length (l .rows) → length (l₁ .sums) ≡ length (l .sums) → Steps job list₀ l₁ (Go t) (onRead every set job (length list₀) d (Read.operator o))
   listed-go l₁ t r a p c k w x y =
@@ -228,7 +229,7 @@ module _ (job list₀ : List ℕ) (l : Lent) (st : Code.State) (d : State) (set 
 -- what the session knows of an operator that was read
 pub comes-in : (job attrs rows sums work list₀ : List ℕ) (set : Setting) (d : State) (o : Reader.Operator) (early : Early) (page : Page) (n : ℕ) (place : Place)
     → PlaceHolds job rows sums work place (d .place) → Sized attrs (o .count) → length rows ≡ 192 → length sums ≡ 64 → 16384 ≤ length work → o .first + o .length ≤ length job
-    → Comes job list₀ set d (operatorAs o attrs) early page n → Afterwards.Comes job attrs (set .high) o early page rows sums work place (d .place) d
+    → Comes job list₀ set d (operatorAs o attrs) early page n → Afterwards.Comes job attrs set o early page rows sums work place (d .place) d
 unfolding contextOf
 comes-in job attrs rows sums work list₀ set d o early page n place h z x y w i m =
     record {
@@ -238,15 +239,15 @@ comes-in job attrs rows sums work list₀ set d o early page n place h z x y w i
       long-sums = y;
       room = w;
       within = i;
-      may = read-may (contextOf every (set .high) (d .place)) job (d .at) (operatorAs o attrs) (m .read);
-      fits = read-rows (contextOf every (set .high) (d .place)) job (d .at) (operatorAs o attrs) (m .read);
+      may = read-may (contextOf every set (d .place)) job (d .at) (operatorAs o attrs) (m .read);
+      fits = read-rows (contextOf every set (d .place)) job (d .at) (operatorAs o attrs) (m .read);
       passes = m .passes;
       earlier = m .earlier;
       drawn = m .drawn;
     }
 
 pub comes-bytes : (job list₀ : List ℕ) (set : Setting) (d : State) (o : Operator) (early : Early) (page : Page) (n : ℕ) → Comes job list₀ set d o early page n → BytesIn (o .attrs)
-comes-bytes job list₀ set d o early page n m = read-bytes (contextOf every (set .high) (d .place)) job (d .at) o (m .read)
+comes-bytes job list₀ set d o early page n m = read-bytes (contextOf every set (d .place)) job (d .at) o (m .read)
 
 pub end-inside : {job rows sums work : List ℕ} {o : Bool} {n used : ℕ} {b : Busy} {q : session.Place} → PlaceHolds job rows sums work (Place-is.Inside o n used b) q → endCode q ≡ 27
 end-inside (inside-holds a b c d e f) = refl
@@ -286,6 +287,6 @@ judged-passes (Early-is.Held n v) j e = tt
 judged-passes {c} (Early-is.No code inner) (judged-to f a b k) (early-no g l) = unrefused (sym (g _) ∙ f (c .records * 16) ∙ enough c)
 
 -- a step over an operator that was read
-pub steps-read : {job list₀ : List ℕ} {l : Lent} {t : Step} (set : Setting) (d : State) (o : Operator) → operatorAt (contextOf every (set .high) (d .place)) job (d .at) ≡ Read.operator o
+pub steps-read : {job list₀ : List ℕ} {l : Lent} {t : Step} (set : Setting) (d : State) (o : Operator) → operatorAt (contextOf every set (d .place)) job (d .at) ≡ Read.operator o
     → Steps job list₀ l t (onRead every set job (length list₀) d (Read.operator o)) → Steps job list₀ l t (jobStep every set job (length list₀) d)
 steps-read {job} {list₀} {l} {t} set d o e h = subst⁻¹ (λ n. Steps job list₀ l t n) (step-operator set job (length list₀) d o e) h

@@ -1,10 +1,12 @@
 // The rules after reading but for the list: 19 to 21, a motif's own, 17, 23 to 26.
 ghost use mathlib.Core.Path.{_≡_};
-ghost use mathlib.Core.Bool.{Bool, false};
+ghost use mathlib.Core.Bool.{false};
 ghost use mathlib.Core.List.{List};
 ghost use Prim.Native.Nat.{ℕ};
 ghost use lib.Dec.{eqb};
 ghost use Rattle.items.specs.Rows.{Sized};
+ghost use Rattle.scope.specs.Setting.{Setting as Setting·of};
+ghost use Rattle.setting.specs.Views.{settingAs};
 ghost use Rattle.scope.specs.Reading as reading;
 ghost use Rattle.scope.specs.Session as scope;
 ghost use Rattle.scope.specs.Session.{sessionOf};
@@ -18,6 +20,7 @@ use arm::moved::Moved;
 use early::Early;
 use place::Place;
 use reader::Operator;
+use setting::Setting;
 use state::OUTER;
 
 // The inner position of a refusal.
@@ -35,29 +38,29 @@ pub fn inner_of(early: Early) -> u32
 // An operator that is no call, in its page. Most are plain, and have a shorter way.
 fn perform(
     job: &[u8],
-    high: bool,
+    set: Setting,
     attrs: &[usize; 80],
     place: Place,
     o: Operator,
     performed: u32,
 ) -> Moved
     ensures { λ r. ⌜ ((q : scope.Place) (st : State) (rows sums work : List ℕ) → PlaceHolds (now (job .entry)) rows sums work place q → Sized (now (attrs .entry)) (o .count)
-        → performed ≡ st .performed → eqb (o .tag) 0x5e ≡ false → Unbroken (caseOf high (now (job .entry)) st (sessionOf q) (operatorAs o (now (attrs .entry))))
-        → Judgement (caseOf high (now (job .entry)) st (sessionOf q) (operatorAs o (now (attrs .entry)))) outer r) ⌝ }
+        → performed ≡ st .performed → eqb (o .tag) 0x5e ≡ false → Unbroken (caseOf (settingAs set) (now (job .entry)) st (sessionOf q) (operatorAs o (now (attrs .entry))))
+        → Judgement (caseOf (settingAs set) (now (job .entry)) st (sessionOf q) (operatorAs o (now (attrs .entry)))) outer r) ⌝ }
 {
     let page = place::page_in(place);
     let opened = place::opened_in(place);
     if act::is_plain(o.tag) {
         return page.keep(o.reads, act::needs_cursor(o.tag), opened, performed);
     }
-    let act = act::act_of(job, high, o.tag, o.reads, attrs, o.count);
+    let act = act::act_of(job, set, o.tag, o.reads, attrs, o.count);
     page.perform(act, opened, performed)
 }
 
 // A call, from its motif's summary.
 fn call(sum: u64, place: Place, performed: u32) -> Moved
-    ensures { λ r. ⌜ ((q : scope.Place) (st : State) (job rows sums work : List ℕ) (high : Bool) (o : reading.Operator) → PlaceHolds job rows sums work place q
-        → performed ≡ st .performed → Earlies (caseOf high job st (sessionOf q) o) (early-is.Call sum) → Judgement (caseOf high job st (sessionOf q) o) outer r) ⌝ }
+    ensures { λ r. ⌜ ((q : scope.Place) (st : State) (job rows sums work : List ℕ) (by : Setting·of) (o : reading.Operator) → PlaceHolds job rows sums work place q
+        → performed ≡ st .performed → Earlies (caseOf by job st (sessionOf q) o) (early-is.Call sum) → Judgement (caseOf by job st (sessionOf q) o) outer r) ⌝ }
 {
     let page = place::page_in(place);
     let opened = place::opened_in(place);
@@ -67,7 +70,7 @@ fn call(sum: u64, place: Place, performed: u32) -> Moved
 // The page after an operator and the number performed, or the code of the first rule broken.
 pub fn judge(
     job: &[u8],
-    high: bool,
+    set: Setting,
     attrs: &[usize; 80],
     early: Early,
     place: Place,
@@ -75,12 +78,12 @@ pub fn judge(
     performed: u32,
 ) -> Moved
     ensures { λ r. ⌜ ((q : scope.Place) (st : State) (rows sums work : List ℕ) → PlaceHolds (now (job .entry)) rows sums work place q → Sized (now (attrs .entry)) (o .count)
-        → performed ≡ st .performed → Earlies (caseOf high (now (job .entry)) st (sessionOf q) (operatorAs o (now (attrs .entry)))) early
-        → Judgement (caseOf high (now (job .entry)) st (sessionOf q) (operatorAs o (now (attrs .entry)))) (innerOf early) r) ⌝ }
+        → performed ≡ st .performed → Earlies (caseOf (settingAs set) (now (job .entry)) st (sessionOf q) (operatorAs o (now (attrs .entry)))) early
+        → Judgement (caseOf (settingAs set) (now (job .entry)) st (sessionOf q) (operatorAs o (now (attrs .entry)))) (innerOf early) r) ⌝ }
 {
     match early {
         Early::No(code, _) => Moved::No(code),
         Early::Call(sum) => call(sum, place, performed),
-        _ => perform(job, high, attrs, place, o, performed),
+        _ => perform(job, set, attrs, place, o, performed),
     }
 }

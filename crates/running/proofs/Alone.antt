@@ -11,14 +11,16 @@ use lib.ListN.{length, getD}
 use lib.Dec.{eqb}
 use Rattle.scope.specs.Choice.{among, between}
 use Rattle.scope.specs.Item.{Scan, white, scanAt}
-use Rattle.scope.specs.Table.{table, lineIn}
+use Rattle.scope.specs.Header.{Class, one, two}
+use Rattle.scope.specs.Table.{tableOne, tableTwo, table, lineIn}
 use Rattle.scope.specs.Attributes.{oneByOne, allThere, formCode}
 use Rattle.scope.specs.Data.{dueOf}
 use Rattle.scope.specs.Order.{in-page, drawn, mayCome, rowsFit}
 use Rattle.scope.specs.Reading.{Context, Operator, Read, withData, asWhole, withAttributes, withLine, scanned, operatorAt}
 use Rattle.scope.specs.Arm.{Page, needsCursor, needsSpace, effectOf, actOf, risen, Seen, step, walk, from}
 use Rattle.scope.specs.Motif.{Motif, Picture, pictureAfter}
-use Rattle.scope.specs.Session.{Setting, Session, drawing, inside, pageOf, sessionAfter, placeAfter}
+use Rattle.scope.specs.Setting.{Setting}
+use Rattle.scope.specs.Session.{Session, drawing, inside, pageOf, sessionAfter, placeAfter}
 use Rattle.scope.specs.Judge.{State, caseOf, judgedAt, tooMuch, nameHeld, nameMissing, ownOr, outer}
 use Rattle.items.proofs.Pairs.{scan-tag}
 use Rattle.arm.specs.Alone.{Alone, alone-close, alone-new, alone-paint, alone-push, alone-pop}
@@ -61,36 +63,39 @@ may-come opened alone-paint = refl
 may-come opened (alone-push h) = refl
 may-come opened (alone-pop {q = q} h) = le-leb 1 (length (q .saved)) h
 
-module _ (high opened : Bool) (s : List ℕ) (at : ℕ) {tag : ℕ} {q q₁ : Page} (a : Alone tag q q₁) where
+module _ (set : Setting) (opened : Bool) (s : List ℕ) (at : ℕ) {tag : ℕ} {q q₁ : Page} (a : Alone tag q q₁) where
   abbrev c : Context
-  c = record { high = high; phase = in-page (length (q .saved)); opened = opened; asked = true }
+  c = record { set = set; phase = in-page (length (q .saved)); opened = opened; asked = true }
 
-  lined : withLine c s tag at [] (lineIn table tag) ≡ Read.operator (alone tag at)
-  unfolding withLine lineIn table withAttributes oneByOne asWhole formCode allThere rowsFit withData dueOf
-  lined =
-      each-tag (λ t. mayCome (in-page (length (q .saved))) opened t ≡ true → withLine c s t at [] (lineIn table t) ≡ Read.operator (alone t at))
+  lined : (class : Class) → withLine c s tag at [] (lineIn (table class) tag) ≡ Read.operator (alone tag at)
+  unfolding withLine lineIn tableOne tableTwo table withAttributes oneByOne asWhole formCode allThere rowsFit withData dueOf
+  lined one =
+      each-tag (λ t. mayCome (in-page (length (q .saved))) opened t ≡ true → withLine c s t at [] (lineIn (table one) t) ≡ Read.operator (alone t at))
+      (λ e. rw e) (λ e. rw e) (λ e. rw e) (λ e. rw e) (λ e. rw e) a (may-come opened a)
+  lined two =
+      each-tag (λ t. mayCome (in-page (length (q .saved))) opened t ≡ true → withLine c s t at [] (lineIn (table two) t) ≡ Read.operator (alone t at))
       (λ e. rw e) (λ e. rw e) (λ e. rw e) (λ e. rw e) (λ e. rw e) a (may-come opened a)
 
   pub read-alone : at < length s → getD s at 0 ≡ tag → operatorAt c s at ≡ Read.operator (alone tag at)
   unfolding operatorAt scanned scanAt
   read-alone h e =
-      ap (scanned c s) (scan-tag high s at [] h (rw e (black a)) (rw e (tagged a)) ∙ ap (λ t. Scan.tagged t at []) e) ∙ lined
+      ap (scanned c s) (scan-tag (set .high) s at [] h (rw e (black a)) (rw e (tagged a)) ∙ ap (λ t. Scan.tagged t at []) e) ∙ lined (set .class)
 
 -- the rules of codes 19 to 21 and of a motif say nothing of it
-unbroken-alone : (high : Bool) (s : List ℕ) (st : State) (x : Session) (at : ℕ) {tag : ℕ} {q q₁ : Page} → Alone tag q q₁ → Unbroken (caseOf high s st x (alone tag at))
+unbroken-alone : (set : Setting) (s : List ℕ) (st : State) (x : Session) (at : ℕ) {tag : ℕ} {q q₁ : Page} → Alone tag q q₁ → Unbroken (caseOf set s st x (alone tag at))
 unfolding caseOf tooMuch nameHeld nameMissing judgedAt
-unbroken-alone high s st x at a =
+unbroken-alone set s st x at a =
     record {
-      room = each-tag (λ t. tooMuch (caseOf high s st x (alone t at)) ≡ false) refl refl refl refl refl a;
-      new = each-tag (λ t. nameHeld (caseOf high s st x (alone t at)) ≡ false) refl refl refl refl refl a;
-      known = each-tag (λ t. nameMissing (caseOf high s st x (alone t at)) ≡ false) refl refl refl refl refl a;
-      sound = λ r. each-tag (λ t. ownOr (caseOf high s st x (alone t at) .made) r ≡ r) refl refl refl refl refl a;
+      room = each-tag (λ t. tooMuch (caseOf set s st x (alone t at)) ≡ false) refl refl refl refl refl a;
+      new = each-tag (λ t. nameHeld (caseOf set s st x (alone t at)) ≡ false) refl refl refl refl refl a;
+      known = each-tag (λ t. nameMissing (caseOf set s st x (alone t at)) ≡ false) refl refl refl refl refl a;
+      sound = λ r. each-tag (λ t. ownOr (caseOf set s st x (alone t at) .made) r ≡ r) refl refl refl refl refl a;
     }
 
 -- the arm after it
-module _ (high opened : Bool) (s : List ℕ) (at n : ℕ) where
+module _ (set : Setting) (opened : Bool) (s : List ℕ) (at n : ℕ) where
   abbrev seen : ℕ → Page → Seen
-  seen tag q = walk (record { motif = 0; at = at; act = actOf high s (alone tag at) } ∷ []) (from q n)
+  seen tag q = walk (record { motif = 0; at = at; act = actOf set s (alone tag at) } ∷ []) (from q n)
 
   page-alone : {tag : ℕ} {q q₁ : Page} → Alone tag q q₁ → q₁ ≡ seen tag q .page
   unfolding walk step from actOf effectOf
@@ -113,11 +118,11 @@ module _ (high opened : Bool) (s : List ℕ) (at n : ℕ) where
   unfolding walk step from
   moves-alone {tag} {q} {p = p} a h k = moves-to (code-alone a k) (subst (PageHolds p) (page-alone a) h) (add-one n)
 
-pub judged-alone : (high : Bool) (s : List ℕ) (st : State) (x : Session) {tag : ℕ} {q q₁ : Page} {p : Code.Page} → Alone tag q q₁ → PageHolds p q₁ → st .performed < 1_000_000
-    → q ≡ pageOf (x .busy) → Judgement (caseOf high s st x (alone tag (st .at))) outer (To p (st .performed + 1))
-judged-alone high s st x {tag} {p = p} a h k e =
-    plain-judged high s st x (alone tag (st .at)) (x .opened) (st .performed) (To p (st .performed + 1)) refl refl (unbroken-alone high s st x (st .at) a) (no-call a)
-    (rw e at (moves-alone high (x .opened) s (st .at) (st .performed) a h k))
+pub judged-alone : (set : Setting) (s : List ℕ) (st : State) (x : Session) {tag : ℕ} {q q₁ : Page} {p : Code.Page} → Alone tag q q₁ → PageHolds p q₁ → st .performed < 1_000_000
+    → q ≡ pageOf (x .busy) → Judgement (caseOf set s st x (alone tag (st .at))) outer (To p (st .performed + 1))
+judged-alone set s st x {tag} {p = p} a h k e =
+    plain-judged set s st x (alone tag (st .at)) (x .opened) (st .performed) (To p (st .performed + 1)) refl refl (unbroken-alone set s st x (st .at) a) (no-call a)
+    (rw e at (moves-alone set (x .opened) s (st .at) (st .performed) a h k))
 
 -- the session stays in the page, with no image open
 pub place-alone : (set : Setting) (s : List ℕ) (at : ℕ) (held : List Motif) (opened : Bool) (p : Page) {tag : ℕ} {q q₁ : Page} → Alone tag q q₁

@@ -10,7 +10,8 @@ use lib.Dec.{eqb}
 use Rattle.scope.specs.Choice.{among}
 use Rattle.scope.specs.Arm.{Page, needsCursor, needsSpace, effectOf, actOf, risen, done, Seen, step, walk, from}
 use Rattle.scope.specs.Motif.{Motif, Picture, pictureAfter}
-use Rattle.scope.specs.Session.{Setting, Session, drawing, inside, pageOf, sessionAfter, placeAfter}
+use Rattle.scope.specs.Setting.{Setting}
+use Rattle.scope.specs.Session.{Session, drawing, inside, pageOf, sessionAfter, placeAfter}
 use Rattle.scope.specs.Judge.{State, caseOf, judgedAt, tooMuch, nameHeld, nameMissing, ownOr, outer}
 use Rattle.arm.specs.Codes.{codeOf}
 use Rattle.arm.specs.Holds.{PageHolds, Moves, moves-to}
@@ -27,20 +28,20 @@ each-line P a b drawn-path = a
 each-line P a b drawn-rel = b
 
 -- the rules of codes 19 to 21 and of a motif say nothing of it
-unbroken-line : (high : Bool) (s : List ℕ) (st : State) (x : Session) (point at op : ℕ) {tag : ℕ} → Drawn tag → Unbroken (caseOf high s st x (lineOf point tag at op))
+unbroken-line : (set : Setting) (s : List ℕ) (st : State) (x : Session) (point at op : ℕ) {tag : ℕ} → Drawn tag → Unbroken (caseOf set s st x (lineOf point tag at op))
 unfolding caseOf tooMuch nameHeld nameMissing judgedAt
-unbroken-line high s st x point at op d =
+unbroken-line set s st x point at op d =
     record {
-      room = each-line (λ t. tooMuch (caseOf high s st x (lineOf point t at op)) ≡ false) refl refl d;
-      new = each-line (λ t. nameHeld (caseOf high s st x (lineOf point t at op)) ≡ false) refl refl d;
-      known = each-line (λ t. nameMissing (caseOf high s st x (lineOf point t at op)) ≡ false) refl refl d;
-      sound = λ r. each-line (λ t. ownOr (caseOf high s st x (lineOf point t at op) .made) r ≡ r) refl refl d;
+      room = each-line (λ t. tooMuch (caseOf set s st x (lineOf point t at op)) ≡ false) refl refl d;
+      new = each-line (λ t. nameHeld (caseOf set s st x (lineOf point t at op)) ≡ false) refl refl d;
+      known = each-line (λ t. nameMissing (caseOf set s st x (lineOf point t at op)) ≡ false) refl refl d;
+      sound = λ r. each-line (λ t. ownOr (caseOf set s st x (lineOf point t at op) .made) r ≡ r) refl refl d;
     }
 
 -- the arm after it
-module _ (high opened : Bool) (s : List ℕ) (point at op n : ℕ) (q : Page) where
+module _ (set : Setting) (opened : Bool) (s : List ℕ) (point at op n : ℕ) (q : Page) where
   abbrev seen : ℕ → Seen
-  seen tag = walk (record { motif = 0; at = op; act = actOf high s (lineOf point tag at op) } ∷ []) (from q n)
+  seen tag = walk (record { motif = 0; at = op; act = actOf set s (lineOf point tag at op) } ∷ []) (from q n)
 
   page-line : {tag : ℕ} → Drawn tag → q ≡ seen tag .page
   unfolding walk step from actOf effectOf done
@@ -57,12 +58,12 @@ module _ (high opened : Bool) (s : List ℕ) (point at op n : ℕ) (q : Page) wh
   unfolding walk step from
   moves-line {p = p} d h e k = moves-to (code-line d (ap (λ (x : Page). x .cursor) (sym (h .same)) ∙ e) k) (rw (page-line d) at h) (add-one n)
 
-pub judged-line : (high : Bool) (s : List ℕ) (st : State) (x : Session) (point op : ℕ) {tag : ℕ} {q : Page} {p : Code.Page} → Drawn tag → PageHolds p q → p .cursor ≡ true → st .performed < 1_000_000
-    → q ≡ pageOf (x .busy) → Judgement (caseOf high s st x (lineOf point tag (st .at) op)) outer (To p (st .performed + 1))
-judged-line high s st x point op {tag} {q} {p} d h c k e =
-    plain-judged high s st x (lineOf point tag (st .at) op) (x .opened) (st .performed) (To p (st .performed + 1)) refl refl (unbroken-line high s st x point (st .at) op d)
+pub judged-line : (set : Setting) (s : List ℕ) (st : State) (x : Session) (point op : ℕ) {tag : ℕ} {q : Page} {p : Code.Page} → Drawn tag → PageHolds p q → p .cursor ≡ true → st .performed < 1_000_000
+    → q ≡ pageOf (x .busy) → Judgement (caseOf set s st x (lineOf point tag (st .at) op)) outer (To p (st .performed + 1))
+judged-line set s st x point op {tag} {q} {p} d h c k e =
+    plain-judged set s st x (lineOf point tag (st .at) op) (x .opened) (st .performed) (To p (st .performed + 1)) refl refl (unbroken-line set s st x point (st .at) op d)
     (each-line (λ t. eqb t 0x5e ≡ false) refl refl d)
-    (rw e at (moves-line high (x .opened) s point (st .at) op (st .performed) q d h c k))
+    (rw e at (moves-line set (x .opened) s point (st .at) op (st .performed) q d h c k))
 
 -- the session stays in the page, with no image open
 pub place-line : (set : Setting) (s : List ℕ) (point at op : ℕ) (held : List Motif) (opened : Bool) (p q : Page) {tag : ℕ} → Drawn tag

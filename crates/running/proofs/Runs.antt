@@ -11,7 +11,8 @@ use lib.Dec.{leb}
 use Rattle.scope.specs.Reading.{Operator, Read, operatorAt}
 use Rattle.scope.specs.Arm.{Page}
 use Rattle.scope.specs.Motif.{Motif, Picture, bytesHeld}
-use Rattle.scope.specs.Session.{Setting, Session, Busy, Place, drawing, inside, phaseDrawing, phaseBusy, phaseOf, placeAfter}
+use Rattle.scope.specs.Setting.{Setting}
+use Rattle.scope.specs.Session.{Session, Busy, Place, drawing, inside, phaseDrawing, phaseBusy, phaseOf, placeAfter}
 use Rattle.scope.specs.Judge as scope
 use Rattle.scope.specs.Judge.{contextOf, caseOf, judgedFrom, outer}
 use Rattle.scope.specs.Verdict.{every}
@@ -106,8 +107,8 @@ module _ (job list₀ rows sums work list list₁ : List ℕ) (set : Setting) (o
 
   -- it is read where r stands, breaks no rule, and leaves the session in its page
   pub record Passes (motifs : List Motif) (past : List Operator) (q : Page) : Type 0 where
-    pub read : operatorAt (contextOf every (set .high) (drawn motifs opened q)) job (r .at) ≡ Read.operator o
-    pub judged : Judgement (caseOf (set .high) job (here (drawn motifs opened q) past) (record { held = motifs; opened = opened; busy = drawing q Picture.none }) o) outer
+    pub read : operatorAt (contextOf every set (drawn motifs opened q)) job (r .at) ≡ Read.operator o
+    pub judged : Judgement (caseOf set job (here (drawn motifs opened q) past) (record { held = motifs; opened = opened; busy = drawing q Picture.none }) o) outer
         (To (t .page) (t .performed))
     pub stays : (p : Page) → placeAfter set job o p (drawn motifs opened q) ≡ drawn motifs opened p
 
@@ -121,7 +122,7 @@ module _ (job list₀ rows sums work list list₁ : List ℕ) (set : Setting) (o
     from-place motifs past q passes keeps s =
         let d = here (drawn motifs opened q) past in
         let j = passes .judged in
-        let c = caseOf (set .high) job d (record { held = motifs; opened = opened; busy = drawing q Picture.none }) o in
+        let c = caseOf set job d (record { held = motifs; opened = opened; busy = drawing q Picture.none }) o in
         let place : PlaceHolds job rows sums work (inSession opened held used t .place) (placeAfter set job o (c .seen .page) (drawn motifs opened q)) =
         subst⁻¹ (PlaceHolds job rows sums work (inSession opened held used t .place)) (passes .stays (c .seen .page)) (keeps (t .page) (c .seen .page) (judged-page j)) in
         let z = turned-go job list₀ set (judgedFrom every set job (length list₀) d) l₁ (inSession opened held used t) d refl
@@ -149,8 +150,8 @@ module _ (job list₀ rows sums work list list₁ : List ℕ) (set : Setting) (o
   unfolding contextOf phaseOf phaseBusy phaseDrawing
   passes-alone h byte few motifs past q (leaves-to a k) =
       record {
-        read = read-alone (set .high) opened job (r .at) a h byte;
-        judged = judged-alone (set .high) job (record { at = r .at; place = drawn motifs opened q; performed = r .performed; records = r .records; past = past })
+        read = read-alone set opened job (r .at) a h byte;
+        judged = judged-alone set job (record { at = r .at; place = drawn motifs opened q; performed = r .performed; records = r .records; past = past })
             (record { held = motifs; opened = opened; busy = drawing q Picture.none }) a k few refl;
         stays = λ z. place-alone set job (r .at) motifs opened z a;
       }
@@ -177,8 +178,8 @@ module _ (job list₀ rows sums work list list₁ : List ℕ) (set : Setting) (o
   unfolding contextOf phaseOf phaseBusy phaseDrawing
   passes-line h few cursor motifs past q k =
       record {
-        read = read-line (set .high) opened (length (q .saved)) job (r .at) op h;
-        judged = judged-line (set .high) job (record { at = r .at; place = drawn motifs opened q; performed = r .performed; records = r .records; past = past })
+        read = read-line set opened (length (q .saved)) job (r .at) op h;
+        judged = judged-line set job (record { at = r .at; place = drawn motifs opened q; performed = r .performed; records = r .records; past = past })
             (record { held = motifs; opened = opened; busy = drawing q Picture.none }) (getD job (r .at) 0) op (line-drawn h) k cursor few refl;
         stays = λ z. place-line set job (getD job (r .at) 0) (r .at) op motifs opened z q (line-drawn h);
       }

@@ -5,7 +5,7 @@ use mathlib.Core.Path.{_≡_}
 use mathlib.Core.Bool.{Bool}
 use mathlib.Core.List.{List}
 use lib.ListN.{length}
-use Rattle.scope.specs.Session.{Setting}
+use Rattle.scope.specs.Setting.{Setting}
 use Rattle.scope.specs.Judge as scope
 use Rattle.scope.specs.Judge.{judgedFrom}
 use Rattle.scope.specs.Verdict.{every}

@@ -173,7 +173,7 @@ breaks-none c (motifs-own ∷ rs) e = by (c .made) refl e (breaks-none c rs)
 
 pub first-fault : FirstFault
 first-fault set job work room next h k e = (
-      subst⁻¹ (Comes every set job room (starting next)) (reached-judged set job work room (starting next) h k (between-start set job room next e .there))
-          (runs-of every set job room (starting next)),
-      λ st o p. breaks-none (caseAt set job st o) (rules room) (p .kept),
-    )
+  subst⁻¹ (Comes every set job room (starting next)) (reached-judged set job work room (starting next) h k (between-start set job room next e .there))
+      (runs-of every set job room (starting next)),
+  λ st o p. breaks-none (caseAt set job st o) (rules room) (p .kept),
+)

@@ -4,6 +4,7 @@ use Prim.Native.Nat.{ℕ, _*_, _≤_, _<_}
 use mathlib.Core.Path.{_≡_}
 use mathlib.Core.List.{List, [], _++_}
 use lib.ListN.{length, drop}
+use Rattle.scope.specs.Setting.{Setting}
 use Rattle.scope.specs.Iterate.{Next, go, stop}
 use mathlib.Core.Bool.{true, false}
 use Rattle.scope.specs.Choice.{pick}
@@ -71,11 +72,11 @@ endCode (session.outside false) = 27
 endCode (session.inside x) = 27
 
 -- an operator that was read where the definition stands, breaks no rule but perhaps that of the room, and leaves this page and number performed
-pub record Comes (job list₀ : List ℕ) (set : session.Setting) (d : scope.State) (o : Operator) (early : Early) (page : Page) (performed : ℕ) : Type 0 where
-  pub read : operatorAt (scope.contextOf verdict.every (set .high) (d .place)) job (d .at) ≡ Read.operator o
+pub record Comes (job list₀ : List ℕ) (set : Setting) (d : scope.State) (o : Operator) (early : Early) (page : Page) (performed : ℕ) : Type 0 where
+  pub read : operatorAt (scope.contextOf verdict.every set (d .place)) job (d .at) ≡ Read.operator o
   pub passes : Passes early
-  pub earlier : Earlies (scope.caseOf (set .high) job d (session.sessionOf (d .place)) o) early
-  pub drawn : PageHolds page (scope.caseOf (set .high) job d (session.sessionOf (d .place)) o .seen .page)
-  pub counts : performed ≡ scope.caseOf (set .high) job d (session.sessionOf (d .place)) o .seen .count
-  pub rules : scope.firstBroken verdict.every (scope.caseOf (set .high) job d (session.sessionOf (d .place)) o) (scope.rules (length list₀))
-      ≡ pick (scope.roomOver (length list₀) (scope.caseOf (set .high) job d (session.sessionOf (d .place)) o)) (scope.refused 28 scope.outer) scope.Refusal.none
+  pub earlier : Earlies (scope.caseOf set job d (session.sessionOf (d .place)) o) early
+  pub drawn : PageHolds page (scope.caseOf set job d (session.sessionOf (d .place)) o .seen .page)
+  pub counts : performed ≡ scope.caseOf set job d (session.sessionOf (d .place)) o .seen .count
+  pub rules : scope.firstBroken verdict.every (scope.caseOf set job d (session.sessionOf (d .place)) o) (scope.rules (length list₀))
+      ≡ pick (scope.roomOver (length list₀) (scope.caseOf set job d (session.sessionOf (d .place)) o)) (scope.refused 28 scope.outer) scope.Refusal.none

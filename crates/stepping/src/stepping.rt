@@ -6,6 +6,7 @@ ghost use Prim.Native.Nat.{ℕ, _+_, _*_, _≤_, _<_};
 ghost use lib.ListN.{length};
 ghost use Rattle.scope.specs.Choice.{pick};
 ghost use Rattle.items.specs.Rows.{Sized};
+ghost use Rattle.setting.specs.Views.{settingAs};
 ghost use Rattle.scope.specs.Reading.{operatorAt, operator};
 ghost use Rattle.scope.specs.Session as session;
 ghost use Rattle.scope.specs.Judge as scope;
@@ -28,6 +29,7 @@ use reader::Read;
 use ruling::inner_of;
 use ruling::judge;
 use running::run_on;
+use setting::Setting;
 use state::OUTER;
 use state::State;
 use state::Step;
@@ -61,8 +63,7 @@ fn end_code(place: Place) -> u32
 // An operator that breaks no rule but perhaps that of the room: its records, and where the job stands after it.
 fn go_on(
     job: &[u8],
-    high: bool,
-    gray: bool,
+    set: Setting,
     work: &mut [u8],
     list: &mut [u8],
     rows: &mut [usize; 192],
@@ -79,9 +80,9 @@ fn go_on(
     ensures { λ r. ⌜ Goes (length (now (job .entry))) (st .at) r ⌝ }
     ensures { λ r. ⌜ ((d : scope.State) (list₀ : List ℕ) → length list₀ ≡ length (now (list .entry)) → Sized (now (attrs .entry)) (o .count) → o .first + o .length ≤ length (now (job .entry))
         → Stands (now (job .entry)) list₀ (record { rows = now (rows .entry); sums = now (sums .entry); work = now (work .entry); list = now (list .entry) }) st d
-        → Comes (now (job .entry)) list₀ (record { high = high; gray = gray }) d (operatorAs o (now (attrs .entry))) early page performed
+        → Comes (now (job .entry)) list₀ (settingAs set) d (operatorAs o (now (attrs .entry))) early page performed
         → Steps (now (job .entry)) list₀ (record { rows = now (rows .exit); sums = now (sums .exit); work = now (work .exit); list = now (list .exit) }) r
-        (onRead every (record { high = high; gray = gray }) (now (job .entry)) (length list₀) d (operator (operatorAs o (now (attrs .entry)))))) ⌝ }
+        (onRead every (settingAs set) (now (job .entry)) (length list₀) d (operator (operatorAs o (now (attrs .entry)))))) ⌝ }
 {
     let place = st.place;
     if !buffer::list_operator(
@@ -96,19 +97,7 @@ fn go_on(
     ) {
         return Step::Stop(stop(st, 28, o.at, OUTER));
     }
-    let next = after::place_after(
-        job,
-        high,
-        gray,
-        o,
-        attrs,
-        early,
-        page,
-        place,
-        work,
-        rows,
-        sums,
-    );
+    let next = after::place_after(job, set, o, attrs, early, page, place, work, rows, sums);
     Step::Go(State {
         at: o.next,
         place: next,
@@ -120,8 +109,7 @@ fn go_on(
 // An operator that was read.
 fn perform(
     job: &[u8],
-    high: bool,
-    gray: bool,
+    set: Setting,
     work: &mut [u8],
     list: &mut [u8],
     rows: &mut [usize; 192],
@@ -136,18 +124,17 @@ fn perform(
     ensures { λ r. ⌜ ((d : scope.State) (list₀ : List ℕ) → length list₀ ≡ length (now (list .entry)) → Sized (now (attrs .entry)) (o .count)
         → o .first + o .length ≤ length (now (job .entry))
         → Stands (now (job .entry)) list₀ (record { rows = now (rows .entry); sums = now (sums .entry); work = now (work .entry); list = now (list .entry) }) st d
-        → operatorAt (contextOf every high (d .place)) (now (job .entry)) (d .at) ≡ operator (operatorAs o (now (attrs .entry)))
+        → operatorAt (contextOf every (settingAs set) (d .place)) (now (job .entry)) (d .at) ≡ operator (operatorAs o (now (attrs .entry)))
         → Steps (now (job .entry)) list₀ (record { rows = now (rows .exit); sums = now (sums .exit); work = now (work .exit); list = now (list .exit) }) r
-        (onRead every (record { high = high; gray = gray }) (now (job .entry)) (length list₀) d (operator (operatorAs o (now (attrs .entry)))))) ⌝ }
+        (onRead every (settingAs set) (now (job .entry)) (length list₀) d (operator (operatorAs o (now (attrs .entry)))))) ⌝ }
 {
     let place = st.place;
-    let early = early::early_of(job, work, rows, sums, attrs, place, o);
-    match judge(job, high, attrs, early, place, o, st.performed) {
+    let early = early::early_of(job, set, work, rows, sums, attrs, place, o);
+    match judge(job, set, attrs, early, place, o, st.performed) {
         Moved::No(code) => Step::Stop(stop(st, code, o.at, inner_of(early))),
         Moved::To(page, performed) => go_on(
             job,
-            high,
-            gray,
+            set,
             work,
             list,
             rows,
@@ -172,8 +159,7 @@ fn is_over(len: usize, st: State) -> bool
 // One operator of the job, or its end.
 fn advance(
     job: &[u8],
-    high: bool,
-    gray: bool,
+    set: Setting,
     work: &mut [u8],
     list: &mut [u8],
     rows: &mut [usize; 192],
@@ -188,14 +174,14 @@ fn advance(
     ensures { λ r. ⌜ ((d : scope.State) (list₀ : List ℕ) → length list₀ ≡ length (now (list .entry)) → length (now (attrs .entry)) ≡ 80
         → Stands (now (job .entry)) list₀ (record { rows = now (rows .entry); sums = now (sums .entry); work = now (work .entry); list = now (list .entry) }) st d
         → Steps (now (job .entry)) list₀ (record { rows = now (rows .exit); sums = now (sums .exit); work = now (work .exit); list = now (list .exit) }) r
-        (jobStep every (record { high = high; gray = gray }) (now (job .entry)) (length list₀) d)) ⌝ }
+        (jobStep every (settingAs set) (now (job .entry)) (length list₀) d)) ⌝ }
 {
     let place = st.place;
     if is_over(job.len(), st) {
         return Step::Stop(stop(st, end_code(place), job.len(), OUTER));
     }
     let context = Context {
-        high,
+        set,
         phase: place::phase_of(place),
         opened: place::opened_in(place),
         asked: true,
@@ -203,23 +189,16 @@ fn advance(
     match reader::operator_at(context, job, st.at, attrs) {
         Read::No(code, position) => Step::Stop(stop(st, code, position, OUTER)),
         Read::Ended => Step::Stop(stop(st, end_code(place), job.len(), OUTER)),
-        Read::Operator(o) => perform(job, high, gray, work, list, rows, sums, attrs, st, o),
+        Read::Operator(o) => perform(job, set, work, list, rows, sums, attrs, st, o),
     }
 }
 
 // The items of a job that is not too long, with a work buffer that is long enough, from the first one on.
-fn items_from(
-    job: &[u8],
-    high: bool,
-    gray: bool,
-    next: usize,
-    work: &mut [u8],
-    list: &mut [u8],
-) -> Verdict
+fn items_from(job: &[u8], set: Setting, next: usize, work: &mut [u8], list: &mut [u8]) -> Verdict
     requires { ⌜ (length (now job) ≤ 61440) × (16384 ≤ length (now work)) × (next ≤ length (now job)) ⌝ }
     ensures { λ _. ⌜ Lasts (now (work .entry)) (now (list .entry)) (now (work .exit)) (now (list .exit)) ⌝ }
-    ensures { λ r. ⌜ (verdictAs r ≡ verdict.told (judgedFrom every (record { high = high; gray = gray }) (now (job .entry)) (length (now (list .entry))) (scope.starting next)))
-        × Listed (now (list .entry)) (judgedFrom every (record { high = high; gray = gray }) (now (job .entry)) (length (now (list .entry))) (scope.starting next) .state .past) (now (list .exit)) ⌝ }
+    ensures { λ r. ⌜ (verdictAs r ≡ verdict.told (judgedFrom every (settingAs set) (now (job .entry)) (length (now (list .entry))) (scope.starting next)))
+        × Listed (now (list .entry)) (judgedFrom every (settingAs set) (now (job .entry)) (length (now (list .entry))) (scope.starting next) .state .past) (now (list .exit)) ⌝ }
 {
     let mut rows = [0usize; 192];
     let mut sums = [0u64; 64];
@@ -232,17 +211,7 @@ fn items_from(
     };
     loop {
         let from = run_on(job, list, st);
-        match advance(
-            job,
-            high,
-            gray,
-            work,
-            list,
-            &mut rows,
-            &mut sums,
-            &mut attrs,
-            from,
-        ) {
+        match advance(job, set, work, list, &mut rows, &mut sums, &mut attrs, from) {
             Step::Go(on) => {
                 st = on;
             }
@@ -256,16 +225,15 @@ fn items_from(
 // The whole of a job's items, from the first one on. Where the job is too long, the work buffer too short or `next` outside the job, nothing is read.
 pub fn judge_items(
     job: &[u8],
-    high: bool,
-    gray: bool,
+    set: Setting,
     next: usize,
     work: &mut [u8],
     list: &mut [u8],
 ) -> Verdict
     ensures { λ _. ⌜ Lasts (now (work .entry)) (now (list .entry)) (now (work .exit)) (now (list .exit)) ⌝ }
     ensures { λ r. ⌜ (length (now (job .entry)) ≤ 61440 → 16384 ≤ length (now (work .entry)) → next ≤ length (now (job .entry))
-        → (verdictAs r ≡ verdict.told (judgedFrom every (record { high = high; gray = gray }) (now (job .entry)) (length (now (list .entry))) (scope.starting next)))
-        × Listed (now (list .entry)) (judgedFrom every (record { high = high; gray = gray }) (now (job .entry)) (length (now (list .entry))) (scope.starting next) .state .past) (now (list .exit))) ⌝ }
+        → (verdictAs r ≡ verdict.told (judgedFrom every (settingAs set) (now (job .entry)) (length (now (list .entry))) (scope.starting next)))
+        × Listed (now (list .entry)) (judgedFrom every (settingAs set) (now (job .entry)) (length (now (list .entry))) (scope.starting next) .state .past) (now (list .exit))) ⌝ }
 {
     if JOB_MOST < job.len() {
         return told(1, JOB_MOST, OUTER, 0, 0);
@@ -276,5 +244,5 @@ pub fn judge_items(
     if job.len() < next {
         return told(2, job.len(), OUTER, 0, 0);
     }
-    items_from(job, high, gray, next, work, list)
+    items_from(job, set, next, work, list)
 }

@@ -9,6 +9,7 @@ use native.Mathlib.Numerals.{add-one}
 use borrow.Author.Tests.{le-leb, lt-leb, eq-eqb, ne-eqb}
 use lib.ListN.{length, getD}
 use lib.Dec.{eqb}
+use Rattle.scope.specs.Setting.{Setting}
 use Rattle.scope.specs.Choice.{pick}
 use Rattle.scope.specs.Iterate.{Next, go, stop, onward}
 use Rattle.scope.specs.Attributes.{bytesIn}
@@ -60,11 +61,11 @@ module _ (ms : List Motif) (o : Operator) (name : List ℕ) (w : scope.Inside) w
         level = own-calls (w .ops) (o .at) name 0 (w .saved) (f .level);
       }))
 
-module _ (ms : List Motif) (high : Bool) (s : List ℕ) (o : Operator) (w : scope.Inside) where
+module _ (ms : List Motif) (set : Setting) (s : List ℕ) (o : Operator) (w : scope.Inside) where
   pub deed-on : (old new : Inside) → Follows ms old w → new .at ≡ o .next → new .saved ≡ savedAfter (o .tag) (old .saved)
-      → pictureAs (new .picture) ≡ scope.pictureAfter high s o (w .picture) → new .depth ≡ old .depth
-      → ((row : List Stroke) (x : Stroke) → Runs (old .both) row → x .act ≡ actOf high s o → Runs (new .both) (row ++ (x ∷ [])))
-      → (o .tag ≡ 0x60 → 0 < w .saved) → Turns ms (Go new) (onDeed high s o w)
+      → pictureAs (new .picture) ≡ scope.pictureAfter (set .high) s o (w .picture) → new .depth ≡ old .depth
+      → ((row : List Stroke) (x : Stroke) → Runs (old .both) row → x .act ≡ actOf set s o → Runs (new .both) (row ++ (x ∷ [])))
+      → (o .tag ≡ 0x60 → 0 < w .saved) → Turns ms (Go new) (onDeed set s o w)
   unfolding onDeed actOf
   deed-on old new f a b c d r p =
       turns-go
@@ -73,9 +74,9 @@ module _ (ms : List Motif) (high : Bool) (s : List ℕ) (o : Operator) (w : scop
         saved = b ∙ ap (savedAfter (o .tag)) (f .saved);
         picture = c;
         depth = d ∙ f .depth;
-        runs = λ k. subst⁻¹ (λ l. Runs (new .both) l) (flat-does (unfolded ms) k (w .ops) (o .at) (actOf high s o)) (r (flat (unfolded ms) k (w .ops)) _ (f .runs k) refl);
-        level = subst (λ n. OwnLevel 0 (w .ops ++ (scope.does (o .at) (actOf high s o) ∷ [])) n) (saved-depth high s (o .tag) (o .attrs) (w .saved))
-            (own-does (w .ops) (o .at) (actOf high s o) 0 (w .saved) (f .level) (may-saved high s (o .tag) (o .attrs) (w .saved) p));
+        runs = λ k. subst⁻¹ (λ l. Runs (new .both) l) (flat-does (unfolded ms) k (w .ops) (o .at) (actOf set s o)) (r (flat (unfolded ms) k (w .ops)) _ (f .runs k) refl);
+        level = subst (λ n. OwnLevel 0 (w .ops ++ (scope.does (o .at) (actOf set s o) ∷ [])) n) (saved-depth set s (o .tag) (o .attrs) (w .saved))
+            (own-does (w .ops) (o .at) (actOf set s o) 0 (w .saved) (f .level) (may-saved set s (o .tag) (o .attrs) (w .saved) p));
       })
 
 -- the end, with nothing saved: the runs of a balanced row are summed up
@@ -86,26 +87,26 @@ ended-even ms ops v d b l r =
     judges-valid refl (λ k. r (flat (unfolded ms) k ops) (own-level (unfolded ms) k b ops 0 0 l) k refl)
 
 -- what reading knows where the definition stands
-pub context-is : (ms : List Motif) (high : Bool) (s : List ℕ) (i : Inside) (w : scope.Inside) (p : Phase) → Follows ms i w → p ≡ phaseIn (i .saved) (pictureAs (i .picture))
-    → operatorAt (record { high = high; phase = p; opened = true; asked = false }) s (i .at) ≡ operatorAt (contextIn high w) s (w .at)
+pub context-is : (ms : List Motif) (set : Setting) (s : List ℕ) (i : Inside) (w : scope.Inside) (p : Phase) → Follows ms i w → p ≡ phaseIn (i .saved) (pictureAs (i .picture))
+    → operatorAt (record { set = set; phase = p; opened = true; asked = false }) s (i .at) ≡ operatorAt (contextIn set w) s (w .at)
 unfolding contextIn
-context-is ms high s i w p f e =
-    λ t. operatorAt (record { high = high; phase = (e ∙ (λ u. phaseIn (f .saved u) (f .picture u))) t; opened = true; asked = false }) s (f .at t)
+context-is ms set s i w p f e =
+    λ t. operatorAt (record { set = set; phase = (e ∙ (λ u. phaseIn (f .saved u) (f .picture u))) t; opened = true; asked = false }) s (f .at t)
 
 image-is : (n : ℕ) (p : scope.Picture) → imageOf (phaseIn n p) ≡ imageIn p
 unfolding phaseIn
 image-is n scope.Picture.none = refl
 image-is n (scope.being i) = refl
 
-taken-rows : {c : Context} {s : List ℕ} {o : Operator} → Taken c s (Read.operator o) → rowsFit (c .high) s (imageOf (c .phase)) (o .tag) (o .attrs) ≡ true
+taken-rows : {c : Context} {s : List ℕ} {o : Operator} → Taken c s (Read.operator o) → rowsFit (c .set .high) s (imageOf (c .phase)) (o .tag) (o .attrs) ≡ true
 taken-rows (Taken.operator a b e) = e
 
 -- an operator that was read fits the image that is open
-pub rows-read : (high : Bool) (s : List ℕ) (w : scope.Inside) (o : Operator) → operatorAt (contextIn high w) s (w .at) ≡ Read.operator o
-    → rowsFit high s (imageIn (w .picture)) (o .tag) (o .attrs) ≡ true
+pub rows-read : (set : Setting) (s : List ℕ) (w : scope.Inside) (o : Operator) → operatorAt (contextIn set w) s (w .at) ≡ Read.operator o
+    → rowsFit (set .high) s (imageIn (w .picture)) (o .tag) (o .attrs) ≡ true
 unfolding contextIn
-rows-read high s w o e =
-    ap (λ i. rowsFit high s i (o .tag) (o .attrs)) (sym (image-is (w .saved) (w .picture))) ∙ taken-rows (subst (λ r. Taken (contextIn high w) s r) e (read-taken (contextIn high w) s (w .at)))
+rows-read set s w o e =
+    ap (λ i. rowsFit (set .high) s i (o .tag) (o .attrs)) (sym (image-is (w .saved) (w .picture))) ∙ taken-rows (subst (λ r. Taken (contextIn set w) s r) e (read-taken (contextIn set w) s (w .at)))
 
 good-may : {len at : ℕ} {may : ℕ → Bool} {o : Operator} → GoodRead len at may (Read.operator o) → may (o .tag) ≡ true
 good-may (GoodRead.operator a b c) = c
@@ -119,46 +120,46 @@ pop-may n tag scope.Picture.none h e = drawn-pop n tag h e
 pop-may n tag (scope.being i) h e = false-true (rw e at h)
 
 -- a PopGS that was read finds something saved
-pub pop-read : (high : Bool) (s : List ℕ) (w : scope.Inside) (o : Operator) → operatorAt (contextIn high w) s (w .at) ≡ Read.operator o → o .tag ≡ 0x60 → 0 < w .saved
+pub pop-read : (set : Setting) (s : List ℕ) (w : scope.Inside) (o : Operator) → operatorAt (contextIn set w) s (w .at) ≡ Read.operator o → o .tag ≡ 0x60 → 0 < w .saved
 unfolding contextIn
-pop-read high s w o e t =
+pop-read set s w o e t =
     pop-may (w .saved) (o .tag) (w .picture)
-    (good-may (subst (λ r. GoodRead (length s) (w .at) (mayCome (phaseIn (w .saved) (w .picture)) true) r) e (read-good (contextIn high w) s (w .at)))) t
+    (good-may (subst (λ r. GoodRead (length s) (w .at) (mayCome (phaseIn (w .saved) (w .picture)) true) r) e (read-good (contextIn set w) s (w .at)))) t
 
-module _ (ms : List Motif) (high : Bool) (s : List ℕ) (w : scope.Inside) where
-  pub step-no : (code place : ℕ) → operatorAt (contextIn high w) s (w .at) ≡ Read.no code place → Turns ms (Stop (Faulty code place)) (motifStep ms high s w)
+module _ (ms : List Motif) (set : Setting) (s : List ℕ) (w : scope.Inside) where
+  pub step-no : (code place : ℕ) → operatorAt (contextIn set w) s (w .at) ≡ Read.no code place → Turns ms (Stop (Faulty code place)) (motifStep ms set s w)
   unfolding motifStep scope.onRead
   step-no code place e = rw e (turns-stop judges-faulty)
 
-  pub step-ended : (j : Judged) → operatorAt (contextIn high w) s (w .at) ≡ Read.ended → Judges ms j (onEnd s w (w .picture)) → Turns ms (Stop j) (motifStep ms high s w)
+  pub step-ended : (j : Judged) → operatorAt (contextIn set w) s (w .at) ≡ Read.ended → Judges ms j (onEnd s w (w .picture)) → Turns ms (Stop j) (motifStep ms set s w)
   unfolding motifStep scope.onRead
   step-ended j e h = rw e (turns-stop h)
 
-  pub step-call : (t : Turn) (o : Operator) → operatorAt (contextIn high w) s (w .at) ≡ Read.operator o → o .tag ≡ 0x5e → Turns ms t (called ms s o w)
-      → Turns ms t (motifStep ms high s w)
+  pub step-call : (t : Turn) (o : Operator) → operatorAt (contextIn set w) s (w .at) ≡ Read.operator o → o .tag ≡ 0x5e → Turns ms t (called ms s o w)
+      → Turns ms t (motifStep ms set s w)
   unfolding motifStep scope.onRead called
   step-call t o e f h = rw (e, eq-eqb (o .tag) 0x5e f) h
 
-  pub step-deed : (t : Turn) (o : Operator) → operatorAt (contextIn high w) s (w .at) ≡ Read.operator o → (o .tag ≡ 0x5e → ⊥) → Turns ms t (onDeed high s o w)
-      → Turns ms t (motifStep ms high s w)
+  pub step-deed : (t : Turn) (o : Operator) → operatorAt (contextIn set w) s (w .at) ≡ Read.operator o → (o .tag ≡ 0x5e → ⊥) → Turns ms t (onDeed set s o w)
+      → Turns ms t (motifStep ms set s w)
   unfolding motifStep scope.onRead
   step-deed t o e f h = rw (e, ne-eqb (o .tag) 0x5e f) h
 
 -- the walk goes on from where the code goes on, and stops with what the code stops with
-module _ (ms : List Motif) (high : Bool) (s : List ℕ) (end : scope.Judged) where
-  goes : (i : Inside) (n : Next scope.Inside scope.Judged) → Turns ms (Go i) n → onward (judgedInside ms high s) n ≡ end
-      → (w : scope.Inside) × (Follows ms i w × (judgedInside ms high s w ≡ end))
+module _ (ms : List Motif) (set : Setting) (s : List ℕ) (end : scope.Judged) where
+  goes : (i : Inside) (n : Next scope.Inside scope.Judged) → Turns ms (Go i) n → onward (judgedInside ms set s) n ≡ end
+      → (w : scope.Inside) × (Follows ms i w × (judgedInside ms set s w ≡ end))
   goes i (go w) (turns-go f) e = (w, (f, e))
 
-  stops : (j : Judged) (n : Next scope.Inside scope.Judged) → Turns ms (Stop j) n → onward (judgedInside ms high s) n ≡ end → Judges ms j end
+  stops : (j : Judged) (n : Next scope.Inside scope.Judged) → Turns ms (Stop j) n → onward (judgedInside ms set s) n ≡ end → Judges ms j end
   stops j (stop r) (turns-stop h) e = subst (λ x. Judges ms j x) e h
 
-  pub turned-go : (i : Inside) (w : scope.Inside) → judgedInside ms high s w ≡ end → Turns ms (Go i) (motifStep ms high s w)
-      → (v : scope.Inside) × (Follows ms i v × (judgedInside ms high s v ≡ end))
-  turned-go i w e t = goes i (motifStep ms high s w) t (sym (motif-step ms high s w) ∙ e)
+  pub turned-go : (i : Inside) (w : scope.Inside) → judgedInside ms set s w ≡ end → Turns ms (Go i) (motifStep ms set s w)
+      → (v : scope.Inside) × (Follows ms i v × (judgedInside ms set s v ≡ end))
+  turned-go i w e t = goes i (motifStep ms set s w) t (sym (motif-step ms set s w) ∙ e)
 
-  pub turned-stop : (j : Judged) (w : scope.Inside) → judgedInside ms high s w ≡ end → Turns ms (Stop j) (motifStep ms high s w) → Judges ms j end
-  turned-stop j w e t = stops j (motifStep ms high s w) t (sym (motif-step ms high s w) ∙ e)
+  pub turned-stop : (j : Judged) (w : scope.Inside) → judgedInside ms set s w ≡ end → Turns ms (Stop j) (motifStep ms set s w) → Judges ms j end
+  turned-stop j w e t = stops j (motifStep ms set s w) t (sym (motif-step ms set s w) ∙ e)
 
 not-held : (ms : List Motif) (s : List ℕ) (o : Operator) (w : scope.Inside) (name : List ℕ) → name ≡ bytesIn s (o .attrs) 139 → scope.heldAs name ms ≡ scope.Held.none
     → Turns ms (Stop (Faulty 21 (o .at))) (called ms s o w)

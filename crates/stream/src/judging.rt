@@ -5,6 +5,8 @@ ghost use mathlib.Core.Bool.{true};
 ghost use Prim.Native.Nat.{ℕ, _+_, _^_, _≤_, _<_, max};
 ghost use lib.ListN.{length};
 ghost use Rattle.items.specs.Rows.{rowsOf, Sized};
+ghost use Rattle.scope.specs.Setting.{sameClass};
+ghost use Rattle.setting.specs.Views.{classAs, settingAs};
 ghost use Rattle.scope.specs.Motif as scope;
 ghost use Rattle.scope.specs.Motif.{Motif, flat, unfolded, phaseIn, savedAfter, motifStep, onCall, onDeed, onEnd, judgedInside, motifOf};
 ghost use Rattle.scope.specs.Order.{rowsFit};
@@ -34,6 +36,8 @@ use order::picture_after;
 use reader::Context;
 use reader::Operator;
 use reader::Read;
+use setting::Class;
+use setting::Setting;
 
 // A valid motif, with how deep it nests and its summary; or a code and a place inside it.
 pub enum Judged {
@@ -132,18 +136,18 @@ fn call(
 }
 
 // An operator that is no call.
-fn deed(s: &[u8], high: bool, o: Operator, attrs: &[usize; 80], inside: Inside) -> Turn
+fn deed(s: &[u8], set: Setting, o: Operator, attrs: &[usize; 80], inside: Inside) -> Turn
     requires { ⌜ inside .saved < 2 ^ 63 ⌝ }
     ensures { λ r. ⌜ Lands (o .next) (inside .saved) r ⌝ }
     ensures { λ r. ⌜ ((ms : List Motif) (w : scope.Inside) → Sized (now (attrs .entry)) (o .count) → Follows ms inside w
-        → rowsFit high (now (s .entry)) (imageIn (w .picture)) (o .tag) (rowsOf (now (attrs .entry)) (o .count)) ≡ true → (o .tag ≡ 0x60 → 0 < w .saved)
-        → Turns ms r (onDeed high (now (s .entry)) (operatorAs o (now (attrs .entry))) w)) ⌝ }
+        → rowsFit (set .high) (now (s .entry)) (imageIn (w .picture)) (o .tag) (rowsOf (now (attrs .entry)) (o .count)) ≡ true → (o .tag ≡ 0x60 → 0 < w .saved)
+        → Turns ms r (onDeed (settingAs set) (now (s .entry)) (operatorAs o (now (attrs .entry))) w)) ⌝ }
 {
     let tag = o.tag;
     let picture = inside.picture;
     let both = inside.both;
-    let act = act_of(s, high, tag, o.reads, attrs, o.count);
-    let after = picture_after(s, high, tag, attrs, o.count, picture);
+    let act = act_of(s, set, tag, o.reads, attrs, o.count);
+    let after = picture_after(s, set.high, tag, attrs, o.count, picture);
     let next = both.step(act);
     let saved = saved_after(tag, inside.saved);
     Turn::Go(Inside {
@@ -183,7 +187,7 @@ fn balanced(len: usize, saved: usize, depth: usize, both: Both) -> Judged
 // One operator of a motif.
 fn advance(
     s: &[u8],
-    high: bool,
+    set: Setting,
     inside: Inside,
     job: &[u8],
     rows: &[usize; 192],
@@ -195,11 +199,11 @@ fn advance(
     ensures { λ _. ⌜ length (now (attrs .exit)) ≡ length (now (attrs .entry)) ⌝ }
     ensures { λ r. ⌜ Ahead (length (now (s .entry))) (inside .at) r ⌝ }
     ensures { λ r. ⌜ ((ms : List Motif) (w : scope.Inside) → length (now (attrs .entry)) ≡ 80 → held ≤ 64 → Keeps (now (job .entry)) (now (rows .entry)) (now (sums .entry)) held ms
-        → Follows ms inside w → Turns ms r (motifStep ms high (now (s .entry)) w)) ⌝ }
+        → Follows ms inside w → Turns ms r (motifStep ms (settingAs set) (now (s .entry)) w)) ⌝ }
 {
     let picture = inside.picture;
     let context = Context {
-        high,
+        set,
         phase: phase_in(inside.saved, picture),
         opened: true,
         asked: false,
@@ -211,7 +215,7 @@ fn advance(
             if o.tag == EXEC_STREAM {
                 return call(s, o, attrs, inside, job, rows, sums, held);
             }
-            deed(s, high, o, attrs, inside)
+            deed(s, set, o, attrs, inside)
         }
     }
 }
@@ -219,7 +223,7 @@ fn advance(
 // The operators of a motif whose header ends at `next`.
 fn operators(
     s: &[u8],
-    high: bool,
+    set: Setting,
     next: usize,
     job: &[u8],
     rows: &[usize; 192],
@@ -230,7 +234,7 @@ fn operators(
     requires { ⌜ next ≤ length (now s) ⌝ }
     ensures { λ _. ⌜ length (now (attrs .exit)) ≡ length (now (attrs .entry)) ⌝ }
     ensures { λ r. ⌜ ((ms : List Motif) → length (now (attrs .entry)) ≡ 80 → held ≤ 64 → Keeps (now (job .entry)) (now (rows .entry)) (now (sums .entry)) held ms
-        → Judges ms r (judgedInside ms high (now (s .entry)) (record { at = next; saved = 0; picture = scope.Picture.none; ops = []; depth = 1 }))) ⌝ }
+        → Judges ms r (judgedInside ms (settingAs set) (now (s .entry)) (record { at = next; saved = 0; picture = scope.Picture.none; ops = []; depth = 1 }))) ⌝ }
 {
     let mut inside = Inside {
         at: next,
@@ -240,7 +244,7 @@ fn operators(
         both: Both::fresh(),
     };
     loop {
-        match advance(s, high, inside, job, rows, sums, held, attrs) {
+        match advance(s, set, inside, job, rows, sums, held, attrs) {
             Turn::Go(on) => {
                 inside = on;
             }
@@ -251,20 +255,48 @@ fn operators(
     }
 }
 
-// A motif, where these are held: `rows` and `sums` keep them, and names lie in the job.
+// The same class.
+fn same_class(a: Class, b: Class) -> bool
+    ensures { λ r. ⌜ r ≡ sameClass (classAs a) (classAs b) ⌝ }
+{
+    match a {
+        Class::One => match b {
+            Class::One => true,
+            Class::Two => false,
+        },
+        Class::Two => match b {
+            Class::One => false,
+            Class::Two => true,
+        },
+    }
+}
+
+// A motif of a job with this setting, where these are held: `rows` and `sums` keep them, and names lie in the job. It has the job's class, else 4.
 pub fn judge_motif(
     s: &[u8],
+    set: Setting,
     job: &[u8],
     rows: &[usize; 192],
     sums: &[u64; 64],
     held: usize,
 ) -> Judged
     ensures { λ r. ⌜ ((ms : List Motif) → held ≤ 64 → Keeps (now (job .entry)) (now (rows .entry)) (now (sums .entry)) held ms
-        → Judges ms r (motifOf ms (now (s .entry)))) ⌝ }
+        → Judges ms r (motifOf (settingAs set) ms (now (s .entry)))) ⌝ }
 {
     let mut attrs = [0usize; 80];
     match header::header_of(s) {
         Header::No(code, place) => Judged::Faulty(code, place),
-        Header::Is(high, next) => operators(s, high, next, job, rows, sums, held, &mut attrs),
+        Header::Is(class, high, next) => {
+            let of_job = set.class;
+            if !same_class(class, of_job) {
+                return Judged::Faulty(4, 12);
+            }
+            let own = Setting {
+                class: of_job,
+                high,
+                gray: set.gray,
+            };
+            operators(s, own, next, job, rows, sums, held, &mut attrs)
+        }
     }
 }

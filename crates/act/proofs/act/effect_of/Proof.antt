@@ -32,9 +32,13 @@ returns-5 c = λ z. rw (ne-eqb _ _ (c .before .before .before .before .before .i
 
 returns-6 : tie.Need-returns-6
 unfolding effectOf
-returns-6 c = λ z. rw (ne-eqb _ _ (c .before .before .before .before .if1 .left), ne-eqb _ _ (c .before .before .before .if2 .left), ne-eqb _ _ (c .before .before .if3 .left), ne-eqb _ _ (c .before .if4 .left), ne-eqb _ _ (c .if5 .left))
+returns-6 c = λ z. rw (ne-eqb _ _ (c .before .before .before .before .before .if1 .left), ne-eqb _ _ (c .before .before .before .before .if2 .left), ne-eqb _ _ (c .before .before .before .if3 .left), ne-eqb _ _ (c .before .before .if4 .left), ne-eqb _ _ (c .before .if5 .left), eq-eqb _ _ (c .if6 .taken))
+
+returns-7 : tie.Need-returns-7
+unfolding effectOf
+returns-7 c = λ z. rw (ne-eqb _ _ (c .before .before .before .before .before .if1 .left), ne-eqb _ _ (c .before .before .before .before .if2 .left), ne-eqb _ _ (c .before .before .before .if3 .left), ne-eqb _ _ (c .before .before .if4 .left), ne-eqb _ _ (c .before .if5 .left), ne-eqb _ _ (c .if6 .left))
 
 pub effect-of-spec : {M : Type 1} → statement M
 effect-of-spec =
     tie.close
-    (tie.spec returns returns-2 returns-3 returns-4 space-effect-requires returns-5 returns-6)
+    (tie.spec returns returns-2 returns-3 returns-4 space-effect-requires returns-5 returns-6 returns-7)

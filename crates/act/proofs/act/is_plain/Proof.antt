@@ -40,11 +40,15 @@ returns-8 c = rw (c .match .keys8)
 
 returns-9 : tie.Need-returns-9
 unfolding plain among
-returns-9 c =
+returns-9 c = rw (c .match .keys9)
+
+returns-10 : tie.Need-returns-10
+unfolding plain among
+returns-10 c =
     let h = c .match .rest in
-    rw (ne-eqb _ _ (h .0 .0 .0 .0 .0 .0 .0 .1), ne-eqb _ _ (h .0 .0 .0 .0 .0 .0 .1), ne-eqb _ _ (h .0 .0 .0 .0 .0 .1), ne-eqb _ _ (h .0 .0 .0 .0 .1), ne-eqb _ _ (h .0 .0 .0 .1), ne-eqb _ _ (h .0 .0 .1), ne-eqb _ _ (h .0 .1), ne-eqb _ _ (h .1))
+    rw (ne-eqb _ _ (h .0 .0 .0 .0 .0 .0 .0 .0 .1), ne-eqb _ _ (h .0 .0 .0 .0 .0 .0 .0 .1), ne-eqb _ _ (h .0 .0 .0 .0 .0 .0 .1), ne-eqb _ _ (h .0 .0 .0 .0 .0 .1), ne-eqb _ _ (h .0 .0 .0 .0 .1), ne-eqb _ _ (h .0 .0 .0 .1), ne-eqb _ _ (h .0 .0 .1), ne-eqb _ _ (h .0 .1), ne-eqb _ _ (h .1))
 
 pub is-plain-spec : {M : Type 1} → statement M
 is-plain-spec =
     tie.close
-    (tie.spec returns returns-2 returns-3 returns-4 returns-5 returns-6 returns-7 returns-8 returns-9)
+    (tie.spec returns returns-2 returns-3 returns-4 returns-5 returns-6 returns-7 returns-8 returns-9 returns-10)

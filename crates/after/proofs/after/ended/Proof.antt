@@ -26,13 +26,13 @@ returns : tie.Need-returns
 unfolding rowsEnded sumsEnded
 returns c =
     let a = c .before .before .args in
-    rw (c .enum-told .given .1) (refl, (refl, λ job attrs work high gray o page nr. fine-after job attrs high gray o (a .rows .now) (a .sums .now) work nr))
+    rw (c .enum-told .given .1) (refl, (refl, λ job attrs work by o page nr. fine-after job attrs by o (a .rows .now) (a .sums .now) work nr))
 
 returns-2 : tie.Need-returns-2
 unfolding rowsEnded sumsEnded
 returns-2 c =
     let a = c .before .before .args in
-    rw (c .enum-told2 .given .1) (refl, (refl, λ job attrs work high gray o page nr. call-after job attrs high gray o (a .rows .now) (a .sums .now) work nr))
+    rw (c .enum-told2 .given .1) (refl, (refl, λ job attrs work by o page nr. call-after job attrs by o (a .rows .now) (a .sums .now) work nr))
 
 returns-3 : tie.Need-returns-3
 returns-3 c =
@@ -42,7 +42,7 @@ returns-4 : tie.Need-returns-4
 unfolding rowsEnded sumsEnded
 returns-4 c =
     let a = c .before .before .args in
-    rw (c .enum-told3 .given .1) (refl, (refl, λ job attrs work high gray o page nr. no-after job attrs high gray o (a .rows .now) (a .sums .now) work nr))
+    rw (c .enum-told3 .given .1) (refl, (refl, λ job attrs work by o page nr. no-after job attrs by o (a .rows .now) (a .sums .now) work nr))
 
 pub ended-spec : {M : Type 1} → statement M
 ended-spec =

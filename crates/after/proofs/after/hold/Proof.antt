@@ -14,7 +14,7 @@ unfolding rowsEnded sumsEnded mayHold
 returns c =
     let a = c .before .args in
     let e = le-ltb (a .held) 64 (omega arith) in
-    rw e (refl, (refl, λ job attrs work high gray o page nr. full-after job attrs high gray o (a .rows .now) (a .sums .now) work nr (a .depth) (a .sum) (λ h k. omega arith)))
+    rw e (refl, (refl, λ job attrs work by o page nr. full-after job attrs by o (a .rows .now) (a .sums .now) work nr (a .depth) (a .sum) (λ h k. omega arith)))
 
 returns-2 : tie.Need-returns-2
 unfolding rowsEnded sumsEnded mayHold
@@ -22,7 +22,7 @@ returns-2 c =
     let a = c .before .before .args in
     let e = lt-ltb (a .held) 64 (omega arith) in
     let f = lt-leb (a .used) 16384 (omega arith) in
-    rw (e, f) (refl, (refl, λ job attrs work high gray o page nr. full-after job attrs high gray o (a .rows .now) (a .sums .now) work nr (a .depth) (a .sum) (λ h k. omega arith)))
+    rw (e, f) (refl, (refl, λ job attrs work by o page nr. full-after job attrs by o (a .rows .now) (a .sums .now) work nr (a .depth) (a .sum) (λ h k. omega arith)))
 
 returns-3 : tie.Need-returns-3
 unfolding rowsEnded sumsEnded mayHold
@@ -31,7 +31,7 @@ returns-3 c =
     let e = lt-ltb (a .held) 64 (omega arith) in
     let f = le-leb (a .used) 16384 (omega arith) in
     let g = lt-leb (a .joined) 16384 (omega arith) in
-    rw (e, f, g) (refl, (refl, λ job attrs work high gray o page nr. full-after job attrs high gray o (a .rows .now) (a .sums .now) work nr (a .depth) (a .sum) (λ h k. omega arith)))
+    rw (e, f, g) (refl, (refl, λ job attrs work by o page nr. full-after job attrs by o (a .rows .now) (a .sums .now) work nr (a .depth) (a .sum) (λ h k. omega arith)))
 
 mul-rows : tie.Need-mul-rows
 mul-rows c = search needs
@@ -85,7 +85,7 @@ returns-4 c =
     let e = lt-ltb (a .held) 64 (omega arith) in
     let f = le-leb (a .used) 16384 (omega arith) in
     let g = le-leb (a .joined) 16384 (omega arith) in
-    rw (e, f, g) (refl, (refl, λ job attrs work high gray o page nr. hold-after job attrs high gray o (a .rows .now) (a .sums .now) work nr (a .depth) (a .sum)))
+    rw (e, f, g) (refl, (refl, λ job attrs work by o page nr. hold-after job attrs by o (a .rows .now) (a .sums .now) work nr (a .depth) (a .sum)))
 
 pub hold-spec : {M : Type 1} → statement M
 hold-spec =

@@ -1,5 +1,6 @@
 -- `session::after::inside_after` meets its contract: case by case of what the session is at.
 -- Assumes nothing.
+use Rattle.setting.specs.Views.{settingAs}
 use Rattle.after.proofs.Going.{draw-after}
 use Rattle.after.specs.Kept.{workAfter, rowsAfter, sumsAfter}
 use mathlib.Core.Path.{refl}
@@ -30,7 +31,7 @@ unfolding workAfter rowsAfter sumsAfter
 returns c =
     let a = c .before .before .before .before .before .args in
     rw (c .before .enum-told .given .1)
-    (refl, (refl, (refl, c .resting-after .ensures (a .high) (a .early) (a .page) (a .rows .now) (a .sums .now) (a .work .now))))
+    (refl, (refl, (refl, c .resting-after .ensures (a .early) (a .page) (a .rows .now) (a .sums .now) (a .work .now))))
 
 same-length : tie.Need-same-length
 same-length c = search needs
@@ -41,14 +42,14 @@ returns-2 c =
     let y = c .before .before .before .before .before .before .before in
     let a = y .before .before .before .before .args in
     rw (y .busy .given .1)
-    (r .ensures .0, (r .ensures .1 .0, (r .ensures .1 .1 .0, r .ensures .1 .1 .1 (a .attrs .now) (a .high) (a .gray) (a .page))))
+    (r .ensures .0, (r .ensures .1 .0, (r .ensures .1 .1 .0, r .ensures .1 .1 .1 (a .attrs .now) (settingAs (a .set)) (a .page))))
 
 returns-3 : tie.Need-returns-3
 unfolding workAfter rowsAfter sumsAfter
 returns-3 c =
     let y = c .before .before in
     let a = y .before .before .before .before .args in
-    let k = draw-after (a .job .now) (a .attrs .now) (a .high) (a .gray) (a .o) (a .rows .now) (a .sums .now) (a .work .now) (c .drawn-on .result) (c .drawn-on .ensures) in
+    let k = draw-after (a .job .now) (a .attrs .now) (settingAs (a .set)) (a .o) (a .rows .now) (a .sums .now) (a .work .now) (c .drawn-on .result) (c .drawn-on .ensures) in
     rw (y .busy2 .given .1) (refl, (refl, (refl, k)))
 
 pub inside-after-spec : {M : Type 1} → statement M

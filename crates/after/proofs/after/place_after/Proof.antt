@@ -1,5 +1,6 @@
 -- `session::after::place_after` meets its contract: BeginSession, else a session goes on.
 -- Assumes nothing.
+use Rattle.setting.specs.Views.{settingAs}
 use Rattle.after.proofs.Going.{outside-after}
 use Rattle.after.proofs.Kept.{work-long, work-past, rows-long, sums-long}
 use Rattle.after.specs.Kept.{workAfter, rowsAfter, sumsAfter}
@@ -21,7 +22,7 @@ returns : tie.Need-returns
 unfolding workAfter rowsAfter sumsAfter
 returns c =
     let a = c .before .before .before .before .args in
-    let k = outside-after (a .job .now) (a .attrs .now) (a .high) (a .gray) (a .o) (a .rows .now) (a .sums .now) (a .work .now) in
+    let k = outside-after (a .job .now) (a .attrs .now) (settingAs (a .set)) (a .o) (a .rows .now) (a .sums .now) (a .work .now) in
     rw (c .enum-told .given .1) (refl, (refl, (refl, (refl, (k, (refl, (refl, refl)))))))
 
 same-length : tie.Need-same-length

@@ -26,7 +26,7 @@ returns c =
         rw e,
         (
           rw e,
-          λ attrs high gray page. block-after (a .job .now) attrs high gray (a .o) (a .rows .now) (a .sums .now) (a .work .now) (b .last .1 .1 .0) (b .result) (t .if1 .taken) (b .ensures .1),
+          λ attrs by page. block-after (a .job .now) attrs by (a .o) (a .rows .now) (a .sums .now) (a .work .now) (b .last .1 .1 .0) (b .result) (t .if1 .taken) (b .ensures .1),
         ),
       ),
     )
@@ -46,7 +46,7 @@ returns-2 c =
         rw e (b .ensures .0),
         (
           rw e (b .ensures .1 .0),
-          λ attrs high gray page. b .ensures .1 .1 (a .job .now) attrs (a .work .now) high gray (a .o) page (l .if1 .left),
+          λ attrs by page. b .ensures .1 .1 (a .job .now) attrs (a .work .now) by (a .o) page (l .if1 .left),
         ),
       ),
     )

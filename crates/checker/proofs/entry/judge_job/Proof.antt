@@ -18,8 +18,8 @@ enum-known-code c = search needs
 told-requires : tie.Need-told-requires
 told-requires c κs = search needs
 
-enum-known-high : tie.Need-enum-known-high
-enum-known-high c = search needs
+enum-known-class : tie.Need-enum-known-class
+enum-known-class c = search needs
 
 judge-items-requires : tie.Need-judge-items-requires
 judge-items-requires c κs = search needs
@@ -45,9 +45,9 @@ returns-2 c =
     let h = g .before .before .before .before .before .before in
     let st = h .before .before .before .before in
     let a = st .args in
-    let e = rw (g .before .before .before .before .high .given .1) at (h .header-of .ensures .0) in
-    let n = rw (g .before .before .before .before .high .given .1) at (h .header-of .ensures .1) in
-    (g .judge-items .ensures .0, header-is (a .gray) (a .job .now) (a .list .now) _ (g .judge-items .result) _ _ e (g .judge-items .ensures .1 (st .pre .0) (st .pre .1) n))
+    let e = rw (g .before .before .before .before .class .given .1) at (h .header-of .ensures .0) in
+    let n = rw (g .before .before .before .before .class .given .1) at (h .header-of .ensures .1) in
+    (g .judge-items .ensures .0, header-is (a .gray) (a .job .now) (a .list .now) _ (g .judge-items .result) _ _ _ e (g .judge-items .ensures .1 (st .pre .0) (st .pre .1) n))
 
 pub judge-job-spec : {M : Type 1} → statement M
 judge-job-spec =
@@ -56,7 +56,7 @@ judge-job-spec =
     header-of-requires
     enum-known-code
     told-requires
-    enum-known-high
+    enum-known-class
     judge-items-requires
     returns
     same-length

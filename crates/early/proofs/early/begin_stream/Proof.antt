@@ -9,7 +9,7 @@ use Rattle.early.proofs.early.begin_stream.Tie as tie
 returns : tie.Need-returns
 returns c =
     let a = c .before .before .args in
-    λ sums x h k z t. begin-much (a .job .now) (a .attrs .now) x (a .o) t (keeps-length k) (c .if1 .taken)
+    λ set sums x h k z t. begin-much set (a .job .now) (a .attrs .now) x (a .o) t (keeps-length k) (c .if1 .taken)
 
 name-in-requires : tie.Need-name-in-requires
 name-in-requires c κs = search needs
@@ -28,7 +28,7 @@ returns-2 c =
     let f = c .before .before in
     let n = f .before .name-in in
     let a = f .before .before .before .before .args in
-    λ sums x h k z t. begin-at (a .job .now) (a .attrs .now) x (a .o) t (keeps-length k) (f .before .before .if1 .left) (n .ensures .1 z)
+    λ set sums x h k z t. begin-at set (a .job .now) (a .attrs .now) x (a .o) t (keeps-length k) (f .before .before .if1 .left) (n .ensures .1 z)
     (rw (c .enum-told .given .1) at (f .find .ensures .1 .0 sums (x .held) h k (n .ensures .0)))
 
 returns-3 : tie.Need-returns-3
@@ -36,7 +36,7 @@ returns-3 c =
     let f = c .before .before in
     let n = f .before .name-in in
     let a = f .before .before .before .before .args in
-    λ sums x h k z t. begin-nowhere (a .job .now) (a .attrs .now) x (a .o) t (keeps-length k) (f .before .before .if1 .left) (n .ensures .1 z)
+    λ set sums x h k z t. begin-nowhere set (a .job .now) (a .attrs .now) x (a .o) t (keeps-length k) (f .before .before .if1 .left) (n .ensures .1 z)
     (rw (c .enum-told2 .given .1) at (f .find .ensures .1 .0 sums (x .held) h k (n .ensures .0)))
 
 pub begin-stream-spec : {M : Type 1} → statement M

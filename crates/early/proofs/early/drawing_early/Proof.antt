@@ -10,14 +10,14 @@ exec-stream-requires : tie.Need-exec-stream-requires
 exec-stream-requires c κs = search needs
 
 returns : tie.Need-returns
-returns c = λ x h k z d m. c .exec-stream .ensures x h k z (c .before .if1 .taken)
+returns c = λ set x h k z d m. c .exec-stream .ensures set x h k z (c .before .if1 .taken)
 
 returns-2 : tie.Need-returns-2
 returns-2 c =
     let a = c .before .before .before .args in
-    λ x h k z d m. let b = x .opened in
+    λ set x h k z d m. let b = x .opened in
     let n = page-not b (x .busy) d (a .o .tag) in
-    fine-in (a .job .now) (a .attrs .now) x (a .o) (n 0x5b (page-not-begin b) (image-not-begin b) m) (n 0x5c (page-not-read b) (image-not-read b) m)
+    fine-in set (a .job .now) (a .attrs .now) x (a .o) (n 0x5b (page-not-begin b) (image-not-begin b) m) (n 0x5c (page-not-read b) (image-not-read b) m)
     (n 0x5d (page-not-end b) (image-not-end b) m) (c .if1 .left)
 
 pub drawing-early-spec : {M : Type 1} → statement M

@@ -1,5 +1,6 @@
 -- `session::early::early_of` meets its contract: between sessions nothing is judged.
 -- Assumes nothing.
+use Rattle.setting.specs.Views.{settingAs}
 use Rattle.early.proofs.Breaking.{outer-fine, inner-early}
 use borrow.Author.Needs.{needs}
 use Rattle.early.proofs.early.early_of.Statement.{statement}
@@ -17,13 +18,13 @@ inside-early-requires c κs = search needs
 returns : tie.Need-returns
 returns c =
     let a = c .before .before .before .before .args in
-    rw (c .enum-told .given .1) (λ q st high h s w m. outer-fine (a .attrs .now) q (a .o) st high h m)
+    rw (c .enum-told .given .1) (λ q st h s w m. outer-fine (settingAs (a .set)) (a .attrs .now) q (a .o) st h m)
 
 returns-2 : tie.Need-returns-2
 returns-2 c =
     let b = c .before .before in
     let a = b .before .before .before .before .args in
-    rw (b .place .given .1) (λ q st high h s w m. inner-early q (a .o) st high (c .inside-early .result) (c .inside-early .ensures) h s w m)
+    rw (b .place .given .1) (λ q st h s w m. inner-early (settingAs (a .set)) q (a .o) st (c .inside-early .result) (c .inside-early .ensures) h s w m)
 
 pub early-of-spec : {M : Type 1} → statement M
 early-of-spec =

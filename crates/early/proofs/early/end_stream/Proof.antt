@@ -1,6 +1,7 @@
 -- `session::early::end_stream` meets its contract: what the motif is judged to.
 -- Assumes nothing.
 use Rattle.early.proofs.Parts.{part-same, part-short}
+use Rattle.setting.specs.Views.{settingAs}
 use Rattle.early.proofs.Breaking.{end-valid, end-faulty}
 use Prim.Native.Nat.{_+_, _-_}
 use native.Mathlib.Omega.{arith}
@@ -46,7 +47,7 @@ returns-3 c =
     let j = c .before .before .before in
     let a = j .before .before .before .before .before .before .args in
     let n : a .used + a .joined - a .used ≡ a .joined = omega arith in
-    λ attrs x o h k w l e t. end-valid (a .job .now) attrs x o t (part-same (a .work .now) (a .used) n ∙ e)
+    λ attrs x o h k w l e t. end-valid (settingAs (a .set)) (a .job .now) attrs x o t (part-same (a .work .now) (a .used) n ∙ e)
     (rw (c .before .depth .given .1) at (j .judge-motif .ensures (x .held) h k))
 
 returns-4 : tie.Need-returns-4
@@ -54,7 +55,7 @@ returns-4 c =
     let j = c .before .before .before in
     let a = j .before .before .before .before .before .before .args in
     let n : a .used + a .joined - a .used ≡ a .joined = omega arith in
-    λ attrs x o h k w l e t. end-faulty (a .job .now) attrs x o t (part-same (a .work .now) (a .used) n ∙ e) (part-short (a .work .now) (a .used) n (omega arith))
+    λ attrs x o h k w l e t. end-faulty (settingAs (a .set)) (a .job .now) attrs x o t (part-same (a .work .now) (a .used) n ∙ e) (part-short (a .work .now) (a .used) n (omega arith))
     (rw (c .before .code .given .1) at (j .judge-motif .ensures (x .held) h k))
 
 pub end-stream-spec : {M : Type 1} → statement M

@@ -33,7 +33,7 @@ returns c =
     let f = c .before .before .before .before in
     let n = f .before .name-in in
     let a = f .before .before .before .args in
-    λ x h k z t. exec-at (a .job .now) (a .attrs .now) x (a .o) t (n .ensures .1 z)
+    λ set x h k z t. exec-at set (a .job .now) (a .attrs .now) x (a .o) t (n .ensures .1 z)
     (rw (c .before .before .i .given .1) at (f .find .ensures .1 .0 (a .sums .now) (x .held) h k (n .ensures .0)))
 
 returns-2 : tie.Need-returns-2
@@ -41,7 +41,7 @@ returns-2 c =
     let f = c .before .before in
     let n = f .before .name-in in
     let a = f .before .before .before .args in
-    λ x h k z t. exec-nowhere (a .job .now) (a .attrs .now) x (a .o) t (n .ensures .1 z)
+    λ set x h k z t. exec-nowhere set (a .job .now) (a .attrs .now) x (a .o) t (n .ensures .1 z)
     (rw (c .enum-told .given .1) at (f .find .ensures .1 .0 (a .sums .now) (x .held) h k (n .ensures .0)))
 
 pub exec-stream-spec : {M : Type 1} → statement M

@@ -1,5 +1,6 @@
 -- `session::early::inside_early` meets its contract: case by case of what the session is at.
 -- Assumes nothing.
+use Rattle.setting.specs.Views.{settingAs}
 use Rattle.place.proofs.Standing.{rest-phase, is-drawn}
 use borrow.Author.Needs.{needs}
 use Rattle.early.proofs.early.inside_early.Statement.{statement}
@@ -26,7 +27,7 @@ drawing-early-requires c κs = search needs
 returns : tie.Need-returns
 returns c =
     let a = c .before .before .before .before .before .args in
-    rw (c .before .enum-told .given .1) (λ x h u k y s w m. c .resting-early .ensures (a .sums .now) x h k s (rw (← rest-phase y) at m))
+    rw (c .before .enum-told .given .1) (λ x h u k y s w m. c .resting-early .ensures (settingAs (a .set)) (a .sums .now) x h k s (rw (← rest-phase y) at m))
 
 returns-2 : tie.Need-returns-2
 returns-2 c =
@@ -36,7 +37,8 @@ returns-2 c =
 
 returns-3 : tie.Need-returns-3
 returns-3 c =
-    rw (c .before .enum-told2 .given .1) (λ x h u k y s w m. c .drawing-early .ensures x h k s (is-drawn y) m)
+    let a = c .before .before .before .before .before .args in
+    rw (c .before .enum-told2 .given .1) (λ x h u k y s w m. c .drawing-early .ensures (settingAs (a .set)) x h k s (is-drawn y) m)
 
 pub inside-early-spec : {M : Type 1} → statement M
 inside-early-spec =

@@ -1,5 +1,6 @@
 -- `session::early::reading_early` meets its contract: ReadStream, else EndStream.
 -- Assumes nothing.
+use Rattle.setting.specs.Views.{settingAs}
 use Rattle.early.proofs.Tags.{stream-ends}
 use Rattle.place.proofs.Standing.{stream-phase, read-long, read-bytes, read-within}
 use borrow.Author.Needs.{needs}
@@ -12,7 +13,7 @@ read-stream-requires c κs = search needs
 returns : tie.Need-returns
 returns c =
     let a = c .before .before .before .before .before .args in
-    λ attrs x first count h u k y w m. c .read-stream .ensures (a .job .now) attrs x u (read-long y) (read-within y) (c .before .if1 .taken)
+    λ attrs x first count h u k y w m. c .read-stream .ensures (settingAs (a .set)) (a .job .now) attrs x u (read-long y) (read-within y) (c .before .if1 .taken)
 
 end-stream-requires : tie.Need-end-stream-requires
 end-stream-requires c κs = search needs

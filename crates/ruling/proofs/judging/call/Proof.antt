@@ -22,8 +22,8 @@ call-requires c κs = search needs
 returns : tie.Need-returns
 returns c =
     let a = c .before .before .before .before .args in
-    λ q st job rows sums work high o h e f.
-    call-judged high job st (sessionOf q) o (c .before .before .opened-in .result) (a .performed) (c .call .result)
+    λ q st job rows sums work by o h e f.
+    call-judged by job st (sessionOf q) o (c .before .before .opened-in .result) (a .performed) (c .call .result)
     (c .before .before .opened-in .ensures q job rows sums work h) e (a .sum) f
     (λ row k. c .call .ensures _ _ row (c .before .before .before .page-in .ensures q job rows sums work h) refl (c .before .unpacked .ensures row k))
 

@@ -8,6 +8,7 @@ use native.Mathlib.Omega.{arith}
 use lib.Dec.{eqb}
 use types.Run.{OneOf}
 use denote.Enum.Declared.{tagOf}
+use Rattle.setting.specs.Views.{settingAs}
 use Rattle.reader.specs.Reads.{operatorAs}
 use Rattle.scope.specs.Judge.{Case, caseOf, outer}
 use Rattle.scope.specs.Session.{sessionOf}
@@ -42,7 +43,7 @@ returns c =
 returns-2 : tie.Need-returns-2
 returns-2 c =
     let a = c .before .before .before .before .before .args in
-    λ q st rows sums work h z e f. rw (c .before .before .early2 .given .1) (c .call .ensures q st (a .job .now) rows sums work (a .high) (operatorAs (a .o) (a .attrs .now)) h e (rw (c .before .before .early2 .given .1) at f))
+    λ q st rows sums work h z e f. rw (c .before .before .early2 .given .1) (c .call .ensures q st (a .job .now) rows sums work (settingAs (a .set)) (operatorAs (a .o) (a .attrs .now)) h e (rw (c .before .before .early2 .given .1) at f))
 
 -- none of the earlier rules is broken, and it is no call
 others-judged : (c : Case) {m : Moved} (early : Early) → OneOf (0 ∷ 2 ∷ []) (tagOf the-type early) → Earlies c early
@@ -57,7 +58,7 @@ unfolding caseOf
 returns-3 c =
     let a = c .before .before .before .args in
     λ q st rows sums work h z e f.
-    others-judged (caseOf (a .high) (a .job .now) st (sessionOf q) (operatorAs (a .o) (a .attrs .now))) (a .early) (c .before .match .keys3) f
+    others-judged (caseOf (settingAs (a .set)) (a .job .now) st (sessionOf q) (operatorAs (a .o) (a .attrs .now))) (a .early) (c .before .match .keys3) f
     (λ t u. c .perform .ensures q st rows sums work h z e t u)
 
 pub judge-spec : {M : Type 1} → statement M

@@ -1,6 +1,7 @@
 -- `judging::perform` meets its contract: the arm's own answer, of a plain operator by the shorter way.
 -- Assumes nothing.
 use mathlib.Core.Path.{sym, ap, _∙_}
+use Rattle.setting.specs.Views.{settingAs}
 use Rattle.arm.specs.Views.{keeping}
 use Rattle.reader.specs.Reads.{operatorAs}
 use Rattle.scope.specs.Session.{sessionOf}
@@ -32,10 +33,10 @@ returns c =
     let a = i .before .before .before .args in
     λ q st rows sums work h z e t u.
     let o = operatorAs (a .o) (a .attrs .now) in
-    plain-judged (a .high) (a .job .now) st (sessionOf q) o (i .opened-in .result) (a .performed) (c .keep .result)
+    plain-judged (settingAs (a .set)) (a .job .now) st (sessionOf q) o (i .opened-in .result) (a .performed) (c .keep .result)
     (i .opened-in .ensures q (a .job .now) rows sums work h) e u t
     (c .keep .ensures _ _ (i .before .page-in .ensures q (a .job .now) rows sums work h)
-    (plain-keeps (a .high) (a .job .now) o (sym (p .is-plain .ensures) ∙ c .before .before .if1 .taken) ∙ ap (keeping (a .o .reads)) (sym (c .before .needs-cursor .ensures))))
+    (plain-keeps (settingAs (a .set)) (a .job .now) o (sym (p .is-plain .ensures) ∙ c .before .before .if1 .taken) ∙ ap (keeping (a .o .reads)) (sym (c .before .needs-cursor .ensures))))
 
 act-of-requires : tie.Need-act-of-requires
 act-of-requires c κs = search needs
@@ -49,9 +50,9 @@ returns-2 c =
     let a = i .before .before .before .args in
     λ q st rows sums work h z e t u.
     let o = operatorAs (a .o) (a .attrs .now) in
-    plain-judged (a .high) (a .job .now) st (sessionOf q) o (i .opened-in .result) (a .performed) (c .perform .result)
+    plain-judged (settingAs (a .set)) (a .job .now) st (sessionOf q) o (i .opened-in .result) (a .performed) (c .perform .result)
     (i .opened-in .ensures q (a .job .now) rows sums work h) e u t
-    (c .perform .ensures _ _ (i .before .page-in .ensures q (a .job .now) rows sums work h) (sym (c .before .act-of .ensures z ∙ act-is (a .high) (a .job .now) o)))
+    (c .perform .ensures _ _ (i .before .page-in .ensures q (a .job .now) rows sums work h) (sym (c .before .act-of .ensures z ∙ act-is (settingAs (a .set)) (a .job .now) o)))
 
 pub perform-spec : {M : Type 1} → statement M
 perform-spec =

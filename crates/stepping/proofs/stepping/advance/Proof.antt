@@ -5,6 +5,7 @@ use lib.ListN.{length}
 use mathlib.Core.List.{List, []}
 use mathlib.Core.Path.{refl, sym, ap, _∙_, _≡_}
 use native.Mathlib.Omega.{arith}
+use Rattle.setting.specs.Views.{settingAs}
 use Rattle.scope.proofs.Placed.{read-placed}
 use Rattle.items.proofs.Pairs.{scan-end}
 use Rattle.scope.specs.Verdict.{every, told}
@@ -12,7 +13,7 @@ use Rattle.scope.specs.Item.{scanAt, endedWith}
 use Rattle.scope.specs.Reading.{Context, Read, scanned, operatorAt}
 use Rattle.scope.specs.Judge.{contextOf, refusedAt, jobStep, outer}
 use Rattle.scope.specs.Judge as scope
-use Rattle.scope.specs.Session.{Setting}
+use Rattle.scope.specs.Setting.{Setting}
 use Rattle.order.specs.Views.{phaseAs}
 use Rattle.reader.specs.Reads.{readAs}
 use Rattle.reader.specs.declared.reading.Read.{Read as CodeRead}
@@ -25,7 +26,7 @@ use Rattle.stepping.proofs.stepping.advance.Tie as tie
 -- at the end nothing is read
 read-end : (c : Context) (s : List ℕ) (at : ℕ) → length s ≤ at → operatorAt c s at ≡ Read.ended
 unfolding operatorAt scanAt scanned endedWith
-read-end c s at h = rw (scan-end (c .high) s at [] h)
+read-end c s at h = rw (scan-end (c .set .high) s at [] h)
 
 -- where the reading of an operator started
 abbrev begun : tie.After-operator-at → tie.Start
@@ -35,11 +36,11 @@ begun c = c .before .before .before .before .before .before .before .before .bef
 read-is : (c : tie.After-operator-at) (r : CodeRead) → c .operator-at .result ≡ r → (list₀ : List ℕ) (l : Lent) (d : scope.State) → length (begun c .args .attrs .now) ≡ 80
     → l .rows ≡ begun c .args .rows .now
     → Stands (begun c .args .job .now) list₀ l (begun c .args .st) d
-    → operatorAt (contextOf every (begun c .args .high) (d .place)) (begun c .args .job .now) (d .at)
+    → operatorAt (contextOf every (settingAs (begun c .args .set)) (d .place)) (begun c .args .job .now) (d .at)
     ≡ readAs r (c .operator-at .last .1 .1 .1 .0)
 read-is c r e list₀ l d z y h =
     let a = begun c .args in
-    sym (context-is (a .high) (a .job .now) (a .st .at) d (phaseAs (c .before .before .before .phase-of .result)) (c .before .before .opened-in .result) (h .at)
+    sym (context-is (settingAs (a .set)) (a .job .now) (a .st .at) d (phaseAs (c .before .before .before .phase-of .result)) (c .before .before .opened-in .result) (h .at)
     (c .before .before .before .phase-of .ensures (d .place) (a .job .now) (l .rows) (l .sums) (l .work) (h .place))
     (c .before .before .opened-in .ensures (d .place) (a .job .now) (l .rows) (l .sums) (l .work) (h .place))) ∙ sym (c .operator-at .ensures .1 .0 z) ∙ ap (λ x. readAs x (c .operator-at .last .1 .1 .1 .0)) e
 
@@ -62,8 +63,8 @@ returns c =
         (
           tt,
           λ d list₀ l z h.
-              let set : Setting = record { high = a .high; gray = a .gray } in
-              let q = read-end (contextOf every (a .high) (d .place)) (a .job .now) (d .at) (omega (arith, c .before .before .before .is-over .ensures (c .before .before .if1 .taken), h .at)) in
+              let set : Setting = settingAs (a .set) in
+              let q = read-end (contextOf every (settingAs (a .set)) (d .place)) (a .job .now) (d .at) (omega (arith, c .before .before .before .is-over .ensures (c .before .before .if1 .taken), h .at)) in
               stopped (c .stop .result) (jobStep every set (a .job .now) (length list₀) d) (endCode (d .place)) (length (a .job .now)) outer h (step-ended set (a .job .now) (length list₀) d q)
               (c .stop .ensures d (omega (arith, st .pre)) (omega (arith, st .pre)) (h .records) (h .performed)
               ∙ ap (λ k. told (refusedAt k (length (a .job .now)) outer d)) (c .before .end-code .ensures (d .place) _ _ _ _ (h .place))),
@@ -116,9 +117,9 @@ returns-2 c =
         (
           tt,
           λ d list₀ l z h.
-              let set : Setting = record { high = a .high; gray = a .gray } in
+              let set : Setting = settingAs (a .set) in
               let q = read-is f _ (c .before .before .code .given .1) list₀ _ d z refl h in
-              let p = read-placed (contextOf every (a .high) (d .place)) (a .job .now) (d .at) _ _ q in
+              let p = read-placed (contextOf every (settingAs (a .set)) (d .place)) (a .job .now) (d .at) _ _ q in
               stopped (c .stop2 .result) (jobStep every set (a .job .now) (length list₀) d) _ _ outer h (step-no set (a .job .now) (length list₀) d _ _ q)
               (c .stop2 .ensures d (omega (arith, p, st .pre)) (omega (arith, st .pre)) (h .records) (h .performed)),
         ),
@@ -136,7 +137,7 @@ returns-3 c =
         (
           tt,
           λ d list₀ l z h.
-              let set : Setting = record { high = a .high; gray = a .gray } in
+              let set : Setting = settingAs (a .set) in
               let q = read-is f _ (c .before .before .enum-told .given .1) list₀ _ d z refl h in
               stopped (c .stop3 .result) (jobStep every set (a .job .now) (length list₀) d) (endCode (d .place)) (length (a .job .now)) outer h (step-ended set (a .job .now) (length list₀) d q)
               (c .stop3 .ensures d (omega (arith, st .pre)) (omega (arith, st .pre)) (h .records) (h .performed)
@@ -165,7 +166,7 @@ returns-4 c =
         (
           g .perform .ensures .1 .0,
           λ d list₀ l z h.
-              let set : Setting = record { high = a .high; gray = a .gray } in
+              let set : Setting = settingAs (a .set) in
               let q = read-is f _ e list₀ _ d z refl h in
               steps-read set d _ q (g .perform .ensures .1 .1 d list₀ l (record { long = f .operator-at .ensures .0 ∙ z; few = w .4 }) (w .3) h q),
         ),

@@ -1,6 +1,7 @@
 -- `go_on` meets its contract.
 -- Assumes nothing.
-use Rattle.scope.specs.Session.{Setting}
+use Rattle.setting.specs.Views.{settingAs}
+use Rattle.scope.specs.Setting.{Setting}
 use mathlib.Core.Bool.{true, false}
 use mathlib.Core.Path.{refl, sym, _∙_, _≡_}
 use native.Mathlib.Omega.{arith}
@@ -32,8 +33,8 @@ returns c =
         tt,
         λ d list₀ l z w h m.
             let o = operatorAs (a .o) (a .attrs .now) in
-            let y = e .list-operator .ensures .1 .0 z (comes-bytes (a .job .now) list₀ (record { high = a .high; gray = a .gray }) d o (a .early) (a .page) (a .performed) m) in
-            listed-no (a .job .now) list₀ _ (a .st) d (record { high = a .high; gray = a .gray }) o (a .o .count) h (sym (length-rows (a .attrs .now) (a .o .count))) l (m .rules) _ (c .stop .result)
+            let y = e .list-operator .ensures .1 .0 z (comes-bytes (a .job .now) list₀ (settingAs (a .set)) d o (a .early) (a .page) (a .performed) m) in
+            listed-no (a .job .now) list₀ _ (a .st) d (settingAs (a .set)) o (a .o .count) h (sym (length-rows (a .attrs .now) (a .o .count))) l (m .rules) _ (c .stop .result)
             (rw f at (y .1)) (sym f ∙ y .0)
             (c .stop .ensures d (omega (arith, st .pre)) (omega (arith, st .pre)) (h .records) (h .performed)),
       ),
@@ -42,11 +43,11 @@ returns c =
 place-after-requires : tie.Need-place-after-requires
 place-after-requires c κs = search needs
 
+add-t24 : tie.Need-add-t24
+add-t24 c = search needs
+
 add-t25 : tie.Need-add-t25
 add-t25 c = search needs
-
-add-t26 : tie.Need-add-t26
-add-t26 c = search needs
 
 same-length-2 : tie.Need-same-length-2
 same-length-2 c = search needs
@@ -67,7 +68,7 @@ returns-2 c =
         (omega (arith, st .pre), omega (arith, st .pre), omega (arith, st .pre)),
         λ d list₀ l z w h m.
             let o = operatorAs (a .o) (a .attrs .now) in
-            let set : Setting = record { high = a .high; gray = a .gray } in
+            let set : Setting = settingAs (a .set) in
             let y = e .list-operator .ensures .1 .0 z (comes-bytes (a .job .now) list₀ set d o (a .early) (a .page) (a .performed) m) in
             listed-go (a .job .now) list₀ _ (a .st) d set o (a .o .count) h (sym (length-rows (a .attrs .now) (a .o .count))) l (m .rules) _ _
             (sym f ∙ y .0) refl
@@ -85,8 +86,8 @@ go-on-spec =
     same-length
     returns
     place-after-requires
+    add-t24
     add-t25
-    add-t26
     same-length-2
     same-length-3
     returns-2)

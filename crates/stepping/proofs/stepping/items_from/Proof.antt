@@ -4,7 +4,8 @@ use Prim.Native.Nat.{_-_, _*_, _≤_}
 use mathlib.Core.Path.{_≡_, refl, sym, _∙_}
 use native.Mathlib.Omega.{arith}
 use lib.ListN.{length, drop}
-use Rattle.scope.specs.Session.{Setting}
+use Rattle.setting.specs.Views.{settingAs}
+use Rattle.scope.specs.Setting.{Setting}
 use Rattle.scope.specs.Judge as scope
 use Rattle.scope.specs.Judge.{judgedFrom}
 use Rattle.scope.specs.Verdict.{every}
@@ -16,14 +17,14 @@ use Rattle.stepping.proofs.stepping.items_from.Statement.{statement}
 use Rattle.stepping.proofs.stepping.items_from.Tie as tie
 
 abbrev Inv-loop : tie.InvT-loop
-Inv-loop job high gray next work₀ list₀ rows₀ sums₀ attrs₀ st₀ work list rows sums attrs st =
+Inv-loop job set next work₀ list₀ rows₀ sums₀ attrs₀ st₀ work list rows sums attrs st =
     (length work ≡ length work₀) × (length list ≡ length list₀) × (length attrs ≡ 80) × (st .at ≤ length job) × (st .records ≤ st .at * 17)
     × (drop 16384 work ≡ drop 16384 work₀)
     × ((d : scope.State) × (Stands job list₀ (record { rows = rows; sums = sums; work = work; list = list }) st d
-    × (judgedFrom every (record { high = high; gray = gray }) job (length list₀) d ≡ judgedFrom every (record { high = high; gray = gray }) job (length list₀) (scope.starting next))))
+    × (judgedFrom every (settingAs set) job (length list₀) d ≡ judgedFrom every (settingAs set) job (length list₀) (scope.starting next))))
 
 abbrev μ-loop : tie.MeasureT-loop
-μ-loop job high gray next work₀ list₀ rows₀ sums₀ attrs₀ st₀ work list rows sums attrs st = length job - st .at
+μ-loop job set next work₀ list₀ rows₀ sums₀ attrs₀ st₀ work list rows sums attrs st = length job - st .at
 
 loop-holds : tie.Need-loop-holds Inv-loop μ-loop
 loop-holds c =
@@ -70,7 +71,7 @@ loop-again c =
     let e = c .before .on .given .1 in
     let n = d .advance .ensures in
     let p = rw e at (n .1 .1 .0) in
-    let set : Setting = record { high = a .high; gray = a .gray } in
+    let set : Setting = settingAs (a .set) in
     let g = r .run-on .ensures .leads (a .list .now) _ _ _ set (i .6 .0) (sym (i .1)) (i .6 .1 .0) in
     let l = r .run-on .ensures .long ∙ i .1 in (
       n .0 .work-long ∙ i .0,
@@ -100,7 +101,7 @@ returns c =
     let a = h .before .before .before .before .args in
     let e = c .before .verdict .given .1 in
     let n = d .advance .ensures in
-    let set : Setting = record { high = a .high; gray = a .gray } in
+    let set : Setting = settingAs (a .set) in
     let g = r .run-on .ensures .leads (a .list .now) _ _ _ set (i .6 .0) (sym (i .1)) (i .6 .1 .0) in
     let l = r .run-on .ensures .long ∙ i .1 in (
       record { work-long = n .0 .work-long ∙ i .0; list-long = n .0 .list-long ∙ l; rest = n .0 .rest ∙ i .5 },

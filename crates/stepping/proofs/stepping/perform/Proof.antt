@@ -3,10 +3,11 @@
 use lib.ListN.{length}
 use mathlib.Core.Path.{refl, ap, _∙_}
 use native.Mathlib.Omega.{arith}
+use Rattle.setting.specs.Views.{settingAs}
 use Rattle.scope.specs.Verdict.{every, told}
 use Rattle.scope.specs.Reading.{operator}
 use Rattle.scope.specs.Judge.{contextOf, refusedAt, onRead}
-use Rattle.scope.specs.Session.{Setting}
+use Rattle.scope.specs.Setting.{Setting}
 use Rattle.reader.specs.Reads.{operatorAs}
 use Rattle.ruling.specs.Judged.{innerOf}
 use Rattle.ruling.proofs.Turns.{read-may, stopped, step-refused, judged-refused, judged-rules, judged-page, judged-count, judged-passes}
@@ -50,8 +51,8 @@ returns c =
         tt,
         λ d list₀ l z w h q.
             let o = operatorAs (a .o) (a .attrs .now) in
-            let set : Setting = record { high = a .high; gray = a .gray } in
-            let r = e .early-of .ensures (d .place) d (a .high) (h .place) z (st .pre .1) (read-may (contextOf every (a .high) (d .place)) (a .job .now) (d .at) o q) in
+            let set : Setting = settingAs (a .set) in
+            let r = e .early-of .ensures (d .place) d (h .place) z (st .pre .1) (read-may (contextOf every (settingAs (a .set)) (d .place)) (a .job .now) (d .at) o q) in
             let n = rw (c .before .before .before .code .given .1) at (j .judge .ensures (d .place) d _ _ _ (h .place) z (h .performed) r) in
             stopped (c .stop .result) (onRead every set (a .job .now) (length list₀) d (operator o)) _ (a .o .at) (innerOf (e .early-of .result)) h
             (step-refused set (a .job .now) (length list₀) d o _ _ (judged-refused n (length list₀)))
@@ -78,7 +79,7 @@ returns-2 c =
         g .go-on .ensures .1 .0,
         λ d list₀ l z w h q.
             let o = operatorAs (a .o) (a .attrs .now) in
-            let r = e .early-of .ensures (d .place) d (a .high) (h .place) z (st .pre .1) (read-may (contextOf every (a .high) (d .place)) (a .job .now) (d .at) o q) in
+            let r = e .early-of .ensures (d .place) d (h .place) z (st .pre .1) (read-may (contextOf every (settingAs (a .set)) (d .place)) (a .job .now) (d .at) o q) in
             let n = rw (g .before .before .before .before .before .before .page .given .1) at (j .judge .ensures (d .place) d _ _ _ (h .place) z (h .performed) r) in
             g .go-on .ensures .1 .1 d list₀ l z w h
             (record { read = q; passes = judged-passes (e .early-of .result) n r; earlier = r; drawn = judged-page n; counts = judged-count n; rules = judged-rules n (length list₀) }),

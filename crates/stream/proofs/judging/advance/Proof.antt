@@ -4,6 +4,7 @@ use lib.ListN.{length}
 use mathlib.Core.List.{List}
 use mathlib.Core.Path.{refl, sym, _∙_, _≡_}
 use native.Mathlib.Omega.{arith}
+use Rattle.setting.specs.Views.{settingAs}
 use Rattle.motif.proofs.Keeping.{keeps-balanced}
 use Rattle.scope.specs.Reading.{operatorAt}
 use Rattle.scope.specs.Motif as scope
@@ -19,10 +20,10 @@ use Rattle.stream.proofs.judging.advance.Tie as tie
 -- what was read is what the definition reads where it stands
 read-is : (c : tie.After-operator-at) (ms : List Motif) (w : scope.Inside) → length (c .before .before .before .before .before .args .attrs .now) ≡ 80
     → Follows ms (c .before .before .before .before .before .args .inside) w
-    → operatorAt (contextIn (c .before .before .before .before .before .args .high) w) (c .before .before .before .before .before .args .s .now) (w .at) ≡ readAs (c .operator-at .result) (c .operator-at .last .1 .1 .1 .0)
+    → operatorAt (contextIn (settingAs (c .before .before .before .before .before .args .set)) w) (c .before .before .before .before .before .args .s .now) (w .at) ≡ readAs (c .operator-at .result) (c .operator-at .last .1 .1 .1 .0)
 read-is c ms w l g =
     let a = c .before .before .before .before .before .args in
-    sym (context-is ms (a .high) (a .s .now) (a .inside) w (phaseAs (c .before .before .phase-in .result)) g (c .before .before .phase-in .ensures)) ∙ sym (c .operator-at .ensures .1 .0 l)
+    sym (context-is ms (settingAs (a .set)) (a .s .now) (a .inside) w (phaseAs (c .before .before .phase-in .result)) g (c .before .before .phase-in .ensures)) ∙ sym (c .operator-at .ensures .1 .0 l)
 
 phase-in-requires : tie.Need-phase-in-requires
 phase-in-requires c κs = search needs
@@ -56,7 +57,7 @@ returns c =
       f .operator-at .ensures .0,
       (
         ahead-lands (length (a .s .now)) (a .inside .at) (o .next) (a .inside .saved) (c .call .result) (omega arith) (v .2) (st .pre .1) (c .call .ensures .0),
-        λ ms w l h k g. step-call ms (a .high) (a .s .now) w _ _ (read-is f ms w l g ∙ rw e) (c .before .before .if1 .taken)
+        λ ms w l h k g. step-call ms (settingAs (a .set)) (a .s .now) w _ _ (read-is f ms w l g ∙ rw e) (c .before .before .if1 .taken)
             (c .call .ensures .1 ms w (record { long = f .operator-at .ensures .0 ∙ l; few = v .4 }) h k g),
       ),
     )
@@ -68,7 +69,7 @@ returns-2 : tie.Need-returns-2
 returns-2 c =
     let f = c .before .before .before in
     let a = f .before .before .before .before .before .args in
-    (f .operator-at .ensures .0, (tt, λ ms w l h k g. step-no ms (a .high) (a .s .now) w _ _ (read-is f ms w l g ∙ rw (c .before .code .given .1))))
+    (f .operator-at .ensures .0, (tt, λ ms w l h k g. step-no ms (settingAs (a .set)) (a .s .now) w _ _ (read-is f ms w l g ∙ rw (c .before .code .given .1))))
 
 returns-3 : tie.Need-returns-3
 returns-3 c =
@@ -77,7 +78,7 @@ returns-3 c =
       f .operator-at .ensures .0,
       (
         tt,
-        λ ms w l h k g. step-ended ms (a .high) (a .s .now) w _ (read-is f ms w l g ∙ rw (c .before .enum-told .given .1))
+        λ ms w l h k g. step-ended ms (settingAs (a .set)) (a .s .now) w _ (read-is f ms w l g ∙ rw (c .before .enum-told .given .1))
             (c .ended .ensures ms w (a .s .now) refl (keeps-balanced k) g),
       ),
     )
@@ -95,9 +96,9 @@ returns-4 c =
         ahead-lands (length (a .s .now)) (a .inside .at) (o .next) (a .inside .saved) (c .deed .result) (omega arith) (v .2) (st .pre .1) (c .deed .ensures .0),
         λ ms w l h k g.
             let q = rw e at (read-is f ms w l g) in
-            step-deed ms (a .high) (a .s .now) w _ _ q (c .before .before .if1 .left)
+            step-deed ms (settingAs (a .set)) (a .s .now) w _ _ q (c .before .before .if1 .left)
             (c .deed .ensures .1 ms w (record { long = f .operator-at .ensures .0 ∙ l; few = v .4 }) g
-            (rows-read (a .high) (a .s .now) w _ q) (pop-read (a .high) (a .s .now) w _ q)),
+            (rows-read (settingAs (a .set)) (a .s .now) w _ q) (pop-read (settingAs (a .set)) (a .s .now) w _ q)),
       ),
     )
 

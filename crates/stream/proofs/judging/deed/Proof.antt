@@ -1,5 +1,6 @@
 -- `deed` meets its contract.
 -- Assumes nothing.
+use Rattle.setting.specs.Views.{settingAs}
 use Rattle.scope.specs.Order.{rowsFit}
 use Rattle.stream.proofs.Turning.{saved-most}
 use mathlib.Core.Bool.{true}
@@ -33,10 +34,10 @@ returns c =
       (refl, saved-most (a .o .tag) (a .inside .saved) _ (c .saved-after .ensures)),
       λ ms w z f fit pop.
           let o = operatorAs (a .o) (a .attrs .now) in
-          let g = subst⁻¹ (λ i. rowsFit (a .high) (a .s .now) (imageIn i) (o .tag) (o .attrs) ≡ true) (f .picture) fit in
-          let v = p .picture-after .ensures z g ∙ ap (λ i. pictureFor (a .high) (a .s .now) (o .tag) (o .attrs) i) (f .picture) ∙ picture-is (a .high) (a .s .now) o (w .picture) in
-          deed-on ms (a .high) (a .s .now) o w (a .inside) _ f refl (c .saved-after .ensures) v refl
-          (λ row x r i. c .before .step .ensures row x r (i ∙ sym (act-is (a .high) (a .s .now) o) ∙ sym (p .before .act-of .ensures z))) pop,
+          let g = subst⁻¹ (λ i. rowsFit (a .set .high) (a .s .now) (imageIn i) (o .tag) (o .attrs) ≡ true) (f .picture) fit in
+          let v = p .picture-after .ensures z g ∙ ap (λ i. pictureFor (a .set .high) (a .s .now) (o .tag) (o .attrs) i) (f .picture) ∙ picture-is (a .set .high) (a .s .now) o (w .picture) in
+          deed-on ms (settingAs (a .set)) (a .s .now) o w (a .inside) _ f refl (c .saved-after .ensures) v refl
+          (λ row x r i. c .before .step .ensures row x r (i ∙ sym (act-is (settingAs (a .set)) (a .s .now) o) ∙ sym (p .before .act-of .ensures z))) pop,
     )
 
 pub deed-spec : {M : Type 1} → statement M

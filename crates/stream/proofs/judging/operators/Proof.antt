@@ -5,6 +5,7 @@ use mathlib.Core.Path.{_≡_, refl, _∙_}
 use mathlib.Core.List.{List}
 use native.Mathlib.Omega.{arith}
 use lib.ListN.{length}
+use Rattle.setting.specs.Views.{settingAs}
 use Rattle.scope.specs.Motif as scope
 use Rattle.scope.specs.Motif.{Motif, judgedInside}
 use Rattle.motif.specs.Held.{Keeps}
@@ -15,13 +16,13 @@ use Rattle.stream.proofs.judging.operators.Statement.{statement}
 use Rattle.stream.proofs.judging.operators.Tie as tie
 
 abbrev Inv-loop : tie.InvT-loop
-Inv-loop s high next job rows sums held attrs₀ inside₀ attrs inside =
+Inv-loop s set next job rows sums held attrs₀ inside₀ attrs inside =
     (length attrs ≡ length attrs₀) × (inside .at ≤ length s) × (inside .saved ≤ inside .at)
     × ((ms : List Motif) → length attrs₀ ≡ 80 → held ≤ 64 → Keeps job rows sums held ms
-    → (w : scope.Inside) × (Follows ms inside w × (judgedInside ms high s w ≡ judgedInside ms high s (starting next))))
+    → (w : scope.Inside) × (Follows ms inside w × (judgedInside ms (settingAs set) s w ≡ judgedInside ms (settingAs set) s (starting next))))
 
 abbrev μ-loop : tie.MeasureT-loop
-μ-loop s high next job rows sums held attrs₀ inside₀ attrs inside = length s - inside .at
+μ-loop s set next job rows sums held attrs₀ inside₀ attrs inside = length s - inside .at
 
 fresh-requires : tie.Need-fresh-requires Inv-loop μ-loop
 fresh-requires c κs = search needs
@@ -54,7 +55,7 @@ loop-again c =
       p .2,
       λ ms z h k.
           let v = l .inv .3 ms z h k in
-          turned-go ms (a .high) (a .s .now) _ _ (v .0) (v .1 .1) (rw e at (d .advance .ensures .1 .1 ms (v .0) (l .inv .0 ∙ z) h k (v .1 .0))),
+          turned-go ms (settingAs (a .set)) (a .s .now) _ _ (v .0) (v .1 .1) (rw e at (d .advance .ensures .1 .1 ms (v .0) (l .inv .0 ∙ z) h k (v .1 .0))),
     )
 
 enum-known-judged : tie.Need-enum-known-judged Inv-loop μ-loop
@@ -69,7 +70,7 @@ returns c =
       d .advance .ensures .0 ∙ l .inv .0,
       λ ms z h k.
           let v = l .inv .3 ms z h k in
-          turned-stop ms (a .high) (a .s .now) _ _ (v .0) (v .1 .1) (rw e at (d .advance .ensures .1 .1 ms (v .0) (l .inv .0 ∙ z) h k (v .1 .0))),
+          turned-stop ms (settingAs (a .set)) (a .s .now) _ _ (v .0) (v .1 .1) (rw e at (d .advance .ensures .1 .1 ms (v .0) (l .inv .0 ∙ z) h k (v .1 .0))),
     )
 
 pub operators-spec : {M : Type 1} → statement M
