@@ -14,8 +14,8 @@
 extern "C" {
 #endif
 
-/* The version of the library. */
-#define DIEUVAKHOP_VERSION "1.0"
+/* The version of the library. 2.0: dieuvakhop_check has the parameter rgb. */
+#define DIEUVAKHOP_VERSION "2.0"
 
 /* The longest job that is judged, in bytes. A longer one gets code 1. */
 #define DIEUVAKHOP_JOB_MOST 61440u
