@@ -2,7 +2,6 @@
 use asked::Asked;
 use listing::gather;
 use state::Verdict;
-use text::number;
 use text::say;
 
 const OUTER: u32 = 4_294_967_295;
@@ -11,7 +10,7 @@ const COLOUR: u32 = 25;
 
 fn passes(performed: u32) {
     say(b": passes, ");
-    number(performed);
+    text::number(performed);
     say(b" operators performed\n");
 }
 
@@ -50,15 +49,48 @@ fn other_start(job: &[u8], gray: bool) {
     }
 }
 
+// A code of the page: 17, or 23 to 25.
+fn is_of_page(code: u32) -> bool {
+    if code == 17 {
+        return true;
+    }
+    if code < 23 {
+        return false;
+    }
+    code <= 25
+}
+
+// A call is refused by a rule that an operator of its motifs breaks.
+fn is_call(job: &[u8], v: Verdict) -> bool {
+    if number::byte_at(job, v.position as usize) != 0x5e {
+        return false;
+    }
+    is_of_page(v.code)
+}
+
+fn called(job: &[u8], v: Verdict, gray: bool) {
+    let mut store = rooms::work();
+    fault::of_call(job, v.code, v.position as usize, gray, &mut store);
+}
+
+// The cause and the cure.
+fn reasons(job: &[u8], list: &[u8], v: Verdict, gray: bool) {
+    if v.inner != OUTER {
+        inside(job, list, v);
+        return;
+    }
+    if is_call(job, v) {
+        called(job, v, gray);
+        return;
+    }
+    fault::of_job(job, list, v.records as usize, v.code, v.position as usize);
+}
+
 fn refused(job: &[u8], list: &[u8], v: Verdict, gray: bool) {
     say(b": refused at byte ");
     text::plain(v.position);
     say(b": ");
-    if v.inner == OUTER {
-        fault::of_job(job, list, v.records as usize, v.code, v.position as usize);
-    } else {
-        inside(job, list, v);
-    }
+    reasons(job, list, v, gray);
     if v.code == COLOUR {
         other_start(job, gray);
     }

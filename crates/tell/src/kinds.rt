@@ -15,7 +15,7 @@ const CARRIAGE_RETURN: usize = 35;
 
 const FOREIGN: usize = 36;
 
-const ZEROS: usize = 69;
+const ZEROS: usize = 65;
 
 // Two bytes that other files begin with.
 fn begun(a: u8, b: u8) -> usize {

@@ -1,4 +1,4 @@
-// What each line means, and what to change. The first lines are the codes'; those from 30 on say more where more is known.
+// What each line means, and what to change. The first lines are the codes'; those from 30 on say more where more is known. The cures have three lines more, for an operator of a motif that is called.
 use crate::facts::Facts;
 use crate::sentence::sentence;
 
@@ -69,10 +69,6 @@ no data behind %o, which asks for %x bytes
 %o asks for %x bytes of data, and %y are told behind it
 %m missing before %o
 the motif %u was defined in an earlier session and ended with it
-over 24 saved states in the motif %u that is called, or in one that it calls
-cursor not set before an operator of the motif %u that is called, or of one that it calls
-wrong colour space before an operator of the motif %u that is called, or of one that it calls
-data source not open at an operator of the motif %u that is called, or of one that it calls
 no PCL XL file: it begins with zero bytes, as an adapter pads with them
 ";
     sentence(lines, k, s, f);
@@ -145,11 +141,10 @@ put 0xfa, the length in four bytes, and the data behind it
 make the two lengths the same
 %q
 define it again in this session, before the page
-take a PushGS and its PopGS out of that motif
-in that motif, put a SetCursor before the first SetCursorRel, LinePath, LineRelPath or BeginImage that has none since the last NewPath or PopGS
-in that motif, put a SetColorSpace before each operator: RGB for RGBColor, gray for GrayLevel and BeginImage
-put an OpenDataSource before the BeginPage
 send it from its header on: zero bytes may stand behind the header, not before it
+take it and its PopGS out of that motif
+in that motif, put a SetCursor before it
+in that motif, put a SetColorSpace before it: RGB for RGBColor, gray for GrayLevel and images
 ";
     sentence(lines, k, s, f);
 }

@@ -5,13 +5,17 @@ mod walk;
 mod why;
 
 pub use data::asked;
+pub use data::is_told;
 pub use data::told;
 pub use step::HEIGHT;
 pub use step::ROWS;
 pub use step::SAVED;
+pub use walk::BEHIND;
 pub use walk::COUNT;
 pub use walk::PLACE;
 pub use walk::TAG;
+pub use walk::begin;
+pub use walk::pass;
 pub use walk::walk_job;
 pub use walk::walk_motif;
 pub use why::line_of;

@@ -18,6 +18,9 @@ pub const COUNT: usize = 10;
 
 pub const PLACE: usize = 11;
 
+// The place behind it and its data.
+pub const BEHIND: usize = 12;
+
 // The place k bytes on, within what a job has.
 pub fn on(at: usize, k: usize) -> usize {
     if 1_000_000 < at {
@@ -67,7 +70,7 @@ fn from_place(
 }
 
 // One operator from a place on, and the place behind it; the place itself, if it is the operator that is looked for, or none.
-fn one(
+pub fn pass(
     s: &[u8],
     high: bool,
     at: usize,
@@ -82,7 +85,8 @@ fn one(
                 return at;
             }
             step(s, high, tag, attrs, count as usize, st);
-            behind(s, high, place)
+            st[BEHIND] = behind(s, high, place);
+            st[BEHIND]
         }
         Scan::Ended => {
             note(st, at, 0, 0, at);
@@ -108,11 +112,19 @@ fn all(
     let mut turns = s.len();
     while 0 < turns {
         turns -= 1;
-        let next = one(s, high, at, to, attrs, st);
+        let next = pass(s, high, at, to, attrs, st);
         if next == at {
             return;
         }
         at = next;
+    }
+}
+
+// Where the operators of a job or a motif begin; its end if its header is malformed.
+pub fn begin(s: &[u8]) -> usize {
+    match header::header_of(s) {
+        Header::Is(_, start) => start,
+        Header::No(_, _) => s.len(),
     }
 }
 

@@ -64,16 +64,6 @@ const NO_DATA: usize = 61;
 
 const OTHER_LENGTH: usize = 62;
 
-const CALL_SAVES: usize = 65;
-
-const CALL_LACKS_CURSOR: usize = 66;
-
-const CALL_LACKS_COLOUR: usize = 67;
-
-const CALL_READS: usize = 68;
-
-const EXEC_STREAM: usize = 0x5e;
-
 // Of 10 in a session.
 fn session_line(tag: usize) -> usize {
     match tag {
@@ -158,22 +148,7 @@ fn open_line(s: &[u8], st: &[usize; 16]) -> usize {
 
 // Of 17.
 fn source_line(tag: usize) -> usize {
-    if tag == EXEC_STREAM {
-        return CALL_READS;
-    }
     if tag == 0x5c { READ_CLOSED } else { 17 }
-}
-
-// Of 23 to 25: a line for a call, since its cure lies in the motif.
-fn call_line(code: usize, tag: usize) -> usize {
-    if tag != EXEC_STREAM {
-        return code;
-    }
-    match code {
-        23 => CALL_SAVES,
-        24 => CALL_LACKS_CURSOR,
-        _ => CALL_LACKS_COLOUR,
-    }
 }
 
 // Of 18.
@@ -191,9 +166,6 @@ pub fn line_of(code: u32, s: &[u8], st: &[usize; 16]) -> usize {
         10 => order_line(st),
         17 => source_line(st[TAG]),
         18 => data_line(s, st),
-        23 => call_line(23, st[TAG]),
-        24 => call_line(24, st[TAG]),
-        25 => call_line(25, st[TAG]),
         27 => open_line(s, st),
         _ => code as usize,
     }
