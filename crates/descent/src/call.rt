@@ -1,6 +1,6 @@
 // An operator of a page or of a motif performed, a call from what its motif comes to.
-use crate::held::MANY;
 use arm::seen::Seen;
+use keeping::MANY;
 use motif::Where;
 use trail::COUNT;
 use trail::TAG;

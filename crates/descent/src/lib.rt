@@ -1,7 +1,6 @@
 // From a refused call down through the motifs to the operator that breaks the rule of its code.
 mod call;
 mod down;
-mod held;
 mod page;
 
 pub use down::Breach;

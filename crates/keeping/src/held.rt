@@ -16,7 +16,7 @@ fn next(st: &[usize; 16]) -> usize
     if n < 63 { n } else { 63 }
 }
 
-// BeginStream: the next one has this name, and no bytes yet.
+// BeginStream: the next one has this name and no bytes yet.
 fn begin_stream(
     job: &[u8],
     rows: &mut [usize; 192],
