@@ -2,7 +2,6 @@
 use crate::records::field;
 use crate::records::field_four;
 use phrase::value;
-use text::number;
 use text::say;
 
 fn indent(depth: u32) {
@@ -79,8 +78,8 @@ fn data(length: u32) {
         return;
     }
     say(b", ");
-    number(length);
-    say(b" bytes of data");
+    text::many(length, b"byte");
+    say(b" of data");
 }
 
 // The line of the operator of record i.

@@ -46,13 +46,13 @@ ends in a session
 ends in a session with the data source open
 ends in the definition of a motif
 ends in a page
-ends in an image, with %w of %h rows read
+ends in an image, with %w of %h read
 ends with a value or attributes that no operator follows
-ends with %s states saved
+ends with %s saved
 out of order: PopGS with nothing saved
 out of order: EndPage with %s saved
 out of order: EndSession while the data source is open
-out of order: EndImage after %w of %h rows
+out of order: EndImage after %w of %h
 out of order: %o outside a page
 out of order: %o outside a session
 out of order: %o in a page
@@ -65,8 +65,8 @@ out of order: %o with no motif begun
 out of order: %o in a motif
 out of order: BeginSession in a session
 data source not open at ReadStream
-no data behind %o, which asks for %x bytes
-%o asks for %x bytes of data, and %y are told behind it
+no data behind %o, which asks for %x
+%o asks for %x of data, and the length behind it is %y
 %m missing before %o
 the motif %u was defined in an earlier session and ended with it
 no PCL XL file: it begins with zero bytes, as an adapter pads with them

@@ -9,6 +9,7 @@ pub use lines::start_of;
 pub use named::name;
 pub use named::part;
 pub use out::byte;
+pub use out::many;
 pub use out::number;
 pub use out::plain;
 pub use out::say;

@@ -41,6 +41,16 @@ pub fn number(n: u32) {
     group(n % 1_000);
 }
 
+// So many things of a name, which gets an s unless there is one.
+pub fn many(n: u32, thing: &[u8]) {
+    number(n);
+    say(b" ");
+    say(thing);
+    if n != 1 {
+        say(b"s");
+    }
+}
+
 // A byte as 01 writes it.
 pub fn byte(b: u8) {
     say(b"0x");
