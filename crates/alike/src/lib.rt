@@ -2,5 +2,6 @@
 mod likeness;
 mod search;
 
+pub use likeness::are_same;
 pub use search::Other;
 pub use search::look_for;

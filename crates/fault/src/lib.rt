@@ -1,22 +1,19 @@
 // A fault of a job or of a motif: its cause and its cure.
-use alike::Other;
 use attributes::Part;
 use descent::Breach;
 use tell::Facts;
 use text::number;
 use text::say;
 
-// Lines of sentences: of an attribute that is missing, and of a motif of an earlier session.
+// The line of an attribute that is missing.
 const MISSING: usize = 63;
 
-const EARLIER: usize = 64;
-
 // Lines of cures for an operator of a motif that is called.
-const SAVES: usize = 66;
+const SAVES: usize = 69;
 
-const LACKS_CURSOR: usize = 67;
+const LACKS_CURSOR: usize = 70;
 
-const LACKS_COLOUR: usize = 68;
+const LACKS_COLOUR: usize = 71;
 
 // The line of the sentence for a code, once its operator is known.
 fn line_of(code: u32, s: &[u8], at: usize, st: &[usize; 16], f: Facts) -> usize {
@@ -39,52 +36,10 @@ fn ending(s: &[u8], k: usize, code: u32, f: Facts) {
     tell::cure(k, s, f);
 }
 
-// Says the name of record i.
-fn other_name(job: &[u8], list: &[u8], i: usize) {
-    say(b"; there is ");
-    text::part(
-        job,
-        listing::field_four(list, i, 8) as usize,
-        listing::field_four(list, i, 12) as usize,
-    );
-}
-
-// Of 21: what stands in the job in place of the name, which is count bytes of s from first on.
-fn searched(job: &[u8], list: &[u8], records: usize, s: &[u8], f: Facts) -> Other {
-    let first = f.name;
-    let count = f.letters;
-    if s.len() < first {
-        return Other::Nobody;
-    }
-    if s.len() - first < count {
-        return Other::Nobody;
-    }
-    alike::look_for(job, list, records, &s[first..first + count])
-}
-
-// The cause of 21, and the line of its cure.
-fn unheld(job: &[u8], list: &[u8], records: usize, s: &[u8], f: Facts) -> usize {
-    match searched(job, list, records, s, f) {
-        Other::Earlier => {
-            tell::cause(EARLIER, s, f);
-            EARLIER
-        }
-        Other::Like(i) => {
-            tell::cause(21, s, f);
-            other_name(job, list, i);
-            21
-        }
-        Other::Nobody => {
-            tell::cause(21, s, f);
-            21
-        }
-    }
-}
-
 // The cause of a refusal, and the line of its cure.
 fn caused(job: &[u8], list: &[u8], records: usize, s: &[u8], k: usize, f: Facts) -> usize {
     if k == 21 {
-        return unheld(job, list, records, s, f);
+        return unheld::cause(job, list, records, s, f);
     }
     tell::cause(k, s, f);
     k

@@ -70,6 +70,9 @@ no data behind %o, which asks for %x
 %m missing before %o
 the motif %u was defined in an earlier session and ended with it
 no PCL XL file: it begins with zero bytes, as an adapter pads with them
+the motif %u calls itself
+the motif %u is defined only later
+the motif %u is defined only later
 ";
     sentence(lines, k, s, f);
 }
@@ -142,6 +145,9 @@ make the two lengths the same
 %q
 define it again in this session, before the page
 send it from its header on: zero bytes may stand behind the header, not before it
+take this call out: a motif may call only those defined before it
+define it before the page or motif that calls it
+define it in this session too, before the page
 take it and its PopGS out of that motif
 in that motif, put a SetCursor before it
 in that motif, put a SetColorSpace before it: RGB for RGBColor, gray for GrayLevel and images
