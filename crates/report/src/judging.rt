@@ -103,9 +103,7 @@ fn listed_lines(job: &[u8], list: &[u8], v: Verdict) {
     if v.code == 0 {
         return;
     }
-    say(b"> refused here, at byte ");
-    text::plain(v.position);
-    say(b"\n");
+    marked::line(job, v.code, v.position as usize);
 }
 
 // The verdict on a job in a line, and its operators if they are asked for; the answer is whether it passes.
