@@ -45,6 +45,11 @@ fn caused(job: &[u8], list: &[u8], records: usize, s: &[u8], k: usize, f: Facts)
     k
 }
 
+// The line of the cure, which for 9 depends on where matters stand.
+fn cure_at(k: usize, st: &[usize; 16]) -> usize {
+    if k == 9 { trail::may_come_line(st) } else { k }
+}
+
 // Says what is wrong at a place of the job, and the cure.
 pub fn of_job(job: &[u8], list: &[u8], records: usize, code: u32, at: usize) {
     let mut attrs = [0usize; 80];
@@ -52,7 +57,7 @@ pub fn of_job(job: &[u8], list: &[u8], records: usize, code: u32, at: usize) {
     trail::walk_job(job, at, &mut attrs, &mut st);
     let f = tell::facts_in(job, at, &attrs, &st);
     let k = caused(job, list, records, job, line_of(code, job, at, &st, f), f);
-    ending(job, k, code, f);
+    ending(job, cure_at(k, &st), code, f);
 }
 
 // Says what is wrong at a place of the motif that was defined last, of which these are the bytes, and the cure.
@@ -73,7 +78,7 @@ pub fn of_motif(job: &[u8], list: &[u8], records: usize, motif: &[u8], code: u32
     listing::say_name(job, list, records);
     say(b" at its byte ");
     text::plain(f.at);
-    ending(motif, k, code, f);
+    ending(motif, cure_at(k, &st), code, f);
 }
 
 // The line of the cure for an operator of a motif that is called.

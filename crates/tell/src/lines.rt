@@ -1,4 +1,4 @@
-// What each line means, and what to change. The first lines are the codes'; those from 30 on say more where more is known. The cures have three lines more, for an operator of a motif that is called.
+// What each line means, and what to change. The first lines are the codes'; those from 30 on say more where more is known. The cures have lines more: for an operator of a motif that is called, and for what may come in place of an operator that is not known.
 use crate::facts::Facts;
 use crate::sentence::sentence;
 
@@ -88,7 +88,7 @@ the end is cut off: send the whole file again
 take this byte out, or mend the item before it
 give one operator at most 16 attributes
 make the array shorter
-take it out: the arm draws by LinePath, LineRelPath, Rectangle and images
+take it out
 move it to where it may stand
 take it out: %k
 give it once
@@ -151,6 +151,12 @@ define it in this session too, before the page
 take it and its PopGS out of that motif
 in that motif, put a SetCursor before it
 in that motif, put a SetColorSpace before it: RGB for RGBColor, gray for GrayLevel and images
+take it out: between sessions only BeginSession may come
+take it out: in a session, outside its pages, only Comment, OpenDataSource, CloseDataSource, BeginStream, BeginPage and EndSession may come
+take it out: in the definition of a motif only ReadStream and EndStream may come
+take it out: in a page only Comment, EndPage, ExecStream, PushGS, PopGS, SetBrushSource, SetColorSpace, SetCursor, SetCursorRel, SetPenSource, SetPenWidth, CloseSubPath, NewPath, PaintPath, LinePath, LineRelPath, Rectangle and BeginImage may come
+take it out: in an image only ReadImage and EndImage may come
+take it out: in a motif only Comment, ExecStream, PushGS, PopGS, SetBrushSource, SetColorSpace, SetCursor, SetCursorRel, SetPenSource, SetPenWidth, CloseSubPath, NewPath, PaintPath, LinePath, LineRelPath, Rectangle and BeginImage may come
 ";
     sentence(lines, k, s, f);
 }

@@ -19,3 +19,4 @@ pub use walk::pass;
 pub use walk::walk_job;
 pub use walk::walk_motif;
 pub use why::line_of;
+pub use why::may_come_line;

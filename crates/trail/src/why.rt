@@ -64,6 +64,11 @@ const NO_DATA: usize = 61;
 
 const OTHER_LENGTH: usize = 62;
 
+// The first of the cures' lines of what may come, and the one of a motif.
+const MAY_COME: usize = 72;
+
+const MAY_COME_IN_A_MOTIF: usize = 77;
+
 // Of 10 in a session.
 fn session_line(tag: usize) -> usize {
     match tag {
@@ -168,5 +173,24 @@ pub fn line_of(code: u32, s: &[u8], st: &[usize; 16]) -> usize {
         18 => data_line(s, st),
         27 => open_line(s, st),
         _ => code as usize,
+    }
+}
+
+// The line of the cure of 9: what may come.
+pub fn may_come_line(st: &[usize; 16]) -> usize {
+    match st[PHASE] {
+        BETWEEN => MAY_COME,
+        SESSION => MAY_COME + 1,
+        STREAM => MAY_COME + 2,
+        PAGE => may_come_in_page(st[MOTIF]),
+        _ => MAY_COME + 4,
+    }
+}
+
+fn may_come_in_page(motif: usize) -> usize {
+    if motif == 1 {
+        MAY_COME_IN_A_MOTIF
+    } else {
+        MAY_COME + 3
     }
 }
