@@ -1,6 +1,6 @@
 -- A line by its end point with nothing between its items, in a page: how it is read.
 -- Assumes nothing.
-use Prim.Native.Nat.{ℕ, _+_, _*_, _<_}
+use Prim.Native.Nat.{ℕ, _+_, _*_, _≤_, _<_}
 use mathlib.Core.Path.{_≡_, refl, sym, ap, _∙_}
 use mathlib.Core.Bool.{Bool, true, false}
 use mathlib.Core.List.{List, [], _∷_}
@@ -14,14 +14,23 @@ use Rattle.scope.specs.Names.{EndPoint}
 use Rattle.scope.specs.Header.{Class, one, two}
 use Rattle.scope.specs.Setting.{Setting}
 use Rattle.scope.specs.Table.{tableOne, tableTwo, table, lineIn, ruleIn}
-use Rattle.scope.specs.Attributes.{has, twoAt, typeTaken, inRange, attributeCode, oneByOne, formCode}
+use Rattle.scope.specs.Attributes.{has, twoAt, pointIn, typeTaken, inRange, attributeCode, oneByOne, formCode}
 use Rattle.scope.specs.Data.{dueOf}
 use Rattle.scope.specs.Order.{in-page, drawn, mayCome, rowsFit}
 use Rattle.scope.specs.Reading.{Context, Read, withData, asWhole, withAttributes, withLine, scanned, operatorAt}
 use Rattle.number.proofs.Digits.{one-digit}
 use Rattle.items.proofs.Pairs.{numbers-all, scan-tag, black-item}
 use Rattle.number.proofs.Spaces.{after-black}
-use Rattle.reader.specs.EndPoint.{lineOf, Point, point-ubyte, point-uint16, point-sint16, point-none, Drawn, drawn-path, drawn-rel, Ends, Line}
+use Rattle.reader.specs.EndPoint.{lineOf, Point, point-ubyte, point-uint16, point-sint16, point-real, point-none, Drawn, drawn-path, drawn-rel, Ends, Line}
+
+-- whole numbers are taken
+pub whole-taken : (high : Bool) (s : List ℕ) (first : ℕ) {tag bytes : ℕ} → 0 < bytes → bytes ≤ 4 → Point tag bytes → pointIn (twoAt high s tag first) ≡ true
+unfolding twoAt
+whole-taken high s first h k point-ubyte = refl
+whole-taken high s first h k point-uint16 = refl
+whole-taken high s first h k point-sint16 = refl
+whole-taken high s first h k point-real = absurd (omega arith)
+whole-taken high s first h k point-none = absurd (omega arith)
 
 -- a point's tag: two numbers, no white space and no operator
 record IsPoint (tag bytes : ℕ) : Type 0 where
@@ -36,6 +45,7 @@ unfolding kindOf widthOf white
 is-point h point-ubyte = record { wide = 1; kind = refl; long = refl; black = refl; value = refl }
 is-point h point-uint16 = record { wide = 2; kind = refl; long = refl; black = refl; value = refl }
 is-point h point-sint16 = record { wide = 2; kind = refl; long = refl; black = refl; value = refl }
+is-point h point-real = record { wide = 4; kind = refl; long = refl; black = refl; value = refl }
 is-point h point-none = absurd (omega arith)
 
 drawn-black : {tag : ℕ} → Drawn tag → white tag ≡ false
@@ -92,33 +102,37 @@ inPage set opened saved = record { set = set; phase = in-page saved; opened = op
 
 -- it breaks no rule of reading
 module _ (high gray opened : Bool) (saved : ℕ) (s : List ℕ) (at op : ℕ) where
-  lined : (class : Class) {point tag bytes : ℕ} → 0 < bytes → Point point bytes → Drawn tag
+  lined : (class : Class) {point tag bytes : ℕ} → 0 < bytes → Point point bytes → pointIn (twoAt high s point (at + 1)) ≡ true → Drawn tag
       → withLine (inPage (record { class = class; high = high; gray = gray }) opened saved) s tag op (endPoint point at ∷ []) (lineIn (table class) tag)
       ≡ Read.operator (lineOf point tag at op)
   unfolding withLine lineIn tableOne tableTwo table mayCome drawn among withAttributes oneByOne attributeCode ruleIn has twoAt typeTaken inRange asWhole formCode rowsFit withData dueOf
-  lined one h point-ubyte drawn-path = refl
-  lined one h point-ubyte drawn-rel = refl
-  lined one h point-uint16 drawn-path = refl
-  lined one h point-uint16 drawn-rel = refl
-  lined one h point-sint16 drawn-path = refl
-  lined one h point-sint16 drawn-rel = refl
-  lined one h point-none d = absurd (omega arith)
-  lined two h point-ubyte drawn-path = refl
-  lined two h point-ubyte drawn-rel = refl
-  lined two h point-uint16 drawn-path = refl
-  lined two h point-uint16 drawn-rel = refl
-  lined two h point-sint16 drawn-path = refl
-  lined two h point-sint16 drawn-rel = refl
-  lined two h point-none d = absurd (omega arith)
+  lined one h point-ubyte e drawn-path = refl
+  lined one h point-ubyte e drawn-rel = refl
+  lined one h point-uint16 e drawn-path = refl
+  lined one h point-uint16 e drawn-rel = refl
+  lined one h point-sint16 e drawn-path = refl
+  lined one h point-sint16 e drawn-rel = refl
+  lined one h point-real e drawn-path = rw e
+  lined one h point-real e drawn-rel = rw e
+  lined one h point-none e d = absurd (omega arith)
+  lined two h point-ubyte e drawn-path = refl
+  lined two h point-ubyte e drawn-rel = refl
+  lined two h point-uint16 e drawn-path = refl
+  lined two h point-uint16 e drawn-rel = refl
+  lined two h point-sint16 e drawn-path = refl
+  lined two h point-sint16 e drawn-rel = refl
+  lined two h point-real e drawn-path = rw e
+  lined two h point-real e drawn-rel = rw e
+  lined two h point-none e d = absurd (omega arith)
 
 -- the operator of such a line
-pub line-drawn : {s : List ℕ} {at op : ℕ} → Line s at op → Drawn (getD s op 0)
-line-drawn {s} {at} {op} l = let k = l .is in let same : at + 1 + l .bytes + 2 ≡ op = omega arith in rw same at (l .ends .drawn)
+pub line-drawn : {high : Bool} {s : List ℕ} {at op : ℕ} → Line high s at op → Drawn (getD s op 0)
+line-drawn {high} {s} {at} {op} l = let k = l .is in let same : at + 1 + l .bytes + 2 ≡ op = omega arith in rw same at (l .ends .drawn)
 
 module _ (set : Setting) (opened : Bool) (saved : ℕ) (s : List ℕ) (at op : ℕ) where
-  pub read-line : Line s at op → operatorAt (inPage set opened saved) s at ≡ Read.operator (lineOf (getD s at 0) (getD s op 0) at op)
+  pub read-line : Line (set .high) s at op → operatorAt (inPage set opened saved) s at ≡ Read.operator (lineOf (getD s at 0) (getD s op 0) at op)
   unfolding operatorAt scanned
   read-line l =
       ap (scanned (inPage set opened saved) s)
       (scan-is (set .high) s at (l .bytes) (is-point (l .some) (l .point)) (l .ends) ∙ ap (λ x. Scan.tagged (getD s x 0) x (endPoint (getD s at 0) at ∷ [])) (sym (l .is)))
-      ∙ lined (set .high) (set .gray) opened saved s at op (set .class) (l .some) (l .point) (line-drawn l)
+      ∙ lined (set .high) (set .gray) opened saved s at op (set .class) (l .some) (l .point) (l .numbers) (line-drawn l)

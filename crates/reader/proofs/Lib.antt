@@ -1,3 +1,4 @@
 pub mod Blocks
 pub mod EndPoint
 pub mod Lines
+mod Finite

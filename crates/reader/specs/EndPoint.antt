@@ -2,15 +2,16 @@
 -- Assumes nothing.
 use Prim.Native.Nat.{ℕ, suc, _+_, _<_}
 use mathlib.Core.Path.{_≡_}
-use mathlib.Core.Bool.{Bool, false, _&&_, _||_}
+use mathlib.Core.Bool.{Bool, true, false, _&&_, _||_}
 use mathlib.Core.List.{List, [], _∷_}
 use lib.ListN.{length, getD}
 use lib.Dec.{eqb, ltb}
 use Rattle.scope.specs.Choice.{pick}
 use Rattle.scope.specs.Names.{EndPoint, LinePath, LineRelPath}
+use Rattle.scope.specs.Attributes.{twoAt, pointIn}
 use Rattle.scope.specs.Reading.{Operator}
 
--- the bytes of a point's numbers by its tag; 0 if it is no point's that a line takes
+-- the bytes of a point's whole numbers by its tag; 0 if it has none
 unfoldable pub pointLength : ℕ → ℕ
 pointLength tag = pick (eqb tag 0xd0) 2 (pick (eqb tag 0xd1 || eqb tag 0xd3) 4 0)
 
@@ -20,11 +21,16 @@ endsAt s p =
     ltb (p + 2) (length s)
     && (eqb (getD s p 0) 0xf8 && (eqb (getD s (p + 1) 0) EndPoint && (eqb (getD s (p + 2) 0) LinePath || eqb (getD s (p + 2) 0) LineRelPath)))
 
+-- where the operator stands of such a line by two finite reals, whose tag stands at `at`; the end of the bytes if there is none
+unfoldable pub realLineTo : Bool → List ℕ → ℕ → ℕ
+realLineTo high s at =
+    pick (ltb (at + 11) (length s) && (eqb (getD s at 0) 0xd5 && (pointIn (twoAt high s 0xd5 (at + 1)) && endsAt s (at + 9)))) (at + 11) (length s)
+
 -- where the operator stands of such a line, whose point's tag stands at `at`; the end of the bytes if there is none
-unfoldable pub lineTo : List ℕ → ℕ → ℕ
-lineTo s at =
+unfoldable pub lineTo : Bool → List ℕ → ℕ → ℕ
+lineTo high s at =
     let w = pointLength (getD s at 0) in
-    pick (ltb 0 w && endsAt s (at + 1 + w)) (at + 3 + w) (length s)
+    pick (eqb w 0) (realLineTo high s at) (pick (endsAt s (at + 1 + w)) (at + 3 + w) (length s))
 
 -- the operator of such a line
 abbrev pub lineOf : (point tag at op : ℕ) → Operator
@@ -44,6 +50,7 @@ pub data Point : (tag bytes : ℕ) → Type 0 where
   point-ubyte : Point 0xd0 2
   point-uint16 : Point 0xd1 4
   point-sint16 : Point 0xd3 4
+  point-real : Point 0xd5 8
   point-none : {tag : ℕ} → Point tag 0
 
 -- LinePath or LineRelPath
@@ -58,10 +65,11 @@ pub record Ends (s : List ℕ) (p : ℕ) : Type 0 where
   pub number : getD s (p + 1) 0 ≡ EndPoint
   pub drawn : Drawn (getD s (p + 2) 0)
 
--- such a line from `at` to its operator at `op`
-pub record Line (s : List ℕ) (at op : ℕ) : Type 0 where
+-- such a line from `at` to its operator at `op`; its numbers are whole, or finite reals
+pub record Line (high : Bool) (s : List ℕ) (at op : ℕ) : Type 0 where
   pub bytes : ℕ
   pub some : 0 < bytes
   pub point : Point (getD s at 0) bytes
+  pub numbers : pointIn (twoAt high s (getD s at 0) (at + 1)) ≡ true
   pub ends : Ends s (at + 1 + bytes)
   pub is : op ≡ at + 3 + bytes

@@ -1,16 +1,18 @@
 // A line by its end point with nothing between its items, as most of a drawing is.
 ghost use mathlib.Core.Path.{_≡_};
 ghost use mathlib.Core.Bool.{true, _||_};
-ghost use Prim.Native.Nat.{_+_, _^_, _≤_, _<_};
+ghost use Prim.Native.Nat.{ℕ, _+_, _*_, _^_, _≤_, _<_};
 ghost use lib.Dec.{eqb};
 ghost use lib.ListN.{length};
 ghost use Rattle.scope.specs.Names.{LinePath, LineRelPath};
-ghost use Rattle.reader.specs.EndPoint.{pointLength, endsAt, lineTo, Point, Drawn, Ends, Line};
+ghost use Rattle.scope.specs.Number.{number};
+ghost use Rattle.scope.specs.Attributes.{twoAt, finite, pointIn};
+ghost use Rattle.reader.specs.EndPoint.{pointLength, endsAt, realLineTo, lineTo, Point, Drawn, Ends, Line};
 use names::attributes::END_POINT;
 use names::operators::LINE_PATH;
 use names::operators::LINE_REL_PATH;
 
-// The bytes of a point's numbers by its tag; 0 if it is no point's.
+// The bytes of a point's whole numbers by its tag; 0 if it has none.
 fn point_length(tag: u8) -> usize
     ensures { λ r. ⌜ r ≡ pointLength tag ⌝ }
     ensures { λ r. ⌜ Point tag r ⌝ }
@@ -54,17 +56,64 @@ fn ends_at(s: &[u8], p: usize) -> bool
     is_drawn_line(s[op])
 }
 
+// A real by its two highest bytes: its exponent bits, the eight behind the sign, are not all ones.
+fn is_finite(top: u8, next: u8) -> bool
+    ensures { λ r. ⌜ ((low : ℕ) → low < 65536 → r ≡ finite ((top * 256 + next) * 65536 + low)) ⌝ }
+{
+    (top as u32 * 256 + next as u32) % 32_768 / 128 != 255
+}
+
+// The real at p is finite.
+fn is_finite_at(s: &[u8], high: bool, p: usize) -> bool
+    requires { ⌜ p + 4 ≤ length (now s) ⌝ }
+    ensures { λ r. ⌜ r ≡ finite (number high 4 (now (s .entry)) p) ⌝ }
+{
+    if high {
+        return is_finite(s[p], s[p + 1]);
+    }
+    is_finite(s[p + 3], s[p + 2])
+}
+
+// The two reals at p are finite.
+fn are_finite(s: &[u8], high: bool, p: usize) -> bool
+    requires { ⌜ p + 8 ≤ length (now s) ⌝ }
+    ensures { λ r. ⌜ r ≡ pointIn (twoAt high (now (s .entry)) 0xd5 p) ⌝ }
+{
+    if !is_finite_at(s, high, p) {
+        return false;
+    }
+    is_finite_at(s, high, p + 4)
+}
+
+// Where the operator stands of such a line by two finite reals, whose tag stands at `at`; the end of the bytes if there is none.
+fn real_line_to(s: &[u8], high: bool, at: usize) -> usize
+    requires { ⌜ at < length (now s) ⌝ }
+    ensures { λ r. ⌜ r ≡ realLineTo high (now (s .entry)) at ⌝ }
+    ensures { λ r. ⌜ (r < length (now (s .entry)) → Line high (now (s .entry)) at r) ⌝ }
+{
+    if s.len() <= at + 11 {
+        return s.len();
+    }
+    if s[at] != 0xd5 {
+        return s.len();
+    }
+    if !are_finite(s, high, at + 1) {
+        return s.len();
+    }
+    if ends_at(s, at + 9) { at + 11 } else { s.len() }
+}
+
 // Where the operator stands of such a line, whose point's tag stands at `at`; the end of the bytes if there is none.
-pub fn line_to(s: &[u8], at: usize) -> usize
-    ensures { λ r. ⌜ r ≡ lineTo (now (s .entry)) at ⌝ }
-    ensures { λ r. ⌜ (r < length (now (s .entry)) → Line (now (s .entry)) at r) ⌝ }
+pub fn line_to(s: &[u8], high: bool, at: usize) -> usize
+    ensures { λ r. ⌜ r ≡ lineTo high (now (s .entry)) at ⌝ }
+    ensures { λ r. ⌜ (r < length (now (s .entry)) → Line high (now (s .entry)) at r) ⌝ }
 {
     if s.len() <= at {
         return s.len();
     }
     let bytes = point_length(s[at]);
     if bytes == 0 {
-        return s.len();
+        return real_line_to(s, high, at);
     }
     if ends_at(s, at + 1 + bytes) {
         at + 3 + bytes

@@ -40,29 +40,29 @@ use Rattle.running.proofs.EndPoint.{judged-line, place-line}
 use Rattle.ruling.proofs.Turns.{turned-go, listed-go, steps-read, judged-rules, judged-page, judged-count}
 
 -- no operator, and one run after another
-pub runs-none : {job list : List ℕ} {st : State} → Runs job list list st st
+pub runs-none : {job list : List ℕ} {high : Bool} {st : State} → Runs job high list list st st
 runs-none =
     record {
       long = refl;
       on = omega arith;
       within = λ h. h;
       counted = omega arith;
-      leads = λ list₀ rows sums work set d e h. record { there = d; stands = h; judged = refl };
+      leads = λ list₀ rows sums work set d order e h. record { there = d; stands = h; judged = refl };
     }
 
-pub runs-still : {job list list₁ : List ℕ} {st : State} → list₁ ≡ list → Runs job list list₁ st st
-runs-still {job} {list} {st = st} e = subst⁻¹ (λ x. Runs job list x st st) e runs-none
+pub runs-still : {job list list₁ : List ℕ} {high : Bool} {st : State} → list₁ ≡ list → Runs job high list list₁ st st
+runs-still {job} {list} {high = high} {st = st} e = subst⁻¹ (λ x. Runs job high list x st st) e runs-none
 
-pub runs-then : {job a b c : List ℕ} {r s t : State} → Runs job a b r s → Runs job b c s t → Runs job a c r t
+pub runs-then : {job a b c : List ℕ} {high : Bool} {r s t : State} → Runs job high a b r s → Runs job high b c s t → Runs job high a c r t
 runs-then f g =
     record {
       long = g .long ∙ f .long;
       on = omega arith;
       within = λ h. g .within (f .within h);
       counted = omega arith;
-      leads = λ list₀ rows sums work set d e h.
-          let x = f .leads list₀ rows sums work set d e h in
-          let y = g .leads list₀ rows sums work set (x .there) (e ∙ sym (f .long)) (x .stands) in
+      leads = λ list₀ rows sums work set d order e h.
+          let x = f .leads list₀ rows sums work set d order e h in
+          let y = g .leads list₀ rows sums work set (x .there) order (e ∙ sym (f .long)) (x .stands) in
           record { there = y .there; stands = y .stands; judged = y .judged ∙ x .judged };
     }
 
@@ -173,7 +173,7 @@ module _ (job list₀ rows sums work list list₁ : List ℕ) (set : Setting) (o
   abbrev line : Operator
   line = lineOf (getD job (r .at) 0) (getD job op 0) (r .at) op
 
-  passes-line : Line job (r .at) op → r .performed < 1_000_000 → r .page .cursor ≡ true → (motifs : List Motif) (past : List Operator) (q : Page) → PageHolds (r .page) q
+  passes-line : Line (set .high) job (r .at) op → r .performed < 1_000_000 → r .page .cursor ≡ true → (motifs : List Motif) (past : List Operator) (q : Page) → PageHolds (r .page) q
       → Passes job list₀ rows sums work list list₁ set opened held used r after-line line motifs past q
   unfolding contextOf phaseOf phaseBusy phaseDrawing
   passes-line h few cursor motifs past q k =
@@ -184,7 +184,7 @@ module _ (job list₀ rows sums work list list₁ : List ℕ) (set : Setting) (o
         stays = λ z. place-line set job (getD job (r .at) 0) (r .at) op motifs opened z q (line-drawn h);
       }
 
-  pub one-line : Line job (r .at) op → r .performed < 1_000_000 → r .page .cursor ≡ true → length list₀ ≡ length list
+  pub one-line : Line (set .high) job (r .at) op → r .performed < 1_000_000 → r .page .cursor ≡ true → length list₀ ≡ length list
       → true ≡ leb ((r .records + 2) * 16) (length list) → list₁ ≡ over list (r .records * 16) (recordsFor (getD job op 0) op 0 0 (line .attrs))
       → (d : scope.State) → Stands job list₀ (record { rows = rows; sums = sums; work = work; list = list }) (inSession opened held used r) d
       → Reaches job list₀ rows sums work list₁ set (inSession opened held used after-line) d

@@ -40,11 +40,11 @@ pub record Reaches (job list₀ rows sums work list : List ℕ) (set : Setting) 
   pub judged : judgedFrom every set job (length list₀) there ≡ judgedFrom every set job (length list₀) d
 
 -- from one state to another by operators that are not refused: no more records than bytes, and the definition goes as far
-pub record Runs (job list list₁ : List ℕ) (st t : State) : Type 0 where
+pub record Runs (job : List ℕ) (high : Bool) (list list₁ : List ℕ) (st t : State) : Type 0 where
   pub long : length list₁ ≡ length list
   pub on : st .at ≤ t .at
   pub within : st .at ≤ length job → t .at ≤ length job
   pub counted : t .records + st .at ≤ st .records + t .at
-  pub leads : (list₀ rows sums work : List ℕ) (set : Setting) (d : scope.State) → length list₀ ≡ length list
+  pub leads : (list₀ rows sums work : List ℕ) (set : Setting) (d : scope.State) → set .high ≡ high → length list₀ ≡ length list
       → Stands job list₀ (record { rows = rows; sums = sums; work = work; list = list }) st d
       → Reaches job list₀ rows sums work list₁ set t d

@@ -35,8 +35,8 @@ pub enum Pass {
 fn pass_alone(job: &[u8], list: &mut [u8], from: Run) -> Pass
     requires { ⌜ (from .at < length (now job)) × (from .performed < 1_000_000) ⌝ }
     ensures { λ r. ⌜ Further (length (now (job .entry))) from r ⌝ }
-    ensures { λ r. ⌜ ((opened : Bool) (held used : ℕ)
-        → Runs (now (job .entry)) (now (list .entry)) (now (list .exit)) (inSession opened held used from) (inSession opened held used (standing from r))) ⌝ }
+    ensures { λ r. ⌜ ((high opened : Bool) (held used : ℕ)
+        → Runs (now (job .entry)) high (now (list .entry)) (now (list .exit)) (inSession opened held used from) (inSession opened held used (standing from r))) ⌝ }
 {
     let at = from.at;
     let page = from.page;
@@ -60,11 +60,11 @@ fn pass_alone(job: &[u8], list: &mut [u8], from: Run) -> Pass
 }
 
 // The next operator of a run, where it is a line by its end point and the cursor is set.
-fn pass_line(job: &[u8], list: &mut [u8], from: Run) -> Pass
+fn pass_line(job: &[u8], high: bool, list: &mut [u8], from: Run) -> Pass
     requires { ⌜ (from .at < length (now job)) × (from .performed < 1_000_000) ⌝ }
     ensures { λ r. ⌜ Further (length (now (job .entry))) from r ⌝ }
     ensures { λ r. ⌜ ((opened : Bool) (held used : ℕ)
-        → Runs (now (job .entry)) (now (list .entry)) (now (list .exit)) (inSession opened held used from) (inSession opened held used (standing from r))) ⌝ }
+        → Runs (now (job .entry)) high (now (list .entry)) (now (list .exit)) (inSession opened held used from) (inSession opened held used (standing from r))) ⌝ }
 {
     let at = from.at;
     let page = from.page;
@@ -73,7 +73,7 @@ fn pass_line(job: &[u8], list: &mut [u8], from: Run) -> Pass
     if !page.cursor {
         return Pass::No;
     }
-    let op = reader::line_to(job, at);
+    let op = reader::line_to(job, high, at);
     if job.len() <= op {
         return Pass::No;
     }
@@ -99,10 +99,10 @@ fn pass_line(job: &[u8], list: &mut [u8], from: Run) -> Pass
 }
 
 // The next operator of a run: a tag below 0xc0 is an operator's, any other a value's.
-fn pass_one(job: &[u8], list: &mut [u8], from: Run) -> Pass
+fn pass_one(job: &[u8], high: bool, list: &mut [u8], from: Run) -> Pass
     ensures { λ r. ⌜ Further (length (now (job .entry))) from r ⌝ }
     ensures { λ r. ⌜ ((opened : Bool) (held used : ℕ)
-        → Runs (now (job .entry)) (now (list .entry)) (now (list .exit)) (inSession opened held used from) (inSession opened held used (standing from r))) ⌝ }
+        → Runs (now (job .entry)) high (now (list .entry)) (now (list .exit)) (inSession opened held used from) (inSession opened held used (standing from r))) ⌝ }
 {
     let at = from.at;
     if job.len() <= at {
@@ -114,18 +114,18 @@ fn pass_one(job: &[u8], list: &mut [u8], from: Run) -> Pass
     if job[at] < 0xc0 {
         pass_alone(job, list, from)
     } else {
-        pass_line(job, list, from)
+        pass_line(job, high, list, from)
     }
 }
 
 // The whole of a run.
-fn run_from(job: &[u8], list: &mut [u8], from: Run) -> Run
+fn run_from(job: &[u8], high: bool, list: &mut [u8], from: Run) -> Run
     ensures { λ r. ⌜ ((opened : Bool) (held used : ℕ)
-        → Runs (now (job .entry)) (now (list .entry)) (now (list .exit)) (inSession opened held used from) (inSession opened held used r)) ⌝ }
+        → Runs (now (job .entry)) high (now (list .entry)) (now (list .exit)) (inSession opened held used from) (inSession opened held used r)) ⌝ }
 {
     let mut run = from;
     loop {
-        match pass_one(job, list, run) {
+        match pass_one(job, high, list, run) {
             Pass::To(on) => {
                 run = on;
             }
@@ -139,6 +139,7 @@ fn run_from(job: &[u8], list: &mut [u8], from: Run) -> Run
 // In a page with no image open: past the run that stands next.
 fn past_run(
     job: &[u8],
+    high: bool,
     list: &mut [u8],
     st: State,
     opened: bool,
@@ -146,10 +147,11 @@ fn past_run(
     used: usize,
     page: Page,
 ) -> State
-    ensures { λ r. ⌜ (st .place ≡ Inside opened held used (Drawing page Nothing) → Runs (now (job .entry)) (now (list .entry)) (now (list .exit)) st r) ⌝ }
+    ensures { λ r. ⌜ (st .place ≡ Inside opened held used (Drawing page Nothing) → Runs (now (job .entry)) high (now (list .entry)) (now (list .exit)) st r) ⌝ }
 {
     let run = run_from(
         job,
+        high,
         list,
         Run {
             at: st.at,
@@ -168,8 +170,8 @@ fn past_run(
 }
 
 // Past the run of operators that are their tag alone and of lines by their end point, if one stands next.
-pub fn run_on(job: &[u8], list: &mut [u8], st: State) -> State
-    ensures { λ r. ⌜ Runs (now (job .entry)) (now (list .entry)) (now (list .exit)) st r ⌝ }
+pub fn run_on(job: &[u8], high: bool, list: &mut [u8], st: State) -> State
+    ensures { λ r. ⌜ Runs (now (job .entry)) high (now (list .entry)) (now (list .exit)) st r ⌝ }
 {
     let place = st.place;
     match place {
@@ -179,7 +181,7 @@ pub fn run_on(job: &[u8], list: &mut [u8], st: State) -> State
             Busy::Reading(_, _, _) => st,
             Busy::Drawing(page, picture) => match picture {
                 Picture::Being(_) => st,
-                Picture::Nothing => past_run(job, list, st, opened, held, used, page),
+                Picture::Nothing => past_run(job, high, list, st, opened, held, used, page),
             },
         },
     }

@@ -210,7 +210,7 @@ fn items_from(job: &[u8], set: Setting, next: usize, work: &mut [u8], list: &mut
         records: 0,
     };
     loop {
-        let from = run_on(job, list, st);
+        let from = run_on(job, set.high, list, st);
         match advance(job, set, work, list, &mut rows, &mut sums, &mut attrs, from) {
             Step::Go(on) => {
                 st = on;

@@ -1,20 +1,22 @@
--- `line_to`: no point, no end, or both.
+-- `line_to`: no whole numbers, no end, or both.
 -- Assumes nothing.
-use Prim.Native.Nat.{_<_}
+use Prim.Native.Nat.{_+_, _≤_, _<_}
 use mathlib.Core.Path.{refl}
 use native.Mathlib.Omega.{arith}
-use borrow.Author.Tests.{lt-ltb}
-use lib.ListN.{List·getD-eq-default}
-use Rattle.reader.specs.EndPoint.{pointLength, lineTo}
+use borrow.Author.Tests.{le-ltb, eq-eqb, ne-eqb}
+use lib.ListN.{length, List·getD-eq-default}
+use Rattle.reader.specs.EndPoint.{pointLength, realLineTo, lineTo}
+use Rattle.reader.proofs.EndPoint.{whole-taken}
 use borrow.Author.Needs.{needs}
 use Rattle.reader.proofs.end_point.line_to.Statement.{statement}
 use Rattle.reader.proofs.end_point.line_to.Tie as tie
 
 returns : tie.Need-returns
-unfolding lineTo pointLength
+unfolding lineTo realLineTo pointLength
 returns c =
     let a = c .before .before .args in
-    (rw (List·getD-eq-default (a .s .now) 0 (c .if1 .taken)) refl, λ h. absurd (omega arith))
+    let out : length (a .s .now) ≤ a .at + 11 = omega arith in
+    (rw (List·getD-eq-default (a .s .now) 0 (c .if1 .taken), le-ltb _ _ out) refl, λ h. absurd (omega arith))
 
 shared-slice-read-point-length : tie.Need-shared-slice-read-point-length
 shared-slice-read-point-length c = search needs
@@ -22,9 +24,14 @@ shared-slice-read-point-length c = search needs
 point-length-requires : tie.Need-point-length-requires
 point-length-requires c κs = search needs
 
+real-line-to-requires : tie.Need-real-line-to-requires
+real-line-to-requires c κs = search needs
+
 returns-2 : tie.Need-returns-2
 unfolding lineTo
-returns-2 c = (rw (← c .before .point-length .ensures .0, c .if2 .taken) refl, λ h. absurd (omega arith))
+returns-2 c =
+    let t = c .before in
+    (rw (← t .before .point-length .ensures .0, eq-eqb _ _ (t .if2 .taken)) (c .real-line-to .ensures .0), c .real-line-to .ensures .1)
 
 add-ends-at : tie.Need-add-ends-at
 add-ends-at c = search needs
@@ -46,9 +53,18 @@ unfolding lineTo
 returns-3 c =
     let k = c .before in
     let j = k .before .before in
+    let a = j .before .before .before .before .args in
+    let p = j .point-length .ensures .1 in
     let some : 0 < j .point-length .result = let h = k .before .if2 .left in omega arith in (
-      rw (← j .point-length .ensures .0, lt-ltb _ _ some, ← k .ends-at .ensures .0, c .if3 .taken) refl,
-      λ h. record { bytes = j .point-length .result; some = some; point = j .point-length .ensures .1 .0; ends = k .ends-at .ensures .1 (c .if3 .taken); is = refl },
+      rw (← j .point-length .ensures .0, ne-eqb _ _ (k .before .if2 .left), ← k .ends-at .ensures .0, c .if3 .taken) refl,
+      λ h. record {
+        bytes = j .point-length .result;
+        some = some;
+        point = p .0;
+        numbers = whole-taken (a .high) (a .s .now) (a .at + 1) some (p .1) (p .0);
+        ends = k .ends-at .ensures .1 (c .if3 .taken);
+        is = refl;
+      },
     )
 
 returns-4 : tie.Need-returns-4
@@ -56,8 +72,7 @@ unfolding lineTo
 returns-4 c =
     let k = c .before in
     let j = k .before .before in
-    let some : 0 < j .point-length .result = let h = k .before .if2 .left in omega arith in
-    (rw (← j .point-length .ensures .0, lt-ltb _ _ some, ← k .ends-at .ensures .0, c .if3 .left) refl, λ h. absurd (omega arith))
+    (rw (← j .point-length .ensures .0, ne-eqb _ _ (k .before .if2 .left), ← k .ends-at .ensures .0, c .if3 .left) refl, λ h. absurd (omega arith))
 
 pub line-to-spec : {M : Type 1} → statement M
 line-to-spec =
@@ -66,6 +81,7 @@ line-to-spec =
     returns
     shared-slice-read-point-length
     point-length-requires
+    real-line-to-requires
     returns-2
     add-ends-at
     add-ends-at-2

@@ -49,14 +49,14 @@ returns-3 c =
     let f : k .list-one .result ≡ false = not-true _ (c .if3 .taken) in
     (tt, λ opened held used. runs-still (rw f at (k .list-one .ensures .1)))
 
-add-t10 : tie.Need-add-t10
-add-t10 c = search needs
-
-add-t18 : tie.Need-add-t18
-add-t18 c = search needs
+add-t11 : tie.Need-add-t11
+add-t11 c = search needs
 
 add-t19 : tie.Need-add-t19
-add-t19 c = let h = room c in omega arith
+add-t19 c = search needs
+
+add-t20 : tie.Need-add-t20
+add-t20 c = let h = room c in omega arith
 
 same-length-2 : tie.Need-same-length-2
 same-length-2 c = search needs
@@ -77,8 +77,8 @@ returns-4 c =
             on = omega arith;
             within = λ h. omega arith;
             counted = omega arith;
-            leads = λ list₀ rows sums work set d e₁ h.
-                one-line (a .job .now) list₀ rows sums work (a .list .now) (k .list-one .last .0) set opened held used (a .from) (m .line-to .result) line (omega arith)
+            leads = λ list₀ rows sums work set d order e₁ h.
+                one-line (a .job .now) list₀ rows sums work (a .list .now) (k .list-one .last .0) set opened held used (a .from) (m .line-to .result) (rw (sym order) at line) (omega arith)
                 (not-false _ (m .before .if1 .left)) e₁ (sym f ∙ k .list-one .ensures .0) (rw f at (k .list-one .ensures .1)) d h;
           },
     )
@@ -96,8 +96,8 @@ pass-line-spec =
     list-one-requires
     same-length
     returns-3
-    add-t10
-    add-t18
+    add-t11
     add-t19
+    add-t20
     same-length-2
     returns-4)

@@ -19,7 +19,7 @@ returns c e =
     let a = k .before .before .before .before .args in
     let w : a .st ≡ inSession (a .opened) (a .held) (a .used) (record { at = a .st .at; page = a .page; performed = a .st .performed; records = a .st .records }) =
     λ i. record { at = a .st .at; place = e i; performed = a .st .performed; records = a .st .records } in
-    subst⁻¹ (λ (x : State). Runs (a .job .now) (a .list .now) (k .run-from .last .1 .0) x (inSession (a .opened) (a .held) (a .used) (k .run-from .result))) w
+    subst⁻¹ (λ (x : State). Runs (a .job .now) (a .high) (a .list .now) (k .run-from .last .1 .1 .0) x (inSession (a .opened) (a .held) (a .used) (k .run-from .result))) w
     (k .run-from .ensures (a .opened) (a .held) (a .used))
 
 pub past-run-spec : {M : Type 1} → statement M

@@ -12,10 +12,10 @@ use Rattle.running.proofs.running.run_from.Statement.{statement}
 use Rattle.running.proofs.running.run_from.Tie as tie
 
 abbrev Inv-loop : tie.InvT-loop
-Inv-loop job list₀ run₀ list run = (opened : Bool) (held used : ℕ) → Runs job list₀ list (inSession opened held used run₀) (inSession opened held used run)
+Inv-loop job high list₀ run₀ list run = (opened : Bool) (held used : ℕ) → Runs job high list₀ list (inSession opened held used run₀) (inSession opened held used run)
 
 abbrev μ-loop : tie.MeasureT-loop
-μ-loop job list₀ run₀ list run = length job - run .at
+μ-loop job high list₀ run₀ list run = length job - run .at
 
 loop-holds : tie.Need-loop-holds Inv-loop μ-loop
 loop-holds c opened held used = runs-none

@@ -72,7 +72,7 @@ loop-again c =
     let n = d .advance .ensures in
     let p = rw e at (n .1 .1 .0) in
     let set : Setting = settingAs (a .set) in
-    let g = r .run-on .ensures .leads (a .list .now) _ _ _ set (i .6 .0) (sym (i .1)) (i .6 .1 .0) in
+    let g = r .run-on .ensures .leads (a .list .now) _ _ _ set (i .6 .0) refl (sym (i .1)) (i .6 .1 .0) in
     let l = r .run-on .ensures .long ∙ i .1 in (
       n .0 .work-long ∙ i .0,
       n .0 .list-long ∙ l,
@@ -102,7 +102,7 @@ returns c =
     let e = c .before .verdict .given .1 in
     let n = d .advance .ensures in
     let set : Setting = settingAs (a .set) in
-    let g = r .run-on .ensures .leads (a .list .now) _ _ _ set (i .6 .0) (sym (i .1)) (i .6 .1 .0) in
+    let g = r .run-on .ensures .leads (a .list .now) _ _ _ set (i .6 .0) refl (sym (i .1)) (i .6 .1 .0) in
     let l = r .run-on .ensures .long ∙ i .1 in (
       record { work-long = n .0 .work-long ∙ i .0; list-long = n .0 .list-long ∙ l; rest = n .0 .rest ∙ i .5 },
       turned-stop (a .job .now) (a .list .now) set _ _ _ (g .there) (g .judged ∙ i .6 .1 .1) (rw e at (n .1 .1 .1 (g .there) (a .list .now) (sym l) (i .2) (g .stands))),
