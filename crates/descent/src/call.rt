@@ -2,6 +2,7 @@
 use arm::seen::Seen;
 use keeping::MANY;
 use motif::Where;
+use setting::Setting;
 use trail::COUNT;
 use trail::TAG;
 
@@ -31,11 +32,10 @@ fn row_in(
 }
 
 // What is seen after an operator that is no call.
-fn step(s: &[u8], attrs: &[usize; 80], st: &[usize; 16], seen: Seen) -> Seen {
-    let high = number::byte_at(s, 0) == 0x28;
+fn step(s: &[u8], set: Setting, attrs: &[usize; 80], st: &[usize; 16], seen: Seen) -> Seen {
     let tag = (st[TAG] % 256) as u8;
     let reads = trail::is_told(s, st);
-    seen.step(act::act_of(s, high, tag, reads, attrs, st[COUNT]))
+    seen.step(act::act_of(s, set, tag, reads, attrs, st[COUNT]))
 }
 
 // Notes the motif that an operator of s calls.
@@ -52,6 +52,7 @@ pub fn note_called(
 // What is seen after the operator of s that a walk has come to.
 pub fn performed(
     s: &[u8],
+    set: Setting,
     job: &[u8],
     rows: &[usize; 192],
     sums: &[u64; 64],
@@ -64,5 +65,5 @@ pub fn performed(
     if k < 64 {
         return seen.call(summary::unpacked(sums[k]));
     }
-    step(s, attrs, st, seen)
+    step(s, set, attrs, st, seen)
 }

@@ -7,6 +7,7 @@ use crate::page::page_at;
 use arm::page::Page;
 use arm::seen::Seen;
 use attributes::Part;
+use setting::Setting;
 
 // The code of the rule, among the numbers of a walk.
 const CODE: usize = 15;
@@ -28,9 +29,30 @@ fn is_broken(code: usize, seen: Seen) -> bool {
     }
 }
 
+// What a job with a header is read with, whose pages start in gray or else in RGB.
+fn setting_of(job: &[u8], gray: bool) -> Setting {
+    let class = trail::class_in(job);
+    Setting {
+        class,
+        high: number::byte_at(job, 0) == 0x28,
+        gray,
+    }
+}
+
+// A motif in a job: in its own byte order, else as the job.
+fn in_motif(s: &[u8], set: Setting) -> Setting {
+    let class = set.class;
+    Setting {
+        class,
+        high: number::byte_at(s, 0) == 0x28,
+        gray: set.gray,
+    }
+}
+
 // Goes from a page on through a motif to the operator, which `st` and `attrs` tell then; the answer is the page before it.
 fn through(
     s: &[u8],
+    set: Setting,
     job: &[u8],
     rows: &[usize; 192],
     sums: &[u64; 64],
@@ -38,14 +60,14 @@ fn through(
     attrs: &mut [usize; 80],
     st: &mut [usize; 16],
 ) -> Page {
-    let high = number::byte_at(s, 0) == 0x28;
+    let own = in_motif(s, set);
     let mut seen = Seen::from(page, 0);
     let mut at = trail::begin(s);
     let mut turns = s.len();
     while 0 < turns {
         turns -= 1;
-        at = trail::pass(s, high, at, s.len(), attrs, st);
-        let then = performed(s, job, rows, sums, attrs, st, seen);
+        at = trail::pass(s, own.high, at, s.len(), attrs, st);
+        let then = performed(s, own, job, rows, sums, attrs, st, seen);
         if is_broken(st[CODE], then) {
             return seen.page;
         }
@@ -72,6 +94,7 @@ fn bytes_of(starts: &[usize; 65], k: usize) -> Part {
 
 // The same of the motif that is called.
 fn inside(
+    set: Setting,
     store: &[u8],
     starts: &[usize; 65],
     job: &[u8],
@@ -92,6 +115,7 @@ fn inside(
     }
     through(
         &store[first..first + count],
+        set,
         job,
         rows,
         sums,
@@ -103,6 +127,7 @@ fn inside(
 
 // From the motif that is called down to the one with the operator; the answer is its row.
 fn down(
+    set: Setting,
     store: &[u8],
     starts: &[usize; 65],
     job: &[u8],
@@ -117,7 +142,7 @@ fn down(
     let mut turns: usize = 32;
     while 0 < turns {
         turns -= 1;
-        page = inside(store, starts, job, rows, sums, page, attrs, st);
+        page = inside(set, store, starts, job, rows, sums, page, attrs, st);
         if st[CALLED] == NONE {
             return k;
         }
@@ -150,10 +175,11 @@ pub fn breach_in(
     let mut rows = [0usize; 192];
     let mut sums = [0u64; 64];
     let mut starts = [0usize; 65];
+    let set = setting_of(job, gray);
     let page = page_at(
         job,
         to,
-        gray,
+        set,
         store,
         &mut rows,
         &mut sums,
@@ -164,7 +190,7 @@ pub fn breach_in(
     st[CODE] = code as usize;
     note_called(job, job, &rows, attrs, st);
     let first = st[CALLED];
-    let last = down(store, &starts, job, &rows, &sums, page, attrs, st);
+    let last = down(set, store, &starts, job, &rows, &sums, page, attrs, st);
     Breach {
         bytes: bytes_of(&starts, last),
         name: name_of(&rows, last),

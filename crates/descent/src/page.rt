@@ -4,12 +4,13 @@ use arm::page::Page;
 use arm::page::blank;
 use arm::seen::Seen;
 use keeping::keep;
+use setting::Setting;
 use trail::TAG;
 
 // The page after an operator of the job.
 fn after(
     job: &[u8],
-    gray: bool,
+    set: Setting,
     rows: &[usize; 192],
     sums: &[u64; 64],
     attrs: &[usize; 80],
@@ -17,9 +18,9 @@ fn after(
     page: Page,
 ) -> Page {
     if st[TAG] == 0x43 {
-        return blank(gray);
+        return blank(set.gray);
     }
-    let seen = performed(job, job, rows, sums, attrs, st, Seen::from(page, 0));
+    let seen = performed(job, set, job, rows, sums, attrs, st, Seen::from(page, 0));
     seen.page
 }
 
@@ -27,7 +28,7 @@ fn after(
 pub fn page_at(
     job: &[u8],
     to: usize,
-    gray: bool,
+    set: Setting,
     store: &mut [u8],
     rows: &mut [usize; 192],
     sums: &mut [u64; 64],
@@ -35,18 +36,17 @@ pub fn page_at(
     attrs: &mut [usize; 80],
     st: &mut [usize; 16],
 ) -> Page {
-    let high = number::byte_at(job, 0) == 0x28;
-    let mut page = blank(gray);
+    let mut page = blank(set.gray);
     let mut at = trail::begin(job);
     let mut turns = job.len();
     while 0 < turns {
         turns -= 1;
-        let next = trail::pass(job, high, at, to, attrs, st);
+        let next = trail::pass(job, set.high, at, to, attrs, st);
         if next == at {
             return page;
         }
-        keep(job, store, rows, sums, starts, attrs, st);
-        page = after(job, gray, rows, sums, attrs, st, page);
+        keep(job, set, store, rows, sums, starts, attrs, st);
+        page = after(job, set, rows, sums, attrs, st, page);
         at = next;
     }
     page

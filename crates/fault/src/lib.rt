@@ -1,6 +1,7 @@
 // A fault of a job or of a motif: its cause and its cure.
 use attributes::Part;
 use descent::Breach;
+use setting::Class;
 use tell::Facts;
 use text::number;
 use text::say;
@@ -8,12 +9,28 @@ use text::say;
 // The line of an attribute that is missing.
 const MISSING: usize = 63;
 
+// The line of an attribute of class 2;1 in a job of class 1;1.
+const ATTRIBUTE_OF_TWO: usize = 71;
+
 // Lines of cures for an operator of a motif that is called.
-const SAVES: usize = 69;
+const SAVES: usize = 72;
 
-const LACKS_CURSOR: usize = 70;
+const LACKS_CURSOR: usize = 73;
 
-const LACKS_COLOUR: usize = 71;
+const LACKS_COLOUR: usize = 74;
+
+// An attribute of class 2;1 stands in a job of class 1;1.
+fn is_of_two(class: Class, number: usize) -> bool {
+    match class {
+        Class::One => match number {
+            39 => true,
+            110 => true,
+            111 => true,
+            _ => false,
+        },
+        Class::Two => false,
+    }
+}
 
 // The line of the sentence for a code, once its operator is known.
 fn line_of(code: u32, s: &[u8], at: usize, st: &[usize; 16], f: Facts) -> usize {
@@ -23,6 +40,12 @@ fn line_of(code: u32, s: &[u8], at: usize, st: &[usize; 16], f: Facts) -> usize 
     if code == 13 {
         if f.missing != 0 {
             return MISSING;
+        }
+    }
+    let class = f.class;
+    if code == 11 {
+        if is_of_two(class, f.number) {
+            return ATTRIBUTE_OF_TWO;
         }
     }
     trail::line_of(code, s, st)

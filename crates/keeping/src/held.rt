@@ -1,5 +1,6 @@
 // The motifs that a session holds: names and depths in `rows`, what each comes to in `sums`, and their bytes in the store, one behind the other.
 ghost use Prim.Native.Nat.{_≤_};
+use setting::Setting;
 use stream::Judged;
 use trail::BEHIND;
 use trail::COUNT;
@@ -53,6 +54,7 @@ fn read_stream(job: &[u8], store: &mut [u8], starts: &mut [usize; 65], st: &[usi
 // EndStream: the one that was read is held, with what it comes to.
 fn end_stream(
     job: &[u8],
+    set: Setting,
     store: &[u8],
     rows: &mut [usize; 192],
     sums: &mut [u64; 64],
@@ -68,7 +70,7 @@ fn end_stream(
     if end < start {
         return;
     }
-    match stream::judge_motif(&store[start..end], job, rows, sums, k) {
+    match stream::judge_motif(&store[start..end], set, job, rows, sums, k) {
         Judged::Valid(depth, sum) => {
             rows[k * 3 + 2] = depth;
             sums[k] = sum;
@@ -81,6 +83,7 @@ fn end_stream(
 // What an operator of the job makes of the motifs held.
 pub fn keep(
     job: &[u8],
+    set: Setting,
     store: &mut [u8],
     rows: &mut [usize; 192],
     sums: &mut [u64; 64],
@@ -92,7 +95,7 @@ pub fn keep(
         0x41 => st[MANY] = 0,
         0x5b => begin_stream(job, rows, starts, attrs, st),
         0x5c => read_stream(job, store, starts, st),
-        0x5d => end_stream(job, store, rows, sums, starts, st),
+        0x5d => end_stream(job, set, store, rows, sums, starts, st),
         _ => {}
     }
 }

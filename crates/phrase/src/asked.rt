@@ -1,6 +1,7 @@
 // What the table asks of an operator's attributes, in words.
 use crate::called::attribute;
 use crate::called::operator;
+use setting::Class;
 use table::Kind;
 use text::number;
 use text::say;
@@ -47,12 +48,14 @@ fn values(kind: Kind, low: usize, high: usize) {
         Kind::A => array(low, high),
         Kind::D => say(b" takes two uint16, not 0, or two real32 above zero"),
         Kind::M => say(b" takes a ubyte, 0 to 12 or 14 to 16"),
+        Kind::M2 => say(b" takes a ubyte, 0 to 21 or 96, or a name of 1 to 1,024 bytes"),
+        Kind::L => say(b" takes a ubyte, uint16 or uint32"),
     }
 }
 
-// The values that an attribute takes.
-pub fn takes(n: usize) {
-    let rule = table::rule_of((n % 256) as u8);
+// The values that an attribute takes in a class.
+pub fn takes(class: Class, n: usize) {
+    let rule = table::rule_of(class, (n % 256) as u8);
     let kind = rule.kind;
     attribute(n);
     values(kind, rule.low, rule.high);
@@ -70,9 +73,9 @@ fn one(n: u8, before: bool) -> bool {
     true
 }
 
-// Says the attributes that an operator takes.
-pub fn all_of(tag: u8) {
-    let row = table::row_of(tag);
+// Says the attributes that an operator takes in a class.
+pub fn all_of(class: Class, tag: u8) {
+    let row = table::row_of(class, tag);
     let numbers = row.numbers;
     operator(tag);
     say(b" takes ");
@@ -88,12 +91,21 @@ pub fn all_of(tag: u8) {
     }
 }
 
-// Says what an operator with a choice of attributes may have.
-pub fn choice(tag: u8) {
+// Of ReadImage.
+fn rows_of(class: Class) {
+    say(b"let StartLine be the rows so far, and send no more rows than SourceHeight");
+    match class {
+        Class::One => {}
+        Class::Two => say(b"; let BlockByteLength, if it is there, be the length of the data"),
+    }
+}
+
+// Says what an operator with a choice of attributes may have in a class.
+pub fn choice(class: Class, tag: u8) {
     match tag {
         0x63 => say(b"give one of RGBColor, GrayLevel and NullBrush"),
         0x79 => say(b"give one of RGBColor, GrayLevel and NullPen"),
-        0xb1 => say(b"let StartLine be the rows so far, and send no more rows than SourceHeight"),
+        0xb1 => rows_of(class),
         _ => say(b"give EndPoint alone, or NumberOfPoints and PointType"),
     }
 }

@@ -4,9 +4,9 @@ use words::AttributeName;
 use words::OperatorName;
 
 // How many names there are.
-const OPERATORS: usize = 28;
+const OPERATORS: usize = 29;
 
-const ATTRIBUTES: usize = 31;
+const ATTRIBUTES: usize = 34;
 
 // The line of an operator's name in the text below.
 fn operator_line(name: OperatorName) -> usize {
@@ -18,27 +18,28 @@ fn operator_line(name: OperatorName) -> usize {
         OperatorName::Comment => 4,
         OperatorName::OpenDataSource => 5,
         OperatorName::CloseDataSource => 6,
-        OperatorName::BeginStream => 7,
-        OperatorName::ReadStream => 8,
-        OperatorName::EndStream => 9,
-        OperatorName::ExecStream => 10,
-        OperatorName::PopGS => 11,
-        OperatorName::PushGS => 12,
-        OperatorName::SetBrushSource => 13,
-        OperatorName::SetColorSpace => 14,
-        OperatorName::SetCursor => 15,
-        OperatorName::SetCursorRel => 16,
-        OperatorName::SetPenSource => 17,
-        OperatorName::SetPenWidth => 18,
-        OperatorName::CloseSubPath => 19,
-        OperatorName::NewPath => 20,
-        OperatorName::PaintPath => 21,
-        OperatorName::LinePath => 22,
-        OperatorName::LineRelPath => 23,
-        OperatorName::Rectangle => 24,
-        OperatorName::BeginImage => 25,
-        OperatorName::ReadImage => 26,
-        OperatorName::EndImage => 27,
+        OperatorName::SetDefaultGS => 7,
+        OperatorName::BeginStream => 8,
+        OperatorName::ReadStream => 9,
+        OperatorName::EndStream => 10,
+        OperatorName::ExecStream => 11,
+        OperatorName::PopGS => 12,
+        OperatorName::PushGS => 13,
+        OperatorName::SetBrushSource => 14,
+        OperatorName::SetColorSpace => 15,
+        OperatorName::SetCursor => 16,
+        OperatorName::SetCursorRel => 17,
+        OperatorName::SetPenSource => 18,
+        OperatorName::SetPenWidth => 19,
+        OperatorName::CloseSubPath => 20,
+        OperatorName::NewPath => 21,
+        OperatorName::PaintPath => 22,
+        OperatorName::LinePath => 23,
+        OperatorName::LineRelPath => 24,
+        OperatorName::Rectangle => 25,
+        OperatorName::BeginImage => 26,
+        OperatorName::ReadImage => 27,
+        OperatorName::EndImage => 28,
         OperatorName::Unknown => OPERATORS,
     }
 }
@@ -53,30 +54,33 @@ fn attribute_line(name: AttributeName) -> usize {
         AttributeName::RGBColor => 4,
         AttributeName::MediaSize => 5,
         AttributeName::MediaSource => 6,
-        AttributeName::Orientation => 7,
-        AttributeName::PageCopies => 8,
-        AttributeName::BoundingBox => 9,
-        AttributeName::EndPoint => 10,
-        AttributeName::PenWidth => 11,
-        AttributeName::Point => 12,
-        AttributeName::NumberOfPoints => 13,
-        AttributeName::PointType => 14,
-        AttributeName::ColorDepth => 15,
-        AttributeName::BlockHeight => 16,
-        AttributeName::ColorMapping => 17,
-        AttributeName::CompressMode => 18,
-        AttributeName::DestinationSize => 19,
-        AttributeName::SourceHeight => 20,
-        AttributeName::SourceWidth => 21,
-        AttributeName::StartLine => 22,
-        AttributeName::CommentData => 23,
-        AttributeName::DataOrg => 24,
-        AttributeName::Measure => 25,
-        AttributeName::SourceType => 26,
-        AttributeName::UnitsPerMeasure => 27,
-        AttributeName::StreamName => 28,
-        AttributeName::StreamDataLength => 29,
-        AttributeName::ErrorReport => 30,
+        AttributeName::MediaType => 7,
+        AttributeName::Orientation => 8,
+        AttributeName::PageCopies => 9,
+        AttributeName::BoundingBox => 10,
+        AttributeName::EndPoint => 11,
+        AttributeName::PenWidth => 12,
+        AttributeName::Point => 13,
+        AttributeName::NumberOfPoints => 14,
+        AttributeName::PointType => 15,
+        AttributeName::ColorDepth => 16,
+        AttributeName::BlockHeight => 17,
+        AttributeName::ColorMapping => 18,
+        AttributeName::CompressMode => 19,
+        AttributeName::DestinationSize => 20,
+        AttributeName::SourceHeight => 21,
+        AttributeName::SourceWidth => 22,
+        AttributeName::StartLine => 23,
+        AttributeName::PadBytesMultiple => 24,
+        AttributeName::BlockByteLength => 25,
+        AttributeName::CommentData => 26,
+        AttributeName::DataOrg => 27,
+        AttributeName::Measure => 28,
+        AttributeName::SourceType => 29,
+        AttributeName::UnitsPerMeasure => 30,
+        AttributeName::StreamName => 31,
+        AttributeName::StreamDataLength => 32,
+        AttributeName::ErrorReport => 33,
         AttributeName::Unknown => ATTRIBUTES,
     }
 }
@@ -90,6 +94,7 @@ EndPage
 Comment
 OpenDataSource
 CloseDataSource
+SetDefaultGS
 BeginStream
 ReadStream
 EndStream
@@ -125,6 +130,7 @@ GrayLevel
 RGBColor
 MediaSize
 MediaSource
+MediaType
 Orientation
 PageCopies
 BoundingBox
@@ -141,6 +147,8 @@ DestinationSize
 SourceHeight
 SourceWidth
 StartLine
+PadBytesMultiple
+BlockByteLength
 CommentData
 DataOrg
 Measure
@@ -165,7 +173,6 @@ fn foreign_operator(tag: u8) -> bool {
 \x54EndChar
 \x55RemoveFont
 \x56SetCharAttributes
-\x57SetDefaultGS
 \x58SetColorTreatment
 \x5fRemoveStream
 \x62SetClipReplace
@@ -230,7 +237,6 @@ fn foreign_attribute(n: u8) -> bool {
 \x22DitherMatrixDataType
 \x23DitherOrigin
 \x24MediaDestination
-\x27MediaType
 \x29PageAngle
 \x2aPageOrigin
 \x2bPageScale
@@ -260,8 +266,6 @@ fn foreign_attribute(n: u8) -> bool {
 \x66DestinationBox
 \x68PatternPersistence
 \x69PatternDefineID
-\x6eXPairType
-\x6fNumberOfXPairs
 \x71XStart
 \x72XEnd
 \x73NumberOfScanLines

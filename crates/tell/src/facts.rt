@@ -2,13 +2,14 @@
 use crate::missing::missing;
 use names::attributes::STREAM_NAME;
 use number::byte_at;
+use setting::Class;
 use trail::COUNT;
 use trail::HEIGHT;
 use trail::ROWS;
 use trail::SAVED;
 use trail::TAG;
 
-// The place and its byte; of the value there its attribute's number, count of numbers and place of the first; the operator's tag, the
+// The place and its byte; of the value there its attribute's number, count of numbers and place of the first; the class, the operator's tag, the
 // attribute that it lacks, the data that it asks for and that is told; the name that it gives; states saved, rows read and all rows.
 pub struct Facts {
     pub at: u32,
@@ -16,6 +17,7 @@ pub struct Facts {
     pub number: usize,
     pub count: u32,
     pub first: usize,
+    pub class: Class,
     pub tag: u8,
     pub missing: usize,
     pub asked: u32,
@@ -50,6 +52,7 @@ fn index_of(attrs: &[usize; 80], n: usize, at: usize) -> usize {
 pub fn facts_in(s: &[u8], at: usize, attrs: &[usize; 80], st: &[usize; 16]) -> Facts {
     let high = byte_at(s, 0) == 0x28;
     let n = st[COUNT];
+    let class = trail::class_in(s);
     let tag = (st[TAG] % 256) as u8;
     let i = index_of(attrs, n, at);
     let part = attributes::part_in(attrs, n, STREAM_NAME);
@@ -59,8 +62,9 @@ pub fn facts_in(s: &[u8], at: usize, attrs: &[usize; 80], st: &[usize; 16]) -> F
         number: element(attrs, i, 0),
         count: small(element(attrs, i, 3)),
         first: element(attrs, i, 4),
+        class,
         tag,
-        missing: missing(tag, attrs, n),
+        missing: missing(class, tag, attrs, n),
         asked: small(trail::asked(s, high, attrs, st)),
         told: trail::told(s, high, st),
         name: part.first,

@@ -8,7 +8,7 @@ pub fn cause(k: usize, s: &[u8], f: Facts) {
 longer than 61,440 bytes
 header malformed
 written in the ASCII form
-of another class than PCL XL 1;1
+of another class than PCL XL 1;1 and 2;1
 ends inside an item
 no item that may come here: %b
 %a is a 17th attribute of %o
@@ -73,6 +73,9 @@ no PCL XL file: it begins with zero bytes, as an adapter pads with them
 the motif %u calls itself
 the motif %u is defined only later
 the motif %u is defined only later
+of another class than the job
+%o is an operator of class 2;1, and this job is of class 1;1
+%a is an attribute of class 2;1, and this job is of class 1;1
 ";
     sentence(lines, k, s, f);
 }
@@ -83,7 +86,7 @@ pub fn cure(k: usize, s: &[u8], f: Facts) {
 make the job shorter, or split it in two
 begin the file with `) HP-PCL XL;1;1` and a line feed, nothing before it
 save the job in the binary form
-save the job as PCL XL 1;1
+save the job as PCL XL 1;1 or 2;1
 the end is cut off: send the whole file again
 take this byte out, or mend the item before it
 give one operator at most 16 attributes
@@ -148,15 +151,18 @@ send it from its header on: zero bytes may stand behind the header, not before i
 take this call out: a motif may call only those defined before it
 define it before the page or motif that calls it
 define it in this session too, before the page
+give the motif's header the class of the job's own
+take it out, or save the job as PCL XL 2;1
+take it out, or save the job as PCL XL 2;1
 take it and its PopGS out of that motif
 in that motif, put a SetCursor before it
 in that motif, put a SetColorSpace before it: RGB for RGBColor, gray for GrayLevel and images
 take it out: between sessions only BeginSession may come
 take it out: in a session, outside its pages, only Comment, OpenDataSource, CloseDataSource, BeginStream, BeginPage and EndSession may come
 take it out: in the definition of a motif only ReadStream and EndStream may come
-take it out: in a page only Comment, EndPage, ExecStream, PushGS, PopGS, SetBrushSource, SetColorSpace, SetCursor, SetCursorRel, SetPenSource, SetPenWidth, CloseSubPath, NewPath, PaintPath, LinePath, LineRelPath, Rectangle and BeginImage may come
+take it out: in a page only Comment, EndPage, ExecStream, PushGS, PopGS, SetBrushSource, SetColorSpace, SetCursor, SetCursorRel, SetPenSource, SetPenWidth, CloseSubPath, NewPath, PaintPath, LinePath, LineRelPath, Rectangle and BeginImage may come, and in class 2;1 SetDefaultGS
 take it out: in an image only ReadImage and EndImage may come
-take it out: in a motif only Comment, ExecStream, PushGS, PopGS, SetBrushSource, SetColorSpace, SetCursor, SetCursorRel, SetPenSource, SetPenWidth, CloseSubPath, NewPath, PaintPath, LinePath, LineRelPath, Rectangle and BeginImage may come
+take it out: in a motif only Comment, ExecStream, PushGS, PopGS, SetBrushSource, SetColorSpace, SetCursor, SetCursorRel, SetPenSource, SetPenWidth, CloseSubPath, NewPath, PaintPath, LinePath, LineRelPath, Rectangle and BeginImage may come, and in class 2;1 SetDefaultGS
 ";
     sentence(lines, k, s, f);
 }

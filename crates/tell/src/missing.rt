@@ -1,4 +1,5 @@
 // The attribute that an operator lacks.
+use setting::Class;
 use table::Form;
 
 // Attribute i of a line, if it is one of the first so many, which must be there, and is not; else what was found so far.
@@ -23,9 +24,9 @@ fn each(attrs: &[usize; 80], n: usize, many: usize, numbers: [u8; 8]) -> usize {
     lacks(attrs, n, many, 0, numbers[0], g)
 }
 
-// The first attribute that the operator of a tag must have and has not; 0 if it has a choice.
-pub fn missing(tag: u8, attrs: &[usize; 80], n: usize) -> usize {
-    let row = table::row_of(tag);
+// The first attribute that the operator of a tag must have in a class and has not; 0 if it has a choice.
+pub fn missing(class: Class, tag: u8, attrs: &[usize; 80], n: usize) -> usize {
+    let row = table::row_of(class, tag);
     let form = row.form;
     let numbers = row.numbers;
     match form {

@@ -4,17 +4,18 @@ use text::number;
 
 // Says the fact of a letter.
 fn fact(s: &[u8], f: Facts, letter: u8) {
+    let class = f.class;
     match letter {
         b'a' => phrase::attribute(f.number),
         b'b' => text::byte(f.byte),
-        b'c' => phrase::choice(f.tag),
+        b'c' => phrase::choice(class, f.tag),
         b'h' => text::many(f.height, b"row"),
-        b'k' => phrase::all_of(f.tag),
+        b'k' => phrase::all_of(class, f.tag),
         b'm' => phrase::attribute(f.missing),
         b'o' => phrase::operator(f.tag),
         b'p' => text::plain(f.at),
-        b'q' => phrase::takes(f.missing),
-        b'r' => phrase::takes(f.number),
+        b'q' => phrase::takes(class, f.missing),
+        b'r' => phrase::takes(class, f.number),
         b's' => text::many(f.saved, b"state"),
         b't' => phrase::kind(f.byte),
         b'u' => text::part(s, f.letters, f.name),

@@ -41,7 +41,7 @@ fn times(n: usize, k: usize) -> usize {
     if 65_535 < n {
         return n;
     }
-    if 65_536 < k {
+    if 131_070 < k {
         return k;
     }
     n * k
@@ -63,7 +63,12 @@ pub fn asked(s: &[u8], high: bool, attrs: &[usize; 80], st: &[usize; 16]) -> usi
     }
     if st[TAG] == 0xb1 {
         let rows = attributes::value_in(s, high, attrs, n, BLOCK_HEIGHT) as usize;
-        let row = order::row_of((st[WIDTH] % 65_536) as u16, (st[DEPTH] % 65_536) as u16);
+        let pad = order::pad_of(s, high, attrs, n);
+        let row = order::row_of(
+            (st[WIDTH] % 65_536) as u16,
+            (st[DEPTH] % 65_536) as u16,
+            pad,
+        );
         return times(rows, row);
     }
     let kind = attributes::value_in(s, high, attrs, n, POINT_TYPE);

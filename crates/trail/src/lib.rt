@@ -15,6 +15,7 @@ pub use walk::COUNT;
 pub use walk::PLACE;
 pub use walk::TAG;
 pub use walk::begin;
+pub use walk::class_in;
 pub use walk::pass;
 pub use walk::walk_job;
 pub use walk::walk_motif;

@@ -8,6 +8,7 @@ use items::Scan;
 use number::Width;
 use number::byte_at;
 use number::number_at;
+use setting::Class;
 
 // Of the operator at the place: where its items begin, its tag, the number of its attributes, and the tag's place; of none the tag 0.
 pub const START: usize = 8;
@@ -123,15 +124,23 @@ fn all(
 // Where the operators of a job or a motif begin; its end if its header is malformed.
 pub fn begin(s: &[u8]) -> usize {
     match header::header_of(s) {
-        Header::Is(_, start) => start,
+        Header::Is(_, _, start) => start,
         Header::No(_, _) => s.len(),
+    }
+}
+
+// The class of a job or a motif that has a header.
+pub fn class_in(s: &[u8]) -> Class {
+    match byte_at(s, 12) {
+        0x32 => Class::Two,
+        _ => Class::One,
     }
 }
 
 // Walks a job to the operator at a place, or with a value there: `st` says how matters stand, `attrs` has its attributes.
 pub fn walk_job(job: &[u8], to: usize, attrs: &mut [usize; 80], st: &mut [usize; 16]) {
     match header::header_of(job) {
-        Header::Is(high, start) => all(job, high, start, to, attrs, st),
+        Header::Is(_, high, start) => all(job, high, start, to, attrs, st),
         Header::No(_, _) => {}
     }
 }

@@ -64,10 +64,14 @@ const NO_DATA: usize = 61;
 
 const OTHER_LENGTH: usize = 62;
 
-// The first of the cures' lines of what may come, and the one of a motif.
-const MAY_COME: usize = 72;
+const OTHER_CLASS: usize = 69;
 
-const MAY_COME_IN_A_MOTIF: usize = 77;
+const OPERATOR_OF_TWO: usize = 70;
+
+// The first of the cures' lines of what may come, and the one of a motif.
+const MAY_COME: usize = 75;
+
+const MAY_COME_IN_A_MOTIF: usize = 80;
 
 // Of 10 in a session.
 fn session_line(tag: usize) -> usize {
@@ -165,9 +169,21 @@ fn data_line(s: &[u8], st: &[usize; 16]) -> usize {
     }
 }
 
+// Of 4: a motif has the job's class.
+fn class_line(motif: usize) -> usize {
+    if motif == 1 { OTHER_CLASS } else { 4 }
+}
+
+// Of 9.
+fn unknown_line(tag: usize) -> usize {
+    if tag == 0x57 { OPERATOR_OF_TWO } else { 9 }
+}
+
 // The line of a code.
 pub fn line_of(code: u32, s: &[u8], st: &[usize; 16]) -> usize {
     match code {
+        4 => class_line(st[MOTIF]),
+        9 => unknown_line(st[TAG]),
         10 => order_line(st),
         17 => source_line(st[TAG]),
         18 => data_line(s, st),

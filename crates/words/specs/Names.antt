@@ -1,6 +1,7 @@
--- The names that the program says, against the tables of 01.
+-- The names that the program says, against the tables.
 -- Assumes nothing.
 use Prim.Native.Nat.{ℕ}
+use Rattle.scope.specs.Header.{two}
 use Rattle.scope.specs.Names as names
 use Rattle.scope.specs.Table.{table, Line, lineIn, Ruled, ruleIn}
 use Rattle.table.specs.Lines.{rulesIn}
@@ -22,13 +23,13 @@ abbrev ruleNumber : Ruled → Known
 ruleNumber (Ruled.is r) = is (r .number)
 ruleNumber Ruled.none = none
 
--- the operator of a tag in the table
+-- the operator of a tag in the table of class 2;1, which has all of 1;1
 unfoldable pub operatorIn : ℕ → Known
-operatorIn tag = lineTag (lineIn table tag)
+operatorIn tag = lineTag (lineIn (table two) tag)
 
--- the attribute of a number in the lines of the table
+-- the attribute of a number in the lines of that table
 unfoldable pub attributeIn : ℕ → Known
-attributeIn n = ruleNumber (ruleIn (rulesIn table) n)
+attributeIn n = ruleNumber (ruleIn (rulesIn (table two)) n)
 
 -- the operator of a name
 abbrev pub operatorAs : OperatorName → Known
@@ -39,6 +40,7 @@ operatorAs operator-is.EndPage = is names.EndPage
 operatorAs operator-is.Comment = is names.Comment
 operatorAs operator-is.OpenDataSource = is names.OpenDataSource
 operatorAs operator-is.CloseDataSource = is names.CloseDataSource
+operatorAs operator-is.SetDefaultGS = is names.SetDefaultGS
 operatorAs operator-is.BeginStream = is names.BeginStream
 operatorAs operator-is.ReadStream = is names.ReadStream
 operatorAs operator-is.EndStream = is names.EndStream
@@ -71,6 +73,7 @@ attributeAs attribute-is.GrayLevel = is names.GrayLevel
 attributeAs attribute-is.RGBColor = is names.RGBColor
 attributeAs attribute-is.MediaSize = is names.MediaSize
 attributeAs attribute-is.MediaSource = is names.MediaSource
+attributeAs attribute-is.MediaType = is names.MediaType
 attributeAs attribute-is.Orientation = is names.Orientation
 attributeAs attribute-is.PageCopies = is names.PageCopies
 attributeAs attribute-is.BoundingBox = is names.BoundingBox
@@ -87,6 +90,8 @@ attributeAs attribute-is.DestinationSize = is names.DestinationSize
 attributeAs attribute-is.SourceHeight = is names.SourceHeight
 attributeAs attribute-is.SourceWidth = is names.SourceWidth
 attributeAs attribute-is.StartLine = is names.StartLine
+attributeAs attribute-is.PadBytesMultiple = is names.PadBytesMultiple
+attributeAs attribute-is.BlockByteLength = is names.BlockByteLength
 attributeAs attribute-is.CommentData = is names.CommentData
 attributeAs attribute-is.DataOrg = is names.DataOrg
 attributeAs attribute-is.Measure = is names.Measure

@@ -1,8 +1,8 @@
-// The names of 01's operators and attributes.
+// The names of operators and attributes, of class 2;1 too.
 ghost use mathlib.Core.Path.{_≡_};
 ghost use Rattle.words.specs.Names.{operatorAs, operatorIn, attributeAs, attributeIn};
 
-// An operator of 01's table.
+// An operator of a table.
 pub enum OperatorName {
     BeginSession,
     EndSession,
@@ -11,6 +11,7 @@ pub enum OperatorName {
     Comment,
     OpenDataSource,
     CloseDataSource,
+    SetDefaultGS,
     BeginStream,
     ReadStream,
     EndStream,
@@ -35,7 +36,7 @@ pub enum OperatorName {
     Unknown,
 }
 
-// An attribute of 01's table.
+// An attribute of a table.
 pub enum AttributeName {
     ColorSpace,
     NullBrush,
@@ -44,6 +45,7 @@ pub enum AttributeName {
     RGBColor,
     MediaSize,
     MediaSource,
+    MediaType,
     Orientation,
     PageCopies,
     BoundingBox,
@@ -60,6 +62,8 @@ pub enum AttributeName {
     SourceHeight,
     SourceWidth,
     StartLine,
+    PadBytesMultiple,
+    BlockByteLength,
     CommentData,
     DataOrg,
     Measure,
@@ -83,6 +87,7 @@ pub fn operator_of(tag: u8) -> OperatorName
         0x47 => OperatorName::Comment,
         0x48 => OperatorName::OpenDataSource,
         0x49 => OperatorName::CloseDataSource,
+        0x57 => OperatorName::SetDefaultGS,
         0x5b => OperatorName::BeginStream,
         0x5c => OperatorName::ReadStream,
         0x5d => OperatorName::EndStream,
@@ -120,6 +125,7 @@ pub fn attribute_of(n: u8) -> AttributeName
         11 => AttributeName::RGBColor,
         37 => AttributeName::MediaSize,
         38 => AttributeName::MediaSource,
+        39 => AttributeName::MediaType,
         40 => AttributeName::Orientation,
         49 => AttributeName::PageCopies,
         66 => AttributeName::BoundingBox,
@@ -136,6 +142,8 @@ pub fn attribute_of(n: u8) -> AttributeName
         107 => AttributeName::SourceHeight,
         108 => AttributeName::SourceWidth,
         109 => AttributeName::StartLine,
+        110 => AttributeName::PadBytesMultiple,
+        111 => AttributeName::BlockByteLength,
         129 => AttributeName::CommentData,
         130 => AttributeName::DataOrg,
         134 => AttributeName::Measure,

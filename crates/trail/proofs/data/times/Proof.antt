@@ -7,7 +7,7 @@ use borrow.Author.Needs.{needs}
 use Rattle.trail.proofs.data.times.Statement.{statement}
 use Rattle.trail.proofs.data.times.Tie as tie
 
-product : (x y : ℕ) → x ≤ 65535 → y ≤ 65536 → x * y ≤ 65535 * 65536
+product : (x y : ℕ) → x ≤ 65535 → y ≤ 131070 → x * y ≤ 65535 * 131070
 product x y h k = mul-le-mul h k
 
 returns : tie.Need-returns
