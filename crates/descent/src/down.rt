@@ -66,12 +66,16 @@ fn through(
     let mut turns = s.len();
     while 0 < turns {
         turns -= 1;
-        at = trail::pass(s, own.high, at, s.len(), attrs, st);
+        let next = trail::pass(s, own.high, at, s.len(), attrs, st);
+        if next == at {
+            return seen.page;
+        }
         let then = performed(s, own, job, rows, sums, attrs, st, seen);
         if is_broken(st[CODE], then) {
             return seen.page;
         }
         seen = then;
+        at = next;
     }
     seen.page
 }

@@ -60,11 +60,15 @@ fn from(job: &[u8], start: usize, name: &[u8]) -> Later {
     let mut turns = job.len();
     while 0 < turns {
         turns -= 1;
-        at = trail::pass(job, high, at, job.len(), &mut attrs, &mut st);
+        let next = trail::pass(job, high, at, job.len(), &mut attrs, &mut st);
+        if next == at {
+            return Later::Nowhere;
+        }
         if is_defined(job, name, &attrs, &st) {
             return found(over, st[PLACE]);
         }
         over = is_over(over, st[TAG]);
+        at = next;
     }
     Later::Nowhere
 }

@@ -28,6 +28,9 @@ sub-turns c = search needs
 pass-requires : tie.Need-pass-requires Inv-loop μ-loop
 pass-requires c κs = search needs
 
+returns : tie.Need-returns Inv-loop μ-loop
+returns c = search needs
+
 performed-requires : tie.Need-performed-requires Inv-loop μ-loop
 performed-requires c κs = search needs
 
@@ -37,8 +40,8 @@ element-copy-out-is-broken c = search needs
 is-broken-requires : tie.Need-is-broken-requires Inv-loop μ-loop
 is-broken-requires c κs = search needs
 
-returns : tie.Need-returns Inv-loop μ-loop
-returns c = search needs
+returns-2 : tie.Need-returns-2 Inv-loop μ-loop
+returns-2 c = search needs
 
 loop-less : tie.Need-loop-less Inv-loop μ-loop
 loop-less c = search needs
@@ -46,8 +49,8 @@ loop-less c = search needs
 loop-again : tie.Need-loop-again Inv-loop μ-loop
 loop-again c = search needs
 
-returns-2 : tie.Need-returns-2 Inv-loop μ-loop
-returns-2 c = search needs
+returns-3 : tie.Need-returns-3 Inv-loop μ-loop
+returns-3 c = search needs
 
 pub through-spec : {M : Type 1} → statement M
 through-spec =
@@ -61,10 +64,11 @@ through-spec =
     loop-holds
     sub-turns
     pass-requires
+    returns
     performed-requires
     element-copy-out-is-broken
     is-broken-requires
-    returns
+    returns-2
     loop-less
     loop-again
-    returns-2)
+    returns-3)

@@ -22,6 +22,9 @@ sub-turns c = search needs
 pass-requires : tie.Need-pass-requires Inv-loop μ-loop
 pass-requires c κs = search needs
 
+returns : tie.Need-returns Inv-loop μ-loop
+returns c = search needs
+
 is-defined-requires : tie.Need-is-defined-requires Inv-loop μ-loop
 is-defined-requires c κs = search needs
 
@@ -31,8 +34,8 @@ array-read-found c = search needs
 found-requires : tie.Need-found-requires Inv-loop μ-loop
 found-requires c κs = search needs
 
-returns : tie.Need-returns Inv-loop μ-loop
-returns c = search needs
+returns-2 : tie.Need-returns-2 Inv-loop μ-loop
+returns-2 c = search needs
 
 array-read-is-over : tie.Need-array-read-is-over Inv-loop μ-loop
 array-read-is-over c = search needs
@@ -46,8 +49,8 @@ loop-less c = search needs
 loop-again : tie.Need-loop-again Inv-loop μ-loop
 loop-again c = search needs
 
-returns-2 : tie.Need-returns-2 Inv-loop μ-loop
-returns-2 c = search needs
+returns-3 : tie.Need-returns-3 Inv-loop μ-loop
+returns-3 c = search needs
 
 pub from-spec : {M : Type 1} → statement M
 from-spec =
@@ -59,12 +62,13 @@ from-spec =
     loop-holds
     sub-turns
     pass-requires
+    returns
     is-defined-requires
     array-read-found
     found-requires
-    returns
+    returns-2
     array-read-is-over
     is-over-requires
     loop-less
     loop-again
-    returns-2)
+    returns-3)
