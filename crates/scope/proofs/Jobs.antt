@@ -31,6 +31,7 @@ use Rattle.scope.proofs.Padded.{padded}
 use Rattle.scope.proofs.Copies.{copies}
 use Rattle.scope.proofs.Starts.{starts}
 use Rattle.scope.proofs.Halves.{halves}
+use Rattle.scope.proofs.Classes.{classes}
 
 -- the table
 abbrev tables : List (List Tried)
@@ -42,6 +43,7 @@ tables =
     ∷ copies
     ∷ starts
     ∷ halves
+    ∷ classes
     ∷ []
 
 joined : List (List Tried) → List Tried

@@ -7,6 +7,7 @@ pub mod Taken
 pub mod Placed
 pub mod Asks
 pub mod Rows
+pub mod Classes
 pub mod Codes
 pub mod Buffers
 pub mod Stands
@@ -35,6 +36,7 @@ pub mod Known
 pub mod Parts
 pub mod JobsRead
 pub mod JobsJudged
+pub mod OneAsBefore
 pub mod Padded
 pub mod Copies
 pub mod Starts

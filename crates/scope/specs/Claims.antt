@@ -1,5 +1,5 @@
 -- The theorems to prove, as types.
-use Prim.Native.Nat.{ℕ, _+_, _*_, _≤_, _<_}
+use Prim.Native.Nat.{ℕ, _+_, _*_, _/_, _≤_, _<_}
 use mathlib.Core.Path.{_≡_}
 use mathlib.Core.Logic.{_↔_}
 use mathlib.Core.Bool.{Bool, true, false, _||_}
@@ -7,15 +7,17 @@ use mathlib.Core.List.{List, [], _∷_, _++_}
 use lib.ListN.{length, take, drop, getD}
 use lib.Dec.{eqb}
 use Rattle.scope.specs.Choice.{among}
-use Rattle.scope.specs.Header.{headerOf}
+use Rattle.scope.specs.Header.{one, headerOf}
 use Rattle.scope.specs.Item.{Attribute, spaces, after}
-use Rattle.scope.specs.Reading.{Operator}
-use Rattle.scope.specs.Attributes.{bytesIn}
+use Rattle.scope.specs.Reading.{Context, Operator, Read, operatorAt}
+use Rattle.scope.specs.Attributes.{valueIn, bytesIn}
+use Rattle.scope.specs.Data.{Image, bitsOf, blockDue}
+use Rattle.scope.specs.Order.{lengthFits}
 use Rattle.scope.specs.Arm.{Stroke}
 use Rattle.scope.specs.Motif.{Own, Motif, Judged, motifOf}
 use Rattle.scope.specs.Setting.{Setting, headed, settingOf}
 use Rattle.scope.specs.Session.{outside, sessionOf, joinedOf, rowFor}
-use Rattle.scope.specs.Names.{BeginSession, BeginStream, ReadStream, EndStream, ExecStream, StreamName}
+use Rattle.scope.specs.Names.{BeginSession, SetDefaultGS, BlockHeight, BeginStream, ReadStream, EndStream, ExecStream, StreamName}
 use Rattle.scope.specs.Judge.{State, Case, Rule, rule, motifs-own, rules, outer, Outcome, starting}
 use Rattle.scope.specs.Runs.{caseAt, Performs, Runs, Comes}
 use Rattle.scope.specs.Verdict.{every, layout, verdictOf, outcomeOf, attributeRecord, operatorRecord, listOf, zeros, workAfter}
@@ -286,3 +288,11 @@ Zeroed =
 abbrev pub NoMotifLeft : Type 0
 NoMotifLeft =
     (job other work : List ℕ) → length job ≤ 61440 → length other ≤ 61440 → workAfter job work ≡ workAfter other work
+
+-- class 1;1 is as it was before request 6: of an operator that is read there, rows are filled up to a multiple of 4 bytes, no BlockByteLength says otherwise, and
+-- it is no SetDefaultGS; the rest of what judging looks at has no class but by its table, and that of 1;1 is the one of 01
+abbrev pub OneAsBefore : Type 0
+OneAsBefore =
+    (c : Context) (s : List ℕ) (at : ℕ) (o : Operator) (i : Image) → c .set .class ≡ one → operatorAt c s at ≡ Read.operator o
+    → (blockDue (c .set .high) s i (o .attrs) ≡ valueIn (c .set .high) s (o .attrs) BlockHeight * (((i .width * bitsOf (i .depth) + 7) / 8 + 3) / 4 * 4))
+    × (lengthFits (c .set .high) s i (o .attrs) ≡ true) × (eqb (o .tag) SetDefaultGS ≡ false)

@@ -5,13 +5,13 @@ use Rattle.descent.proofs.down.through.Statement.{statement}
 use Rattle.descent.proofs.down.through.Tie as tie
 
 abbrev Inv-loop : tie.InvT-loop
-Inv-loop s job rows sums attrs₀ st₀ high seen₀ at₀ turns₀ attrs st seen at turns = Unit {0}
+Inv-loop s set job rows sums attrs₀ st₀ seen₀ at₀ turns₀ attrs st seen at turns = Unit {0}
 
 abbrev μ-loop : tie.MeasureT-loop
-μ-loop s job rows sums attrs₀ st₀ high seen₀ at₀ turns₀ attrs st seen at turns = turns
+μ-loop s set job rows sums attrs₀ st₀ seen₀ at₀ turns₀ attrs st seen at turns = turns
 
-byte-at-requires : tie.Need-byte-at-requires Inv-loop μ-loop
-byte-at-requires c κs = search needs
+in-motif-requires : tie.Need-in-motif-requires Inv-loop μ-loop
+in-motif-requires c κs = search needs
 
 from-requires : tie.Need-from-requires Inv-loop μ-loop
 from-requires c κs = search needs
@@ -58,7 +58,7 @@ through-spec =
     (tie.spec
     Inv-loop
     μ-loop
-    byte-at-requires
+    in-motif-requires
     from-requires
     begin-requires
     loop-holds

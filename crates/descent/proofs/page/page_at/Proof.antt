@@ -7,15 +7,12 @@ use Rattle.descent.proofs.page.page_at.Statement.{statement}
 use Rattle.descent.proofs.page.page_at.Tie as tie
 
 abbrev Inv-loop : tie.InvT-loop
-Inv-loop job to gray store₀ rows₀ sums₀ starts₀ attrs₀ st₀ high page₀ at₀ turns₀ store rows sums starts attrs st page at turns =
+Inv-loop job to set store₀ rows₀ sums₀ starts₀ attrs₀ st₀ page₀ at₀ turns₀ store rows sums starts attrs st page at turns =
     length store ≡ length store₀
 
 abbrev μ-loop : tie.MeasureT-loop
-μ-loop job to gray store₀ rows₀ sums₀ starts₀ attrs₀ st₀ high page₀ at₀ turns₀ store rows sums starts attrs st page at turns =
+μ-loop job to set store₀ rows₀ sums₀ starts₀ attrs₀ st₀ page₀ at₀ turns₀ store rows sums starts attrs st page at turns =
     turns
-
-byte-at-requires : tie.Need-byte-at-requires Inv-loop μ-loop
-byte-at-requires c κs = search needs
 
 blank-requires : tie.Need-blank-requires Inv-loop μ-loop
 blank-requires c κs = search needs
@@ -62,7 +59,6 @@ page-at-spec =
     (tie.spec
     Inv-loop
     μ-loop
-    byte-at-requires
     blank-requires
     begin-requires
     loop-holds
