@@ -10,6 +10,8 @@ use Rattle.scope.specs.Choice.{pick}
 use Rattle.scope.specs.Names.{EndPoint, LinePath, LineRelPath}
 use Rattle.scope.specs.Attributes.{twoAt, pointIn}
 use Rattle.scope.specs.Reading.{Operator}
+use Rattle.reader.specs.declared.end_point.LineEnd.{LineEnd}
+use Rattle.reader.specs.declared.end_point.LineEnd.the-variants.{At, No}
 
 -- the bytes of a point's whole numbers by its tag; 0 if it has none
 unfoldable pub pointLength : ℕ → ℕ
@@ -21,16 +23,16 @@ endsAt s p =
     ltb (p + 2) (length s)
     && (eqb (getD s p 0) 0xf8 && (eqb (getD s (p + 1) 0) EndPoint && (eqb (getD s (p + 2) 0) LinePath || eqb (getD s (p + 2) 0) LineRelPath)))
 
--- where the operator stands of such a line by two finite reals, whose tag stands at `at`; the end of the bytes if there is none
-unfoldable pub realLineTo : Bool → List ℕ → ℕ → ℕ
+-- such a line by two finite reals, whose tag stands at `at`
+unfoldable pub realLineTo : Bool → List ℕ → ℕ → LineEnd
 realLineTo high s at =
-    pick (ltb (at + 11) (length s) && (eqb (getD s at 0) 0xd5 && (pointIn (twoAt high s 0xd5 (at + 1)) && endsAt s (at + 9)))) (at + 11) (length s)
+    pick (ltb (at + 11) (length s) && (eqb (getD s at 0) 0xd5 && (pointIn (twoAt high s 0xd5 (at + 1)) && endsAt s (at + 9)))) (At (at + 11)) No
 
--- where the operator stands of such a line, whose point's tag stands at `at`; the end of the bytes if there is none
-unfoldable pub lineTo : Bool → List ℕ → ℕ → ℕ
+-- such a line, whose point's tag stands at `at`
+unfoldable pub lineTo : Bool → List ℕ → ℕ → LineEnd
 lineTo high s at =
     let w = pointLength (getD s at 0) in
-    pick (eqb w 0) (realLineTo high s at) (pick (endsAt s (at + 1 + w)) (at + 3 + w) (length s))
+    pick (eqb w 0) (realLineTo high s at) (pick (endsAt s (at + 1 + w)) (At (at + 3 + w)) No)
 
 -- the operator of such a line
 abbrev pub lineOf : (point tag at op : ℕ) → Operator
@@ -73,3 +75,8 @@ pub record Line (high : Bool) (s : List ℕ) (at op : ℕ) : Type 0 where
   pub numbers : pointIn (twoAt high s (getD s at 0) (at + 1)) ≡ true
   pub ends : Ends s (at + 1 + bytes)
   pub is : op ≡ at + 3 + bytes
+
+-- where the code finds the operator, there is such a line
+abbrev pub Lined : (high : Bool) (s : List ℕ) (at : ℕ) → LineEnd → Type 0
+Lined high s at (At op) = Line high s at op
+Lined high s at No = Unit {0}

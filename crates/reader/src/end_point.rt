@@ -7,10 +7,16 @@ ghost use lib.ListN.{length};
 ghost use Rattle.scope.specs.Names.{LinePath, LineRelPath};
 ghost use Rattle.scope.specs.Number.{number};
 ghost use Rattle.scope.specs.Attributes.{twoAt, finite, pointIn};
-ghost use Rattle.reader.specs.EndPoint.{pointLength, endsAt, realLineTo, lineTo, Point, Drawn, Ends, Line};
+ghost use Rattle.reader.specs.EndPoint.{pointLength, endsAt, realLineTo, lineTo, Point, Drawn, Ends, Lined};
 use names::attributes::END_POINT;
 use names::operators::LINE_PATH;
 use names::operators::LINE_REL_PATH;
+
+// Where such a line ends: its operator stands there; or there is none.
+pub enum LineEnd {
+    At(usize),
+    No,
+}
 
 // The bytes of a point's whole numbers by its tag; 0 if it has none.
 fn point_length(tag: u8) -> usize
@@ -85,39 +91,41 @@ fn are_finite(s: &[u8], high: bool, p: usize) -> bool
     is_finite_at(s, high, p + 4)
 }
 
-// Where the operator stands of such a line by two finite reals, whose tag stands at `at`; the end of the bytes if there is none.
-fn real_line_to(s: &[u8], high: bool, at: usize) -> usize
+// Such a line by two finite reals, whose tag stands at `at`.
+fn real_line_to(s: &[u8], high: bool, at: usize) -> LineEnd
     requires { ⌜ at < length (now s) ⌝ }
     ensures { λ r. ⌜ r ≡ realLineTo high (now (s .entry)) at ⌝ }
-    ensures { λ r. ⌜ (r < length (now (s .entry)) → Line high (now (s .entry)) at r) ⌝ }
+    ensures { λ r. ⌜ Lined high (now (s .entry)) at r ⌝ }
 {
     if s.len() <= at + 11 {
-        return s.len();
+        return LineEnd::No;
     }
     if s[at] != 0xd5 {
-        return s.len();
+        return LineEnd::No;
     }
     if !are_finite(s, high, at + 1) {
-        return s.len();
+        return LineEnd::No;
     }
-    if ends_at(s, at + 9) { at + 11 } else { s.len() }
+    if !ends_at(s, at + 9) {
+        return LineEnd::No;
+    }
+    LineEnd::At(at + 11)
 }
 
-// Where the operator stands of such a line, whose point's tag stands at `at`; the end of the bytes if there is none.
-pub fn line_to(s: &[u8], high: bool, at: usize) -> usize
+// Such a line, whose point's tag stands at `at`.
+pub fn line_to(s: &[u8], high: bool, at: usize) -> LineEnd
     ensures { λ r. ⌜ r ≡ lineTo high (now (s .entry)) at ⌝ }
-    ensures { λ r. ⌜ (r < length (now (s .entry)) → Line high (now (s .entry)) at r) ⌝ }
+    ensures { λ r. ⌜ Lined high (now (s .entry)) at r ⌝ }
 {
     if s.len() <= at {
-        return s.len();
+        return LineEnd::No;
     }
     let bytes = point_length(s[at]);
     if bytes == 0 {
         return real_line_to(s, high, at);
     }
-    if ends_at(s, at + 1 + bytes) {
-        at + 3 + bytes
-    } else {
-        s.len()
+    if !ends_at(s, at + 1 + bytes) {
+        return LineEnd::No;
     }
+    LineEnd::At(at + 3 + bytes)
 }

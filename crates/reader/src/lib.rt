@@ -3,6 +3,7 @@ mod data;
 mod end_point;
 mod reading;
 
+pub use end_point::LineEnd;
 pub use end_point::line_to;
 pub use reading::Context;
 pub use reading::Operator;

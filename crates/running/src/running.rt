@@ -15,6 +15,7 @@ use names::limits::PERFORMED_MOST;
 use order::Picture;
 use place::Busy;
 use place::Place;
+use reader::LineEnd;
 use state::State;
 
 // Where a run stands.
@@ -73,10 +74,12 @@ fn pass_line(job: &[u8], high: bool, list: &mut [u8], from: Run) -> Pass
     if !page.cursor {
         return Pass::No;
     }
-    let op = reader::line_to(job, high, at);
-    if job.len() <= op {
-        return Pass::No;
-    }
+    let op = match reader::line_to(job, high, at) {
+        LineEnd::At(op) => op,
+        LineEnd::No => {
+            return Pass::No;
+        }
+    };
     if !buffer::list_one(
         list,
         records,

@@ -1,9 +1,10 @@
 -- `line_to`: no whole numbers, no end, or both.
 -- Assumes nothing.
 use Prim.Native.Nat.{_+_, _≤_, _<_}
-use mathlib.Core.Path.{refl}
+use mathlib.Core.Path.{_≡_, refl}
+use mathlib.Core.Bool.{true, false}
 use native.Mathlib.Omega.{arith}
-use borrow.Author.Tests.{le-ltb, eq-eqb, ne-eqb}
+use borrow.Author.Tests.{le-ltb, eq-eqb, ne-eqb, not-true, not-false}
 use lib.ListN.{length, List·getD-eq-default}
 use Rattle.reader.specs.EndPoint.{pointLength, realLineTo, lineTo}
 use Rattle.reader.proofs.EndPoint.{whole-taken}
@@ -16,7 +17,7 @@ unfolding lineTo realLineTo pointLength
 returns c =
     let a = c .before .before .args in
     let out : length (a .s .now) ≤ a .at + 11 = omega arith in
-    (rw (List·getD-eq-default (a .s .now) 0 (c .if1 .taken), le-ltb _ _ out) refl, λ h. absurd (omega arith))
+    (rw (List·getD-eq-default (a .s .now) 0 (c .if1 .taken), le-ltb _ _ out) refl, tt)
 
 shared-slice-read-point-length : tie.Need-shared-slice-read-point-length
 shared-slice-read-point-length c = search needs
@@ -42,37 +43,39 @@ add-ends-at-2 c = search needs
 ends-at-requires : tie.Need-ends-at-requires
 ends-at-requires c κs = search needs
 
-add-result : tie.Need-add-result
-add-result c = search needs
-
-add-result-2 : tie.Need-add-result-2
-add-result-2 c = search needs
-
 returns-3 : tie.Need-returns-3
 unfolding lineTo
 returns-3 c =
     let k = c .before in
     let j = k .before .before in
-    let a = j .before .before .before .before .args in
-    let p = j .point-length .ensures .1 in
-    let some : 0 < j .point-length .result = let h = k .before .if2 .left in omega arith in (
-      rw (← j .point-length .ensures .0, ne-eqb _ _ (k .before .if2 .left), ← k .ends-at .ensures .0, c .if3 .taken) refl,
-      λ h. record {
-        bytes = j .point-length .result;
-        some = some;
-        point = p .0;
-        numbers = whole-taken (a .high) (a .s .now) (a .at + 1) some (p .1) (p .0);
-        ends = k .ends-at .ensures .1 (c .if3 .taken);
-        is = refl;
-      },
-    )
+    let none : k .ends-at .result ≡ false = not-true _ (c .if3 .taken) in
+    (rw (← j .point-length .ensures .0, ne-eqb _ _ (k .before .if2 .left), ← k .ends-at .ensures .0, none) refl, tt)
+
+add-t5 : tie.Need-add-t5
+add-t5 c = search needs
+
+add-t9 : tie.Need-add-t9
+add-t9 c = search needs
 
 returns-4 : tie.Need-returns-4
 unfolding lineTo
 returns-4 c =
     let k = c .before in
     let j = k .before .before in
-    (rw (← j .point-length .ensures .0, ne-eqb _ _ (k .before .if2 .left), ← k .ends-at .ensures .0, c .if3 .left) refl, λ h. absurd (omega arith))
+    let a = j .before .before .before .before .args in
+    let p = j .point-length .ensures .1 in
+    let some : 0 < j .point-length .result = let h = k .before .if2 .left in omega arith in
+    let ends : k .ends-at .result ≡ true = not-false _ (c .if3 .left) in (
+      rw (← j .point-length .ensures .0, ne-eqb _ _ (k .before .if2 .left), ← k .ends-at .ensures .0, ends) refl,
+      record {
+        bytes = j .point-length .result;
+        some = some;
+        point = p .0;
+        numbers = whole-taken (a .high) (a .s .now) (a .at + 1) some (p .1) (p .0);
+        ends = k .ends-at .ensures .1 ends;
+        is = refl;
+      },
+    )
 
 pub line-to-spec : {M : Type 1} → statement M
 line-to-spec =
@@ -86,7 +89,7 @@ line-to-spec =
     add-ends-at
     add-ends-at-2
     ends-at-requires
-    add-result
-    add-result-2
     returns-3
+    add-t5
+    add-t9
     returns-4)

@@ -1,6 +1,7 @@
 -- `real_line_to`: no room, another tag, a number that is not finite, no end, or none of these.
 -- Assumes nothing.
 use Prim.Native.Nat.{_+_}
+use mathlib.Core.Bool.{true}
 use mathlib.Core.Path.{_≡_, refl, sym, _∙_, subst⁻¹}
 use native.Mathlib.Omega.{arith}
 use borrow.Author.Tests.{lt-ltb, le-ltb, eq-eqb, ne-eqb, not-true, not-false}
@@ -14,14 +15,14 @@ add-if1 c = search needs
 
 returns : tie.Need-returns
 unfolding realLineTo
-returns c = (rw (le-ltb _ _ (c .if1 .taken)) refl, λ h. absurd (omega arith))
+returns c = (rw (le-ltb _ _ (c .if1 .taken)) refl, tt)
 
 shared-slice-read-if2 : tie.Need-shared-slice-read-if2
 shared-slice-read-if2 c = search needs
 
 returns-2 : tie.Need-returns-2
 unfolding realLineTo
-returns-2 c = (rw (lt-ltb _ _ (c .before .before .if1 .left), ne-eqb _ _ (c .if2 .taken)) refl, λ h. absurd (omega arith))
+returns-2 c = (rw (lt-ltb _ _ (c .before .before .if1 .left), ne-eqb _ _ (c .if2 .taken)) refl, tt)
 
 add-are-finite : tie.Need-add-are-finite
 add-are-finite c = search needs
@@ -35,7 +36,7 @@ returns-3 c =
     let f = c .before in
     let t = f .before in (
       rw (lt-ltb _ _ (t .before .before .if1 .left), eq-eqb _ _ (t .if2 .left), sym (f .are-finite .ensures) ∙ not-true _ (c .if3 .taken)) refl,
-      λ h. absurd (omega arith),
+      tt,
     )
 
 add-ends-at : tie.Need-add-ends-at
@@ -44,28 +45,19 @@ add-ends-at c = search needs
 ends-at-requires : tie.Need-ends-at-requires
 ends-at-requires c κs = search needs
 
-add-result : tie.Need-add-result
-add-result c = search needs
-
 returns-4 : tie.Need-returns-4
 unfolding realLineTo
 returns-4 c =
     let e = c .before in
     let f = e .before .before in
     let t = f .before in
-    let at = t .before .before .before .before .args .at in
-    let finite = sym (f .are-finite .ensures) ∙ not-false _ (e .before .if3 .left) in
-    let behind : at + 9 ≡ at + 1 + 8 = omega arith in (
-      rw (lt-ltb _ _ (t .before .before .if1 .left), eq-eqb _ _ (t .if2 .left), finite, sym (e .ends-at .ensures .0) ∙ c .if4 .taken) refl,
-      λ h. record {
-        bytes = 8;
-        some = omega arith;
-        point = subst⁻¹ (λ x. Point x 8) (t .if2 .left) point-real;
-        numbers = rw (t .if2 .left) finite;
-        ends = rw behind at (e .ends-at .ensures .1 (c .if4 .taken));
-        is = omega arith;
-      },
+    let finite = sym (f .are-finite .ensures) ∙ not-false _ (e .before .if3 .left) in (
+      rw (lt-ltb _ _ (t .before .before .if1 .left), eq-eqb _ _ (t .if2 .left), finite, sym (e .ends-at .ensures .0) ∙ not-true _ (c .if4 .taken)) refl,
+      tt,
     )
+
+add-t4 : tie.Need-add-t4
+add-t4 c = search needs
 
 returns-5 : tie.Need-returns-5
 unfolding realLineTo
@@ -73,9 +65,19 @@ returns-5 c =
     let e = c .before in
     let f = e .before .before in
     let t = f .before in
-    let finite = sym (f .are-finite .ensures) ∙ not-false _ (e .before .if3 .left) in (
-      rw (lt-ltb _ _ (t .before .before .if1 .left), eq-eqb _ _ (t .if2 .left), finite, sym (e .ends-at .ensures .0) ∙ c .if4 .left) refl,
-      λ h. absurd (omega arith),
+    let at = t .before .before .before .before .args .at in
+    let finite = sym (f .are-finite .ensures) ∙ not-false _ (e .before .if3 .left) in
+    let ends : e .ends-at .result ≡ true = not-false _ (c .if4 .left) in
+    let behind : at + 9 ≡ at + 1 + 8 = omega arith in (
+      rw (lt-ltb _ _ (t .before .before .if1 .left), eq-eqb _ _ (t .if2 .left), finite, sym (e .ends-at .ensures .0) ∙ ends) refl,
+      record {
+        bytes = 8;
+        some = omega arith;
+        point = subst⁻¹ (λ x. Point x 8) (t .if2 .left) point-real;
+        numbers = rw (t .if2 .left) finite;
+        ends = rw behind at (e .ends-at .ensures .1 ends);
+        is = omega arith;
+      },
     )
 
 pub real-line-to-spec : {M : Type 1} → statement M
@@ -91,6 +93,6 @@ real-line-to-spec =
     returns-3
     add-ends-at
     ends-at-requires
-    add-result
     returns-4
+    add-t4
     returns-5)

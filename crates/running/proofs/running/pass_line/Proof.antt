@@ -6,24 +6,49 @@ use mathlib.Core.Bool.{true, false}
 use native.Mathlib.Omega.{arith}
 use borrow.Author.Tests.{leb-true, not-true, not-false}
 use lib.ListN.{length}
+use Rattle.reader.specs.EndPoint.{Line}
 use Rattle.running.proofs.Runs.{runs-still, one-line}
 use borrow.Author.Needs.{needs}
 use Rattle.running.proofs.running.pass_line.Statement.{statement}
 use Rattle.running.proofs.running.pass_line.Tie as tie
 
+-- there is a line up to the operator that was found
+found : (c : tie.After-op)
+    → let a = c .before .before .before .before .before .before .before .before .args in
+    Line (a .high) (a .job .now) (a .from .at) (c .op .given .0 .0)
+found c = rw (c .op .given .1) at (c .before .before .line-to .ensures .1)
+
+-- and it stands within the job, three bytes on at least
+within : (c : tie.After-op)
+    → let a = c .before .before .before .before .before .before .before .before .args in
+    let op = c .op .given .0 .0 in
+    (a .from .at + 2 < op) × (op < length (a .job .now))
+within c =
+    let l = found c in
+    let i = l .is in
+    let w = l .some in
+    let e = l .ends .within in
+    (omega arith, omega arith)
+
 -- past the test there is room for two records more
-room : (c : tie.Else3)
-    → let a = c .before .before .before .before .before .before .before .before .before .before .before .before .before .before .args in
+room : (c : tie.Else2)
+    → let a = c .before .before .before .before .before .before .before .before .before .before .before .before .before .before .before .before .args in
     (a .from .records + 2) * 16 ≤ length (a .list .now)
 room c =
     let k = c .before .before .before in
-    leb-true _ _ (sym (k .list-one .ensures .0) ∙ not-false _ (c .if3 .left))
+    leb-true _ _ (sym (k .list-one .ensures .0) ∙ not-false _ (c .if2 .left))
 
 returns : tie.Need-returns
 returns c = search needs
 
 line-to-requires : tie.Need-line-to-requires
 line-to-requires c κs = search needs
+
+enum-known-op : tie.Need-enum-known-op
+enum-known-op c = search needs
+
+enum-told : tie.Need-enum-told
+enum-told c = search needs
 
 returns-2 : tie.Need-returns-2
 returns-2 c = search needs
@@ -35,7 +60,7 @@ add-list-one : tie.Need-add-list-one
 add-list-one c = search needs
 
 shared-slice-read-list-one-2 : tie.Need-shared-slice-read-list-one-2
-shared-slice-read-list-one-2 c = search needs
+shared-slice-read-list-one-2 c = let w = within (c .before .before .before .before) in omega (arith, w)
 
 list-one-requires : tie.Need-list-one-requires
 list-one-requires c κs = search needs
@@ -46,17 +71,17 @@ same-length c = search needs
 returns-3 : tie.Need-returns-3
 returns-3 c =
     let k = c .before .before .before in
-    let f : k .list-one .result ≡ false = not-true _ (c .if3 .taken) in
+    let f : k .list-one .result ≡ false = not-true _ (c .if2 .taken) in
     (tt, λ opened held used. runs-still (rw f at (k .list-one .ensures .1)))
 
-add-t11 : tie.Need-add-t11
-add-t11 c = search needs
+add-t18 : tie.Need-add-t18
+add-t18 c = let w = within (c .before .before .before .before .before .before .before .before) in omega (arith, w)
 
-add-t19 : tie.Need-add-t19
-add-t19 c = search needs
+add-t22 : tie.Need-add-t22
+add-t22 c = search needs
 
-add-t20 : tie.Need-add-t20
-add-t20 c = let h = room c in omega arith
+add-t23 : tie.Need-add-t23
+add-t23 c = let h = room c in omega arith
 
 same-length-2 : tie.Need-same-length-2
 same-length-2 c = search needs
@@ -64,12 +89,11 @@ same-length-2 c = search needs
 returns-4 : tie.Need-returns-4
 returns-4 c =
     let k = c .before .before .before in
-    let e = k .before .before .before .before in
-    let m = e .before in
+    let o = k .before .before .before .before .before in
+    let m = o .before .before in
     let a = m .before .before .before .before .before .before .args in
-    let f : k .list-one .result ≡ true = not-false _ (c .if3 .left) in
-    let line = m .line-to .ensures .1 (e .if2 .left) in
-    let far : a .from .at + 2 < m .line-to .result = let i = line .is in let w = line .some in omega arith in (
+    let f : k .list-one .result ≡ true = not-false _ (c .if2 .left) in
+    let w = within o in (
       (omega arith, omega arith),
       λ opened held used.
           record {
@@ -77,9 +101,9 @@ returns-4 c =
             on = omega arith;
             within = λ h. omega arith;
             counted = omega arith;
-            leads = λ list₀ rows sums work set d order e₁ h.
-                one-line (a .job .now) list₀ rows sums work (a .list .now) (k .list-one .last .0) set opened held used (a .from) (m .line-to .result) (rw (sym order) at line) (omega arith)
-                (not-false _ (m .before .if1 .left)) e₁ (sym f ∙ k .list-one .ensures .0) (rw f at (k .list-one .ensures .1)) d h;
+            leads = λ list₀ rows sums work set d order e h.
+                one-line (a .job .now) list₀ rows sums work (a .list .now) (k .list-one .last .0) set opened held used (a .from) (o .op .given .0 .0) (rw (sym order) at (found o)) (omega arith)
+                (not-false _ (m .before .if1 .left)) e (sym f ∙ k .list-one .ensures .0) (rw f at (k .list-one .ensures .1)) d h;
           },
     )
 
@@ -89,6 +113,8 @@ pass-line-spec =
     (tie.spec
     returns
     line-to-requires
+    enum-known-op
+    enum-told
     returns-2
     shared-slice-read-list-one
     add-list-one
@@ -96,8 +122,8 @@ pass-line-spec =
     list-one-requires
     same-length
     returns-3
-    add-t11
-    add-t19
-    add-t20
+    add-t18
+    add-t22
+    add-t23
     same-length-2
     returns-4)
