@@ -43,10 +43,10 @@ fn values(kind: Kind, low: usize, high: usize) {
     match kind {
         Kind::E => ubyte(low, high),
         Kind::N => whole(low, high),
-        Kind::P => say(b" takes two ubyte, uint16, sint16 or real32"),
+        Kind::P => say(b" takes two ubyte, uint16, sint16 or finite real32"),
         Kind::B => say(b" takes four ubyte, uint16 or sint16"),
         Kind::A => array(low, high),
-        Kind::D => say(b" takes two uint16, not 0, or two real32 above zero"),
+        Kind::D => say(b" takes two uint16, not 0, or two finite real32 above zero"),
         Kind::M => say(b" takes a ubyte, 0 to 12 or 14 to 16"),
         Kind::M2 => say(b" takes a ubyte, 0 to 21 or 96, or a name of 1 to 1,024 bytes"),
         Kind::L => say(b" takes a ubyte, uint16 or uint32"),

@@ -3,6 +3,7 @@ use crate::kinds::kind;
 use number::Width;
 use number::number_at;
 use text::number;
+use text::real;
 use text::say;
 
 // The place k bytes on; a place that no job has stays as it is.
@@ -38,9 +39,13 @@ fn one(s: &[u8], high: bool, tag: u8, at: usize) -> usize {
             number(number_at(s, at, Width::Two, high));
             after(at, 2)
         }
-        _ => {
+        3 => {
             signed(number_at(s, at, Width::Two, high));
             after(at, 2)
+        }
+        _ => {
+            real(number_at(s, at, Width::Four, high));
+            after(at, 4)
         }
     }
 }
@@ -68,6 +73,7 @@ fn is_short(tag: u8, count: u32) -> bool {
         0 => true,
         1 => true,
         3 => true,
+        5 => true,
         _ => false,
     }
 }

@@ -1,7 +1,8 @@
-// Words, numbers, lines of a text and names, on standard output or another descriptor.
+// Words, numbers, reals, lines of a text and names, on standard output or another descriptor.
 mod lines;
 mod named;
 mod out;
+mod reals;
 
 pub use lines::keyed;
 pub use lines::line;
@@ -13,3 +14,4 @@ pub use out::many;
 pub use out::number;
 pub use out::plain;
 pub use out::say;
+pub use reals::real;
