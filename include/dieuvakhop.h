@@ -75,7 +75,7 @@ static inline const char *dieuvakhop_text(uint32_t code) {
         "longer than 61,440 bytes",
         "header malformed",
         "written in the ASCII form",
-        "of another class than PCL XL 1;1",
+        "of another class than PCL XL 1;1 and 2;1",
         "ends inside an item",
         "no item that may come here",
         "a 17th attribute",
