@@ -16,8 +16,11 @@ pub mod Gathered
 pub mod Runs
 pub mod Demand
 pub mod Whole
-pub mod Like
 pub mod Says
+pub mod Typed
+pub mod Alike
+pub mod AlikeRead
+pub mod Like
 pub mod Beside
 pub mod Through
 pub mod Goes

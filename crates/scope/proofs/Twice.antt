@@ -15,11 +15,12 @@ use Rattle.scope.specs.Judge.{State, Refusal, Outcome, rules, firstBroke
 use Rattle.scope.specs.Runs.{readAt, caseAt, next, Performs, Runs, here, then, Ends, ended, unread, refused, Pairwise}
 use Rattle.scope.specs.Claims.{limit, AttributeMoved, AttributesMoved, OperatorMoved}
 use Rattle.scope.proofs.Runs.{runs-of}
-use Rattle.scope.proofs.Says.{akin-refl, Says, LikePlace, same-place, outsides, session-same, phase-same, LikeCase, AlikeGiven, case-like}
+use Rattle.scope.proofs.Says.{akin-refl, LikePlace, same-place, outsides, session-same, phase-same, LikeCase, AlikeGiven, case-like}
 use Rattle.scope.proofs.Apart.{clash-of}
 use Rattle.scope.proofs.Moved.{operator-back}
 use Rattle.scope.proofs.Beside.{equal-broken, Starts, Both, agree, left-over, right-over, both, LikeState, next-like}
-use Rattle.scope.proofs.Like.{Far, far-end, LikeAttr, LikeAttrs, nil, cons, LikeData, nowhere, read-from, LikeOp, LikeRead, read-like, has-like, value-in-like, bytes-in-like, attrs-length}
+use Rattle.scope.proofs.Alike.{LikeAttr, LikeAttrs, nil, cons, LikeData, nowhere, read-from, LikeOp, LikeRead}
+use Rattle.scope.proofs.Like.{Far, far-end, read-like}
 
 -- which of the three a reading gives
 abbrev shape : Read → ℕ
@@ -32,72 +33,67 @@ module _ (s t : List ℕ) (p q : ℕ) (hp : p ≤ length s) (hq : q ≤ length t
   abbrev F : ℕ → ℕ → Type 0
   F = Far s t p q hp hq same
 
-  abbrev Op : Operator → Operator → Type 0
-  Op = LikeOp s t p q hp hq same
+  -- the operators that the one reads and the other, in their byte order
+  module _ (high : Bool) where
+    abbrev Op : Operator → Operator → Type 0
+    Op = LikeOp high high s t F F
 
-  abbrev R : Read → Read → Type 0
-  R = LikeRead s t p q hp hq same
+    abbrev R : Read → Read → Type 0
+    R = LikeRead high high s t F F
 
-  pub like-says : (high : Bool) {a b : Operator} → Op a b → Says high high s t a b
-  like-says high h =
-      record {
-        tag = h .tag;
-        reads = h .reads;
-        size = h .size;
-        many = attrs-length s t p q hp hq same (h .attrs);
-        there = λ n. has-like s t p q hp hq same n (h .attrs);
-        value = λ n _. value-in-like s t p q hp hq same high n (h .attrs);
-        name = bytes-in-like s t p q hp hq same 139 (h .attrs);
-        block = h .block;
-      }
+    attribute-moved : {a b : Attribute} → LikeAttr high high s t F F a b → AttributeMoved p q a b
+    attribute-moved h = record { number = h .number; tag = h .tag; at = h .at .far; count = h .count; first = h .first .far }
 
-  attribute-moved : {a b : Attribute} → LikeAttr s t p q hp hq same a b → AttributeMoved p q a b
-  attribute-moved h = record { number = h .number; tag = h .tag; at = h .at .far; count = h .count; first = h .first .far }
+    attributes-moved : {l m : List Attribute} → LikeAttrs high high s t F F l m → AttributesMoved p q l m
+    attributes-moved nil = AttributesMoved.none
+    attributes-moved (cons h k) = AttributesMoved.more (attribute-moved h) (attributes-moved k)
 
-  attributes-moved : {l m : List Attribute} → LikeAttrs s t p q hp hq same l m → AttributesMoved p q l m
-  attributes-moved nil = AttributesMoved.none
-  attributes-moved (cons h k) = AttributesMoved.more (attribute-moved h) (attributes-moved k)
+    reading-moved : {b : Bool} {x y : ℕ} → LikeData high high s t F F b x y → b ≡ true → x + q ≡ y + p
+    reading-moved nowhere e = clash-of (sym e)
+    reading-moved (read-from h) e = h .far
 
-  reading-moved : {b : Bool} {x y : ℕ} → LikeData s t p q hp hq same b x y → b ≡ true → x + q ≡ y + p
-  reading-moved nowhere e = clash-of (sym e)
-  reading-moved (read-from h) e = h .far
+    quiet-moved : {b : Bool} {x y : ℕ} → LikeData high high s t F F b x y → b ≡ false → (x ≡ 0) × (y ≡ 0)
+    quiet-moved nowhere e = (refl, refl)
+    quiet-moved (read-from h) e = clash-of e
 
-  quiet-moved : {b : Bool} {x y : ℕ} → LikeData s t p q hp hq same b x y → b ≡ false → (x ≡ 0) × (y ≡ 0)
-  quiet-moved nowhere e = (refl, refl)
-  quiet-moved (read-from h) e = clash-of e
+    pub operator-moved : {a b : Operator} → Op a b → OperatorMoved p q a b
+    operator-moved h =
+        record {
+          tag = h .says .tag;
+          at = h .at .far;
+          attrs = attributes-moved (h .attrs);
+          length = h .says .size;
+          reads = h .says .reads;
+          reading = reading-moved (h .where-data);
+          quiet = quiet-moved (h .where-data);
+        }
 
-  pub operator-moved : {a b : Operator} → Op a b → OperatorMoved p q a b
-  operator-moved h =
-      record {
-        tag = h .tag;
-        at = h .at .far;
-        attrs = attributes-moved (h .attrs);
-        length = h .size;
-        reads = h .reads;
-        reading = reading-moved (h .where-data);
-        quiet = quiet-moved (h .where-data);
-      }
+    alike-shape : {u v : Read} → R u v → shape u ≡ shape v
+    alike-shape (LikeRead.operator h) = refl
+    alike-shape LikeRead.ended = refl
+    alike-shape (LikeRead.no h) = refl
 
-  alike-shape : {u v : Read} → R u v → shape u ≡ shape v
-  alike-shape (LikeRead.operator h) = refl
-  alike-shape LikeRead.ended = refl
-  alike-shape (LikeRead.no h) = refl
+    operators-like : {a b : Operator} → R (Read.operator a) (Read.operator b) → Op a b
+    operators-like (LikeRead.operator h) = h
 
-  operators-like : {a b : Operator} → R (Read.operator a) (Read.operator b) → Op a b
-  operators-like (LikeRead.operator h) = h
-
-  no-like : {k l x y : ℕ} → R (Read.no k x) (Read.no l y) → (k ≡ l) × F x y
-  no-like (LikeRead.no h) = (refl, h)
+    no-like : {k l x y : ℕ} → R (Read.no k x) (Read.no l y) → (k ≡ l) × F x y
+    no-like (LikeRead.no h) = (refl, h)
 
   -- numbers before: m and n performed, r and o listed
   module _ (given other : ℕ → Bool) (alike : AlikeGiven given other) (set : Setting) (m n r o room space : ℕ) where
+    abbrev Ops : Operator → Operator → Type 0
+    Ops = Op (set .high)
+
+    abbrev Reads : Read → Read → Type 0
+    Reads = R (set .high)
+
     abbrev St : State → State → Type 0
     St = LikeState given other alike set set akin-refl s t F m n r o
 
-    reads-both : (x y : State) → St x y → R (readAt given set s x) (readAt other set t y)
+    reads-both : (x y : State) → St x y → Reads (readAt given set s x) (readAt other set t y)
     unfolding contextOf
     reads-both x y l =
-        subst (λ c. R (readAt given set s x) (operatorAt c t (y .at)))
+        subst (λ c. Reads (readAt given set s x) (operatorAt c t (y .at)))
         (λ i. record { set = set; phase = phase-same (l .place) i; opened = session-same (l .place) i .opened; asked = alike 17 refl i })
         (read-like s t p q hp hq same (contextOf given set (x .place)) (l .at))
 
@@ -113,14 +109,14 @@ module _ (s t : List ℕ) (p q : ℕ) (hp : p ≤ length s) (hq : q ≤ length t
       second-ends : limit (f .code) ≡ true → Starts (OperatorMoved q p) ps os → Differs → TwoEnds os ps e f
 
     shapes-clash : {A : Type 0} {x y : State} {u v : Read} → St x y → readAt given set s x ≡ u → readAt other set t y ≡ v → (shape u ≡ shape v → ⊥) → A
-    shapes-clash {x = x} {y = y} l e f h = absurd (h (sym (ap shape e) ∙ alike-shape (reads-both x y l) ∙ ap shape f))
+    shapes-clash {x = x} {y = y} l e f h = absurd (h (sym (ap shape e) ∙ alike-shape (set .high) (reads-both x y l) ∙ ap shape f))
 
-    the-ops : (x y : State) (a b : Operator) → St x y → readAt given set s x ≡ Read.operator a → readAt other set t y ≡ Read.operator b → Op a b
-    the-ops x y a b l e f = operators-like (subst₂ R e f (reads-both x y l))
+    the-ops : (x y : State) (a b : Operator) → St x y → readAt given set s x ≡ Read.operator a → readAt other set t y ≡ Read.operator b → Ops a b
+    the-ops x y a b l e f = operators-like (set .high) (subst₂ Reads e f (reads-both x y l))
 
-    the-cases : (x y : State) (a b : Operator) → St x y → Op a b → LikeCase m n r o (caseAt set s x a) (caseAt set t y b)
+    the-cases : (x y : State) (a b : Operator) → St x y → Ops a b → LikeCase m n r o (caseAt set s x a) (caseAt set t y b)
     the-cases x y a b l h =
-        let c = case-like set set akin-refl s t a b (like-says (set .high) h) x y (session-same (l .place)) in
+        let c = case-like set set akin-refl s t a b (h .says) x y (session-same (l .place)) in
         let u = l .performed in
         let v = l .records in
         let cu = c .count in
@@ -136,15 +132,15 @@ module _ (s t : List ℕ) (p q : ℕ) (hp : p ≤ length s) (hq : q ≤ length t
     end-both x y l e (outsides k) = absurd (k e)
 
     -- the rules say the same of both operators, or the numbers before were not the same
-    rules-both : (x y : State) (a b : Operator) → St x y → Op a b → (f g : Refusal) → firstBroken given (caseAt set s x a) (rules room) ≡ f
+    rules-both : (x y : State) (a b : Operator) → St x y → Ops a b → (f g : Refusal) → firstBroken given (caseAt set s x a) (rules room) ≡ f
         → firstBroken other (caseAt set t y b) (rules space) ≡ g → Both f g
     rules-both x y a b l h f g e k = subst₂ Both e k (both given other alike room space (the-cases x y a b l h))
 
-    numbers-differ : (x y : State) (a b : Operator) → St x y → Op a b → {f g : Refusal} → firstBroken given (caseAt set s x a) (rules room) ≡ f
+    numbers-differ : (x y : State) (a b : Operator) → St x y → Ops a b → {f g : Refusal} → firstBroken given (caseAt set s x a) (rules room) ≡ f
         → firstBroken other (caseAt set t y b) (rules space) ≡ g → (f ≡ g → ⊥) → Differs
     numbers-differ x y a b l h e k d eg en eo er = d (sym e ∙ equal-broken given other alike room space (the-cases x y a b l h) eg en eo er ∙ k)
 
-    refused-both : (x y : State) (a b : Operator) (l : St x y) → Op a b → {k i j c : ℕ} → Both (Refusal.refused k i) (Refusal.refused j c)
+    refused-both : (x y : State) (a b : Operator) (l : St x y) → Ops a b → {k i j c : ℕ} → Both (Refusal.refused k i) (Refusal.refused j c)
         → ((Refusal.refused k i ≡ Refusal.refused j c → ⊥) → Differs) → TwoEnds [] [] (refusedAt k (a .at) i x) (refusedAt j (b .at) c y)
     refused-both x y a b l h agree d = both-end Pairwise.none refl (h .at) refl (l .performed) (l .records)
     refused-both x y a b l h (left-over u v) d = first-ends u Starts.none (d v)
@@ -156,7 +152,7 @@ module _ (s t : List ℕ) (p q : ℕ) (hp : p ≤ length s) (hq : q ≤ length t
     ends-two l (ended u) (refused v k) = shapes-clash l u v (λ z. omega arith)
     ends-two l (unread u) (ended v) = shapes-clash l u v (λ z. omega arith)
     ends-two {x} {y} l (unread u) (unread v) =
-        let k = no-like (subst₂ R u v (reads-both x y l)) in
+        let k = no-like (set .high) (subst₂ Reads u v (reads-both x y l)) in
         both-end Pairwise.none (k .0) (k .1) refl (l .performed) (l .records)
     ends-two l (unread u) (refused v k) = shapes-clash l u v (λ z. omega arith)
     ends-two l (refused u j) (ended v) = shapes-clash l u v (λ z. omega arith)
@@ -173,7 +169,7 @@ module _ (s t : List ℕ) (p q : ℕ) (hp : p ≤ length s) (hq : q ≤ length t
         let h = the-ops x y a b l u (k .reads) in
         by h (rules-both x y a b l h _ _ j (k .kept))
       where
-        by : Op a b → Both (Refusal.refused code inner) Refusal.none → TwoEnds [] (b ∷ ps) (refusedAt code (a .at) inner x) f
+        by : Ops a b → Both (Refusal.refused code inner) Refusal.none → TwoEnds [] (b ∷ ps) (refusedAt code (a .at) inner x) f
         by h (left-over v w) = first-ends v Starts.none (numbers-differ x y a b l h j (k .kept) w)
 
     second-only : {x y : State} {e f : Outcome} {a : Operator} {os : List Operator} → St x y → Performs given set s room x a → Ends other set t space y f → TwoEnds (a ∷ os) [] e f
@@ -183,7 +179,7 @@ module _ (s t : List ℕ) (p q : ℕ) (hp : p ≤ length s) (hq : q ≤ length t
         let h = the-ops x y a b l (k .reads) v in
         by h (rules-both x y a b l h _ _ (k .kept) j)
       where
-        by : Op a b → Both Refusal.none (Refusal.refused code inner) → TwoEnds (a ∷ os) [] e (refusedAt code (b .at) inner y)
+        by : Ops a b → Both Refusal.none (Refusal.refused code inner) → TwoEnds (a ∷ os) [] e (refusedAt code (b .at) inner y)
         by h (right-over u w) = second-ends u Starts.none (numbers-differ x y a b l h (k .kept) j w)
 
     one-more : {a b : Operator} {os ps : List Operator} {e f : Outcome} → OperatorMoved p q a b → TwoEnds os ps e f → TwoEnds (a ∷ os) (b ∷ ps) e f
@@ -199,7 +195,7 @@ module _ (s t : List ℕ) (p q : ℕ) (hp : p ≤ length s) (hq : q ≤ length t
     two-runs l (then k rest) u here v = second-only l k v
     two-runs {x} {y = y} l (then {o = a} k rest) u (then {o = b} j more) v =
         let h = the-ops x y a b l (k .reads) (j .reads) in
-        one-more (operator-moved h) (two-runs (next-like given other alike set set akin-refl s t F m n r o x y a b l (like-says (set .high) h) (h .next)) rest u more v)
+        one-more (operator-moved (set .high) h) (two-runs (next-like given other alike set set akin-refl s t F m n r o x y a b l (h .says) (h .next)) rest u more v)
 
     pub two-judged : (x y : State) → St x y
         → TwoEnds (runs-of given set s room x .ops) (runs-of other set t space y .ops) (judgedFrom given set s room x) (judgedFrom other set t space y)
