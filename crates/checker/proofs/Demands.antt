@@ -4,19 +4,21 @@ use Prim.Native.Nat.{ℕ, _+_, _*_, _≤_}
 use mathlib.Core.Path.{_≡_, sym, ap, _∙_, subst, subst₂, subst⁻¹}
 use mathlib.Core.Bool.{Bool}
 use mathlib.Core.List.{List}
-use lib.ListN.{length, drop}
+use lib.ListN.{length, take, drop}
 use native.Mathlib.Omega.{arith}
 use lib.Seq.{take-at, take-all}
 use Rattle.scope.specs.Verdict.{verdictOf, listOf, listAfter}
-use Rattle.scope.specs.Claims.{limit, recordsFrom, RecordsMoved}
+use Rattle.scope.specs.Claims.{limit, Further, Shifted, recordsFrom, RecordsMoved, moveBy, putIn}
 use Rattle.scope.proofs.Demand.{demand-3}
 use Rattle.scope.proofs.Whole.{verdict-placed, passes-exactly}
 use Rattle.scope.proofs.Sessions.{isolated, alike-same}
-use Rattle.scope.proofs.Records.{list-long, same-list}
+use Rattle.scope.proofs.Records.{list-long, reached-long, lists-moved, first-front, second-front, same-list}
+use Rattle.scope.proofs.White.{white-between}
+use Rattle.scope.proofs.WhiteItems.{white-between-items}
 use Rattle.scope.proofs.Buffers.{no-motif-left, zeroed}
 use Rattle.state.specs.Views.{verdictAs}
 use Rattle.state.specs.declared.verdict.Verdict.{Verdict}
-use Rattle.checker.specs.Claims.{Answer, Promised, OneAnswer, PlaceInJob, OldContents, NoMotifBehind, WorkCarriesNothing, SessionsIsolated, PassesAsDrawn, PassesOnly}
+use Rattle.checker.specs.Claims.{Answer, Promised, OneAnswer, PlaceInJob, OldContents, NoMotifBehind, WorkCarriesNothing, SessionsIsolated, WhiteIgnored, WhiteIgnoredInside, PassesAsDrawn, PassesOnly}
 
 -- two verdicts whose five numbers agree are one
 same-verdict : (v w : Verdict) → verdictAs v ≡ verdictAs w → v ≡ w
@@ -66,8 +68,46 @@ isolated-of-check set job other work work′ list list′ a b p q x y hj ho hw h
       inner = ap (λ z. z .inner) v ∙ i .inner ∙ sym (ap (λ z. z .inner) w);
       records = ap (λ z. z .records + q .records) v ∙ i .records ∙ sym (ap (λ z. z .records + p .records) w);
       performed = ap (λ z. z .performed + q .performed) v ∙ i .performed ∙ sym (ap (λ z. z .performed + p .performed) w);
-      listed = subst₂ (RecordsMoved (p .at) (q .at)) (sym (records-in (set .gray) job work list a (p .records) x)) (sym (records-in (set .gray) other work′ list′ b (q .records) y))
+      listed = subst₂ (RecordsMoved (Further (p .at) (q .at))) (sym (records-in (set .gray) job work list a (p .records) x)) (sym (records-in (set .gray) other work′ list′ b (q .records) y))
           (same-list set job other (length work) (length work′) (length list) (length list′) p q f g i);
+    }
+
+pub white-of-check : WhiteIgnored
+unfolding verdictOf
+white-of-check set job blank work list a b st x y hw hl all r =
+    let v = x .verdict in
+    let w = y .verdict in
+    let on = moveBy (length blank) st in
+    let i = white-between set job blank (length work) (length list) st hw hl all r in
+    let long = reached-long set job (length list) st r in
+    record {
+      code = ap (λ z. z .code) v ∙ i .code ∙ sym (ap (λ z. z .code) w);
+      position = ap (λ z. z .position + on .at) v ∙ i .position ∙ sym (ap (λ z. z .position + st .at) w);
+      inner = ap (λ z. z .inner) v ∙ i .inner ∙ sym (ap (λ z. z .inner) w);
+      records = ap (λ z. z .records + on .records) v ∙ i .records ∙ sym (ap (λ z. z .records + st .records) w);
+      performed = ap (λ z. z .performed + on .performed) v ∙ i .performed ∙ sym (ap (λ z. z .performed + st .performed) w);
+      listed = subst₂ (RecordsMoved (Further (st .at) (on .at))) (sym (records-in (set .gray) job work list a (st .records) x))
+          (sym (records-in (set .gray) (putIn (st .at) blank job) work list b (st .records) y))
+          (lists-moved (Further (st .at) (on .at)) (set .gray) job (putIn (st .at) blank job) (length work) (length work) (length list) (length list) st on (i .listed) long long);
+    }
+
+pub white-inside-of-check : WhiteIgnoredInside
+unfolding verdictOf listAfter
+white-inside-of-check set job blank work list a b p st x y hw hl all r g =
+    let v = x .verdict in
+    let w = y .verdict in
+    let i = white-between-items set job blank (length work) (length list) p st hw hl all r g in
+    let long = reached-long set job (length list) st r in
+    record {
+      code = ap (λ z. z .code) v ∙ i .code ∙ sym (ap (λ z. z .code) w);
+      position = subst₂ (Shifted p (length blank)) (sym (ap (λ z. z .position) v)) (sym (ap (λ z. z .position) w)) (i .position);
+      inner = ap (λ z. z .inner) v ∙ i .inner ∙ sym (ap (λ z. z .inner) w);
+      records = ap (λ z. z .records) v ∙ i .records ∙ sym (ap (λ z. z .records) w);
+      performed = ap (λ z. z .performed) v ∙ i .performed ∙ sym (ap (λ z. z .performed) w);
+      front = ap (take (st .records * 16)) (x .listed) ∙ first-front (Shifted p (length blank)) (set .gray) job (putIn p blank job) (length work) (length work) (length list) (length list) st st (i .listed) long _ ∙ sym (second-front (Shifted p (length blank)) (set .gray) job (putIn p blank job) (length work) (length work) (length list) (length list) st st (i .listed) long _) ∙ sym (ap (take (st .records * 16)) (y .listed));
+      listed = subst₂ (RecordsMoved (Shifted p (length blank))) (sym (records-in (set .gray) job work list a (st .records) x))
+          (sym (records-in (set .gray) (putIn p blank job) work list b (st .records) y))
+          (lists-moved (Shifted p (length blank)) (set .gray) job (putIn p blank job) (length work) (length work) (length list) (length list) st st (i .listed) long long);
     }
 
 pub demand-3-of-check : PassesAsDrawn

@@ -1,17 +1,17 @@
 -- What is claimed of every answer of `check`: the demands, for all jobs and buffers.
 -- Assumes nothing.
-use Prim.Native.Nat.{ℕ, _+_, _≤_, _<_}
+use Prim.Native.Nat.{ℕ, _+_, _*_, _≤_, _<_}
 use mathlib.Core.Path.{_≡_}
 use mathlib.Core.Logic.{_↔_}
 use mathlib.Core.Bool.{Bool, true, false}
-use mathlib.Core.List.{List, _++_}
-use lib.ListN.{length, drop}
+use mathlib.Core.List.{List, [], _++_}
+use lib.ListN.{length, take, drop}
 use Rattle.scope.specs.Setting.{Setting}
-use Rattle.scope.specs.Item.{after}
+use Rattle.scope.specs.Item.{spaces, after}
 use Rattle.scope.specs.Judge.{State}
 use Rattle.scope.specs.Verdict.{zeros, verdictOf, listAfter, workAfter}
 use Rattle.scope.specs.Plain.{unfoldingOf, comes, atStart}
-use Rattle.scope.specs.Claims.{Keeps, HasRoom, Between, limit, RecordsMoved, recordsFrom}
+use Rattle.scope.specs.Claims.{Keeps, HasRoom, Reached, Between, limit, Further, Shifted, RecordsMoved, recordsFrom, moveBy, putIn, Gap}
 use Rattle.state.specs.Views.{verdictAs}
 use Rattle.state.specs.declared.verdict.Verdict.{Verdict}
 
@@ -64,7 +64,7 @@ pub record AnswersAlike (p q : State) (a b : Answer) : Type 0 where
   pub inner : a .verdict .inner ≡ b .verdict .inner
   pub records : a .verdict .records + q .records ≡ b .verdict .records + p .records
   pub performed : a .verdict .performed + q .performed ≡ b .verdict .performed + p .performed
-  pub listed : RecordsMoved (p .at) (q .at) (recordsFrom (p .records) (a .verdict .records) (a .list)) (recordsFrom (q .records) (b .verdict .records) (b .list))
+  pub listed : RecordsMoved (Further (p .at) (q .at)) (recordsFrom (p .records) (a .verdict .records) (a .list)) (recordsFrom (q .records) (b .verdict .records) (b .list))
 
 -- demand 2: sessions are isolated: two jobs of one class, byte order and start, each standing outside a session, whose bytes from there on are the same and not all white, get the
 -- same answer from there on, whatever each has performed and listed before, unless one of them gets 26 or 28
@@ -74,6 +74,33 @@ SessionsIsolated =
     → length job ≤ 61440 → length other ≤ 61440 → 16384 ≤ length work → 16384 ≤ length work′ → Between set job (length list) p → Between set other (length list′) q
     → drop (p .at) job ≡ drop (q .at) other → after job (p .at) < length job → limit (a .verdict .code) ≡ false → limit (b .verdict .code) ≡ false
     → AnswersAlike p q a b
+
+-- white space between operators plays no part: a job, and the job with white bytes put in where its judging stands, get the same answer from there on, so many bytes
+-- further on
+abbrev pub WhiteIgnored : Type 0
+WhiteIgnored =
+    (set : Setting) (job blank work list : List ℕ) (a b : Answer) (st : State) → Promised (set .gray) job work list a → Promised (set .gray) (putIn (st .at) blank job) work list b
+    → 16384 ≤ length work → length (putIn (st .at) blank job) ≤ 61440 → spaces blank ≡ length blank → Reached set job (length list) st
+    → AnswersAlike st (moveBy (length blank) st) a b
+
+-- two answers, to a job and to the job with so many bytes put in at p, are the same: code, inner, what is performed and listed; the position but for the shift; the
+-- bytes of the records up to a state; and those since, but for places
+pub record AnswersShifted (p many : ℕ) (st : State) (a b : Answer) : Type 0 where
+  pub code : a .verdict .code ≡ b .verdict .code
+  pub position : Shifted p many (a .verdict .position) (b .verdict .position)
+  pub inner : a .verdict .inner ≡ b .verdict .inner
+  pub records : a .verdict .records ≡ b .verdict .records
+  pub performed : a .verdict .performed ≡ b .verdict .performed
+  pub front : take (st .records * 16) (a .list) ≡ take (st .records * 16) (b .list)
+  pub listed : RecordsMoved (Shifted p many) (recordsFrom (st .records) (a .verdict .records) (a .list)) (recordsFrom (st .records) (b .verdict .records) (b .list))
+
+-- nor does it between the items of an operator: a job, and the job with white bytes put in at a place between two items that judging reads, get the same answer, but
+-- for places behind the white bytes
+abbrev pub WhiteIgnoredInside : Type 0
+WhiteIgnoredInside =
+    (set : Setting) (job blank work list : List ℕ) (a b : Answer) (p : ℕ) (st : State) → Promised (set .gray) job work list a → Promised (set .gray) (putIn p blank job) work list b
+    → 16384 ≤ length work → length (putIn p blank job) ≤ 61440 → spaces blank ≡ length blank → Reached set job (length list) st
+    → Gap (set .high) job p (record { at = st .at; attrs = [] }) → AnswersShifted p (length blank) st a b
 
 -- demand 3: a job that keeps the layout rules, with room for its list, passes exactly if the plain arm comes to its end with no rule broken; and the number
 -- reported with a pass is the number of operators that the arm performs

@@ -35,7 +35,7 @@ pick-both Q true f g = f refl
 pick-both Q false f g = g refl
 
 -- every number of a value has a byte at least
-abbrev Wide : Kind → Type 0
+abbrev pub Wide : Kind → Type 0
 Wide (plain n w) = 1 ≤ w
 Wide (array w) = 1 ≤ w
 Wide other = Unit {0}
@@ -44,7 +44,7 @@ width-wide : (k : ℕ) → 1 ≤ widthOf k
 unfolding widthOf
 width-wide k = pick-all (λ w. 1 ≤ w) (eqb k 0) (λ _. omega arith) (λ _. pick-all (λ w. 1 ≤ w) (eqb k 1 || eqb k 3) (λ _. omega arith) (λ _. omega arith))
 
-kind-wide : (t : ℕ) → Wide (kindOf t)
+pub kind-wide : (t : ℕ) → Wide (kindOf t)
 unfolding kindOf
 kind-wide t =
     pick-all Wide (between 0xc0 0xc5 t) (λ _. width-wide _)
@@ -146,11 +146,11 @@ module _ (u v : List ℕ) where
       by e (past {k = k} {l = l} x y) = past {p = at + k} {r = at + l} (omega arith) (omega arith)
 
   -- a value read in w that does not lie in u
-  abbrev Beyond : Value → Type 0
+  abbrev pub Beyond : Value → Type 0
   Beyond (Value.is count first next) = length u < next
   Beyond (Value.no code place) = Unit {0}
 
-  data CutValue (k : Kind) : Value → Value → Type 0 where
+  pub data CutValue (k : Kind) : Value → Value → Type 0 where
     both : {c f n : ℕ} → n ≤ length u → f + c ≤ n → ((m b : ℕ) → k ≡ plain m b → f + m * b ≤ n) → CutValue k (Value.is c f n) (Value.is c f n)
     same : {code place : ℕ} → CutValue k (Value.no code place) (Value.no code place)
     lost : {place : ℕ} {y : Value} → Beyond y → CutValue k (Value.no 5 place) y
@@ -200,7 +200,7 @@ module _ (u v : List ℕ) where
           (λ _. pick-all Beyond (eqb (getD w (at + 1) 0) 0xc0) (λ _. counted-beyond high at b 1 (omega arith))
           (λ _. pick-all Beyond (eqb (getD w (at + 1) 0) 0xc1) (λ _. counted-beyond high at b 2 (omega arith)) (λ _. tt)))
 
-  value-cut : (high : Bool) (at n : ℕ) (k : Kind) → Wide k → CutValue k (valueOf high u at n k) (valueOf high w at n k)
+  pub value-cut : (high : Bool) (at n : ℕ) (k : Kind) → Wide k → CutValue k (valueOf high u at n k) (valueOf high w at n k)
   unfolding valueOf
   value-cut high at n (plain k b) h =
       pick-both (CutValue (plain k b)) (leb 16 n) (λ _. same) (λ _. numbers-cut (plain k b) at (at + 1) k b (wide-many k b h) (same-words k b))

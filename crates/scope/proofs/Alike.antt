@@ -44,14 +44,14 @@ pub record LikeContext (c d : Context) : Type 0 where
   pub opened : c .opened ≡ d .opened
   pub asked : c .asked ≡ d .asked
 
--- two jobs, each with its byte order; `At` are the places of items that belong together, `To` those of values, data and ends
-module _ (h k : Bool) (s t : List ℕ) (At To : ℕ → ℕ → Type 0) where
+-- two jobs, each with its byte order; `At` are the places that belong together, `On` those where reading may go on alike
+module _ (h k : Bool) (s t : List ℕ) (At On : ℕ → ℕ → Type 0) where
   pub record LikeAttr (a b : Attribute) : Type 0 where
     pub number : a .number ≡ b .number
     pub tag : a .tag ≡ b .tag
     pub at : At (a .at) (b .at)
     pub count : a .count ≡ b .count
-    pub first : To (a .first) (b .first)
+    pub first : a .first + b .at ≡ b .first + a .at
     pub value : (n w : ℕ) → kindOf (a .tag) ≡ plain n w → (i : ℕ) → i < n → numberOf h w s (a .first + i * w) ≡ numberOf k w t (b .first + i * w)
     pub row : a .tag ≡ 0xc8 → take (a .count) (drop (a .first) s) ≡ take (b .count) (drop (b .first) t)
 
@@ -60,7 +60,7 @@ module _ (h k : Bool) (s t : List ℕ) (At To : ℕ → ℕ → Type 0) where
     pub tag : getD s a 0 ≡ getD t b 0
     pub at : At a b
     pub count : c ≡ d
-    pub first : To f g
+    pub first : f + b ≡ g + a
     pub value : (n w : ℕ) → kindOf (getD s a 0) ≡ plain n w → (i : ℕ) → i < n → numberOf h w s (f + i * w) ≡ numberOf k w t (g + i * w)
     pub row : getD s a 0 ≡ 0xc8 → take c (drop f s) ≡ take d (drop g t)
 
@@ -244,7 +244,7 @@ module _ (h k : Bool) (s t : List ℕ) (At To : ℕ → ℕ → Type 0) where
 
   -- data of so many bytes, the same in both, or the same refusal
   pub data LikeFound (due : ℕ) : Found → Found → Type 0 where
-    found : {x y : ℕ} → To x y → To (x + due) (y + due) → take due (drop x s) ≡ take due (drop y t) → LikeFound due (Found.at x) (Found.at y)
+    found : {x y : ℕ} → At x y → On (x + due) (y + due) → take due (drop x s) ≡ take due (drop y t) → LikeFound due (Found.at x) (Found.at y)
     no : {code x y : ℕ} → At x y → LikeFound due (Found.no code x) (Found.no code y)
 
   -- the data looked for behind two tags
@@ -253,21 +253,21 @@ module _ (h k : Bool) (s t : List ℕ) (At To : ℕ → ℕ → Type 0) where
 
   -- the items up to two tags, and the data behind them
   pub data LikeScan : Scan → Scan → Type 0 where
-    tagged : {g x y : ℕ} {l m : List Attribute} → At x y → LikeAttrs l m → To (suc x) (suc y) → LikeBlock x y → LikeScan (Scan.tagged g x l) (Scan.tagged g y m)
+    tagged : {g x y : ℕ} {l m : List Attribute} → At x y → LikeAttrs l m → On (suc x) (suc y) → LikeBlock x y → LikeScan (Scan.tagged g x l) (Scan.tagged g y m)
     ended : LikeScan Scan.ended Scan.ended
     no : {code x y : ℕ} → At x y → LikeScan (Scan.no code x) (Scan.no code y)
 
   -- the place of an operator's data; 0 where it reads none
   pub data LikeData : Bool → ℕ → ℕ → Type 0 where
     nowhere : LikeData false 0 0
-    read-from : {x y : ℕ} → To x y → LikeData true x y
+    read-from : {x y : ℕ} → At x y → LikeData true x y
 
   -- two operators that say the same
   pub record LikeOp (a b : Operator) : Type 0 where
     pub at : At (a .at) (b .at)
     pub attrs : LikeAttrs (a .attrs) (b .attrs)
     pub where-data : LikeData (a .reads) (a .first) (b .first)
-    pub next : To (a .next) (b .next)
+    pub next : On (a .next) (b .next)
     pub says : Says h k s t a b
 
   pub data LikeRead : Read → Read → Type 0 where

@@ -66,7 +66,7 @@ coded none-given e = absurd (eqb-false 0 0 e refl)
 coded (given c) e = c
 
 -- a value ends past its tag and within the bytes
-data GoodValue (len at : ℕ) : Value → Type 0 where
+pub data GoodValue (len at : ℕ) : Value → Type 0 where
   is : {count first next : ℕ} → at < next → next ≤ len → GoodValue len at (Value.is count first next)
   no : {code place : ℕ} → Coded code → GoodValue len at (Value.no code place)
 
@@ -120,7 +120,7 @@ module _ (high : Bool) (s : List ℕ) where
         (λ _. pick-all (GoodValue (length s) at) (eqb (getD s (at + 1) 0) 0xc0) (λ _. counted-good w 1)
         (λ _. pick-all (GoodValue (length s) at) (eqb (getD s (at + 1) 0) 0xc1) (λ _. counted-good w 2) (λ _. no tt)))
 
-    value-good : (n : ℕ) (k : Kind) → GoodValue (length s) at (valueOf high s at n k)
+    pub value-good : (n : ℕ) (k : Kind) → GoodValue (length s) at (valueOf high s at n k)
     unfolding valueOf
     value-good n (plain k w) =
         let h : at < at + 1 = omega arith in

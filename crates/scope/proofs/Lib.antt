@@ -35,6 +35,9 @@ pub mod AheadScan
 pub mod AheadRead
 pub mod Ahead
 pub mod White
+pub mod Shift
+pub mod Gaps
+pub mod WhiteItems
 pub mod Known
 pub mod Parts
 pub mod JobsRead

@@ -114,25 +114,25 @@ module _ (s t : List ℕ) (p q : ℕ) (hp : p ≤ length s) (hq : q ≤ length t
     is : {c d f g n m : ℕ} → c ≡ d → Far f g → Far n m → LikeValue (Value.is c f n) (Value.is d g m)
     no : {k x y : ℕ} → Far x y → LikeValue (Value.no k x) (Value.no k y)
 
-  -- what belongs together besides: places of items, and places of values, data and ends
-  module _ (high : Bool) (At To : ℕ → ℕ → Type 0) (item : (a b : ℕ) → Far a b → At a b) (spot : (a b : ℕ) → Far a b → To a b) where
+  -- what belongs together besides: places, and places where reading goes on
+  module _ (high : Bool) (At On : ℕ → ℕ → Type 0) (item : (a b : ℕ) → Far a b → At a b) (going : (a b : ℕ) → Far a b → On a b) where
     up : {a b : ℕ} → Far a b → At a b
     up {a} {b} h = item a b h
 
-    to : {a b : ℕ} → Far a b → To a b
-    to {a} {b} h = spot a b h
+    further : {a b : ℕ} → Far a b → On a b
+    further {a} {b} h = going a b h
 
     abbrev Head : (a b c d f g : ℕ) → Type 0
-    Head = LikeHead high high s t At To
+    Head = LikeHead high high s t At On
 
     abbrev Attr : Attribute → Attribute → Type 0
-    Attr = LikeAttr high high s t At To
+    Attr = LikeAttr high high s t At On
 
     abbrev Attrs : List Attribute → List Attribute → Type 0
-    Attrs = LikeAttrs high high s t At To
+    Attrs = LikeAttrs high high s t At On
 
     abbrev Scans : Scan → Scan → Type 0
-    Scans = LikeScan high high s t At To
+    Scans = LikeScan high high s t At On
 
     pub data LikePair : Pair → Pair → Type 0 where
       is : {a b : Attribute} {n m : ℕ} → Attr a b → Far n m → LikePair (Pair.is a n) (Pair.is b m)
@@ -176,7 +176,7 @@ module _ (s t : List ℕ) (p q : ℕ) (hp : p ≤ length s) (hq : q ≤ length t
           tag = byte-like h;
           at = up h;
           count = e;
-          first = to k;
+          first = (let x = h .far in let y = k .far in omega arith);
           value = λ n w _ i _. number-like high w (far-add (i * w) k);
           row = λ _. (λ i. take (e i) (drop-like k i));
         }
@@ -205,22 +205,22 @@ module _ (s t : List ℕ) (p q : ℕ) (hp : p ≤ length s) (hq : q ≤ length t
     unfolding pairAt
     pair-like {a} {b} {n} {m} e h = rw (e, byte-like h) (pair-of-like h (value-like m (kindOf (getD t b 0)) h))
 
-    block-of-like : {o v x y : ℕ} (due w : ℕ) → At o v → Far x y → LikeFound high high s t At To due (blockOf high s o due x w) (blockOf high t v due y w)
+    block-of-like : {o v x y : ℕ} (due w : ℕ) → At o v → Far x y → LikeFound high high s t At On due (blockOf high s o due x w) (blockOf high t v due y w)
     unfolding blockOf
     block-of-like {x} {y} due w h k =
         let z = far-add w (far-add 1 k) in
         let u = far-add due z in
-        let Q = LikeFound high high s t At To due in
+        let Q = LikeFound high high s t At On due in
         pick-like Q (leb (x + 1 + w) (length s)) (leb (y + 1 + w) (length t)) (le-like z)
         (pick-like Q (eqb (number high w s (x + 1)) due) (eqb (number high w t (y + 1)) due) (ap (λ n. eqb n due) (number-like high w (far-add 1 k)))
-        (pick-like Q (leb (x + 1 + w + due) (length s)) (leb (y + 1 + w + due) (length t)) (le-like u) (LikeFound.found (to z) (to u) (ap (take due) (drop-like z))) (LikeFound.no (up k)))
+        (pick-like Q (leb (x + 1 + w + due) (length s)) (leb (y + 1 + w + due) (length t)) (le-like u) (LikeFound.found (up z) (further u) (ap (take due) (drop-like z))) (LikeFound.no (up k)))
         (LikeFound.no h)) (LikeFound.no (up k))
 
     -- the data of an operator, whose tag may stand elsewhere
-    pub block-like : {o v x y : ℕ} (due : ℕ) → At o v → Far x y → LikeFound high high s t At To due (blockAt high s o due x) (blockAt high t v due y)
+    pub block-like : {o v x y : ℕ} (due : ℕ) → At o v → Far x y → LikeFound high high s t At On due (blockAt high s o due x) (blockAt high t v due y)
     unfolding blockAt
     block-like {x} {y} due h k =
-        let Q = LikeFound high high s t At To due in
+        let Q = LikeFound high high s t At On due in
         pick-like Q (leb (length s) x) (leb (length t) y) (ge-like k) (LikeFound.no (up far-end))
         (pick-like Q (eqb (getD s x 0) 0xfa) (eqb (getD t y 0) 0xfa) (ap (λ z. eqb z 0xfa) (byte-like k)) (block-of-like due 4 h k)
         (pick-like Q (eqb (getD s x 0) 0xfb) (eqb (getD t y 0) 0xfb) (ap (λ z. eqb z 0xfb) (byte-like k)) (block-of-like due 1 h k) (LikeFound.no h)))
@@ -231,7 +231,7 @@ module _ (s t : List ℕ) (p q : ℕ) (hp : p ≤ length s) (hq : q ≤ length t
 
     on-pair-like : {l m : List Attribute} → Attrs l m → {v w : Pair} → LikePair v w → LikeNext LikeWalk Scans (onPair s l v) (onPair t m w)
     unfolding onPair
-    on-pair-like h (LikePair.is a n) = on (like-walk n (snoc-like high high s t At To h a))
+    on-pair-like h (LikePair.is a n) = on (like-walk n (snoc-like high high s t At On h a))
     on-pair-like h (LikePair.no x) = at-end (LikeScan.no x)
     on-pair-like h LikePair.waits = at-end (LikeScan.no (up far-end))
 
@@ -241,7 +241,7 @@ module _ (s t : List ℕ) (p q : ℕ) (hp : p ≤ length s) (hq : q ≤ length t
     ended-like (cons h k) = LikeScan.no (up far-end)
 
     tagged-like : {a b g d : ℕ} {l m : List Attribute} → g ≡ d → Far a b → Attrs l m → Scans (Scan.tagged g a l) (Scan.tagged d b m)
-    tagged-like e h k = rw e (tagged (up h) k (to (far-suc h)) (λ due. block-like due (up h) (after-like (far-suc h))))
+    tagged-like e h k = rw e (tagged (up h) k (further (far-suc h)) (λ due. block-like due (up h) (after-like (far-suc h))))
 
     item-like : {a b : ℕ} {l m : List Attribute} → Far a b → Attrs l m → LikeNext LikeWalk Scans (scanItem high s l a) (scanItem high t m b)
     unfolding scanItem
@@ -249,7 +249,7 @@ module _ (s t : List ℕ) (p q : ℕ) (hp : p ≤ length s) (hq : q ≤ length t
         let Q = LikeNext LikeWalk Scans in
         pick-like Q (leb (length s) a) (leb (length t) b) (ge-like h) (at-end (ended-like k))
         (pick-like Q (between 0x41 0xbf (getD s a 0)) (between 0x41 0xbf (getD t b 0)) (ap (between 0x41 0xbf) (byte-like h))
-        (at-end (tagged-like (byte-like h) h k)) (on-pair-like k (pair-like (attrs-length high high s t At To k) h)))
+        (at-end (tagged-like (byte-like h) h k)) (on-pair-like k (pair-like (attrs-length high high s t At On k) h)))
 
     scan-step-like : (x y : Walk) → LikeWalk x y → LikeNext LikeWalk Scans (scanStep high s x) (scanStep high t y)
     unfolding scanStep
@@ -278,7 +278,7 @@ module _ (s t : List ℕ) (p q : ℕ) (hp : p ≤ length s) (hq : q ≤ length t
     unfolding scanAt
     scan-at-like h = scan-like _ _ (like-walk h nil)
 
-  pub read-like : (c : Context) {a b : ℕ} → Far a b → LikeRead (c .set .high) (c .set .high) s t Far Far (operatorAt c s a) (operatorAt c t b)
+  pub read-like : (At On : ℕ → ℕ → Type 0) → ((a b : ℕ) → Far a b → At a b) → ((a b : ℕ) → Far a b → On a b) → (c : Context) {a b : ℕ} → Far a b
+      → LikeRead (c .set .high) (c .set .high) s t At On (operatorAt c s a) (operatorAt c t b)
   unfolding operatorAt
-  read-like c h =
-      scanned-like c c (record { class = refl; phase = refl; opened = refl; asked = refl }) s t Far Far (scan-at-like (c .set .high) Far Far (λ a b z. z) (λ a b z. z) h)
+  read-like At On item going c h = scanned-like c c (record { class = refl; phase = refl; opened = refl; asked = refl }) s t At On (scan-at-like (c .set .high) At On item going h)

@@ -11,28 +11,33 @@ use Rattle.scope.specs.Claims.{AttributeMoved, AttributesMoved, Operator
 use Rattle.scope.proofs.Beside.{Starts}
 
 -- what has moved one way has moved back the other
-attribute-back : {p q : ℕ} {a b : Attribute} → AttributeMoved p q a b → AttributeMoved q p b a
-attribute-back h = record { number = sym (h .number); tag = sym (h .tag); at = sym (h .at); count = sym (h .count); first = sym (h .first) }
+module _ (At Back : ℕ → ℕ → Type 0) (back : (x y : ℕ) → At x y → Back y x) where
+  attribute-back : {a b : Attribute} → AttributeMoved At a b → AttributeMoved Back b a
+  attribute-back h = record { number = sym (h .number); tag = sym (h .tag); at = back _ _ (h .at); count = sym (h .count); first = sym (h .first) }
 
-attributes-back : {p q : ℕ} {l m : List Attribute} → AttributesMoved p q l m → AttributesMoved q p m l
-attributes-back AttributesMoved.none = AttributesMoved.none
-attributes-back (AttributesMoved.more h k) = AttributesMoved.more (attribute-back h) (attributes-back k)
+  attributes-back : {l m : List Attribute} → AttributesMoved At l m → AttributesMoved Back m l
+  attributes-back AttributesMoved.none = AttributesMoved.none
+  attributes-back (AttributesMoved.more h k) = AttributesMoved.more (attribute-back h) (attributes-back k)
 
-pub operator-back : {p q : ℕ} {a b : Operator} → OperatorMoved p q a b → OperatorMoved q p b a
-operator-back h =
-    record {
-      tag = sym (h .tag);
-      at = sym (h .at);
-      attrs = attributes-back (h .attrs);
-      length = sym (h .length);
-      reads = sym (h .reads);
-      reading = λ e. sym (h .reading (h .reads ∙ e));
-      quiet = λ e. let k = h .quiet (h .reads ∙ e) in (k .1, k .0);
-    }
+  operator-back : {a b : Operator} → OperatorMoved At a b → OperatorMoved Back b a
+  operator-back h =
+      record {
+        tag = sym (h .tag);
+        at = back _ _ (h .at);
+        attrs = attributes-back (h .attrs);
+        length = sym (h .length);
+        reads = sym (h .reads);
+        reading = λ e. back _ _ (h .reading (h .reads ∙ e));
+        quiet = λ e. let k = h .quiet (h .reads ∙ e) in (k .1, k .0);
+      }
+
+  pub starts-back : {os ps : List Operator} → Starts (λ b a. OperatorMoved At a b) ps os → Starts (OperatorMoved Back) ps os
+  starts-back Starts.none = Starts.none
+  starts-back (Starts.more h k) = Starts.more (operator-back h) (starts-back k)
 
 -- the operators of two runs, after those before
-pub pairwise-listed : {p q : ℕ} {before other : List Operator} {os ps : List Operator} → Pairwise (OperatorMoved p q) os ps → {l m : List Operator}
-    → OperatorsMoved p q before other l m → OperatorsMoved p q before other (onto os l) (onto ps m)
+pub pairwise-listed : {At : ℕ → ℕ → Type 0} {before other : List Operator} {os ps : List Operator} → Pairwise (OperatorMoved At) os ps → {l m : List Operator}
+    → OperatorsMoved At before other l m → OperatorsMoved At before other (onto os l) (onto ps m)
 unfolding onto
 pairwise-listed Pairwise.none h = h
 pairwise-listed (Pairwise.more x k) h = pairwise-listed k (OperatorsMoved.more x h)
@@ -45,15 +50,15 @@ onto-front (o ∷ os) l =
     onto-front os (o ∷ l) ∙ sym (append-assoc (onto os []) (o ∷ []) l) ∙ ap (λ z. z ++ l) (sym (onto-front os (o ∷ [])))
 
 -- the first list of operators is a start of the second
-pub record Part (p q : ℕ) (before other l m : List Operator) : Type 0 where
+pub record Part (At : ℕ → ℕ → Type 0) (before other l m : List Operator) : Type 0 where
   pub later : List Operator
   pub until : List Operator
   pub parts : m ≡ later ++ until
-  pub listed : OperatorsMoved p q before other l until
+  pub listed : OperatorsMoved At before other l until
 
 -- a start of a run lists a start
-pub starts-listed : {p q : ℕ} {before other : List Operator} {os ps : List Operator} → Starts (OperatorMoved p q) os ps → {l m : List Operator}
-    → OperatorsMoved p q before other l m → Part p q before other (onto os l) (onto ps m)
+pub starts-listed : {At : ℕ → ℕ → Type 0} {before other : List Operator} {os ps : List Operator} → Starts (OperatorMoved At) os ps → {l m : List Operator}
+    → OperatorsMoved At before other l m → Part At before other (onto os l) (onto ps m)
 unfolding onto
 starts-listed {ps} Starts.none {m} h = record { later = onto ps []; until = m; parts = onto-front ps m; listed = h }
 starts-listed (Starts.more x k) h = starts-listed k (OperatorsMoved.more x h)

@@ -6,7 +6,7 @@ use mathlib.Core.Bool.{Bool}
 use mathlib.Core.List.{List, [], _∷_, _++_, append-nil, append-assoc}
 use native.Mathlib.Omega.{arith}
 use lib.ListN.{length, take, drop, length-append}
-use lib.Seq.{drop-at, take-all}
+use lib.Seq.{drop-at, take-at, take-all}
 use Rattle.scope.specs.Header.{Header, headerOf}
 use Rattle.scope.specs.Item.{Attribute}
 use Rattle.scope.specs.Reading.{Operator}
@@ -14,7 +14,7 @@ use Rattle.scope.specs.Setting.{Setting}
 use Rattle.scope.specs.Judge.{State, caseOf, after, judgedFrom, starting}
 use Rattle.scope.specs.Verdict.{every, four, attributeRecord, operatorRecord, attributeRecords, recordsBefore, listOf, judgedAfter, Entry, entryOf, outcomeAt, outcomeOf, verdictOf}
 use Rattle.scope.specs.Runs.{Runs, here, then}
-use Rattle.scope.specs.Claims.{AttributesMoved, OperatorsMoved, RecordsMoved, recordsFrom, Between, ListLong, SameList}
+use Rattle.scope.specs.Claims.{Further, AttributesMoved, OperatorsMoved, RecordsMoved, recordsFrom, Reached, ListLong, SameList}
 use Rattle.scope.proofs.Runs.{runs-of, ends-state}
 
 -- the records of some operators stand before what is there
@@ -38,7 +38,7 @@ unfolding operatorRecord four
 operator-long o = refl
 
 -- 16 bytes to a record
-abbrev Long : State → Type 0
+abbrev pub Long : State → Type 0
 Long st = length (recordsBefore (st .past) []) ≡ st .records * 16
 
 module _ (given : ℕ → Bool) (set : Setting) (s : List ℕ) (room : ℕ) where
@@ -83,24 +83,24 @@ unfolding listOf verdictOf outcomeOf
 list-long gray job work room = entry-long gray job room (entryOf (length job) work)
 
 -- the records of attributes that have moved, and behind them others that have
-attributes-moved : {p q : ℕ} {l m : List Attribute} → AttributesMoved p q l m → {x y : List ℕ} → RecordsMoved p q x y
-    → RecordsMoved p q (attributeRecords l ++ x) (attributeRecords m ++ y)
+attributes-moved : {At : ℕ → ℕ → Type 0} {l m : List Attribute} → AttributesMoved At l m → {x y : List ℕ} → RecordsMoved At x y
+    → RecordsMoved At (attributeRecords l ++ x) (attributeRecords m ++ y)
 unfolding attributeRecords
 attributes-moved AttributesMoved.none h = h
-attributes-moved {p} {q} (AttributesMoved.more {a = a} {b = b} {l = l} {m = m} k more) {x} {y} h =
-    subst₂ (RecordsMoved p q) (sym (append-assoc (attributeRecord a) (attributeRecords l) x)) (sym (append-assoc (attributeRecord b) (attributeRecords m) y))
+attributes-moved {At} (AttributesMoved.more {a = a} {b = b} {l = l} {m = m} k more) {x} {y} h =
+    subst₂ (RecordsMoved At) (sym (append-assoc (attributeRecord a) (attributeRecords l) x)) (sym (append-assoc (attributeRecord b) (attributeRecords m) y))
     (RecordsMoved.attribute k (attributes-moved more h))
 
 -- what two lists have behind the records of what was performed before
-record Since (p q : ℕ) (before other : List Operator) (l m : List ℕ) : Type 0 where
+record Since (At : ℕ → ℕ → Type 0) (before other : List Operator) (l m : List ℕ) : Type 0 where
   here-since : List ℕ
   there-since : List ℕ
   first : l ≡ recordsBefore before [] ++ here-since
   second : m ≡ recordsBefore other [] ++ there-since
-  moved : RecordsMoved p q here-since there-since
+  moved : RecordsMoved At here-since there-since
 
-since : {p q : ℕ} {before other l m : List Operator} → OperatorsMoved p q before other l m → {x y : List ℕ} → RecordsMoved p q x y
-    → Since p q before other (recordsBefore l x) (recordsBefore m y)
+since : {At : ℕ → ℕ → Type 0} {before other l m : List Operator} → OperatorsMoved At before other l m → {x y : List ℕ} → RecordsMoved At x y
+    → Since At before other (recordsBefore l x) (recordsBefore m y)
 unfolding recordsBefore
 since {before = before} {other = other} OperatorsMoved.start {x} {y} h =
     record { here-since = x; there-since = y; first = records-append before x; second = records-append other y; moved = h }
@@ -112,14 +112,39 @@ behind-part part rest list m n e f g =
     let h : take (n * 16) list ≡ list = take-all (n * 16) list (omega arith) in
     ap (drop (m * 16)) (h ∙ e) ∙ drop-at part rest (m * 16) f
 
-between-long : (set : Setting) (job : List ℕ) (room : ℕ) (st : State) → Between set job room st → Long st
-between-long set job room st b = runs-long every set job room (b .there .runs) (start-long (b .there .next))
+-- and its first part
+front-part : (part since list rest : List ℕ) (m : ℕ) → list ≡ part ++ since → length part ≡ m * 16 → take (m * 16) (list ++ rest) ≡ part
+front-part part since list rest m e f = ap (λ l. take (m * 16) (l ++ rest)) e ∙ ap (take (m * 16)) (append-assoc part since rest) ∙ take-at part (since ++ rest) (m * 16) f
+
+pub reached-long : (set : Setting) (job : List ℕ) (room : ℕ) (st : State) → Reached set job room st → Long st
+reached-long set job room st r = runs-long every set job room (r .runs) (start-long (r .next))
+
+-- two jobs whose operators have moved since a state of each: so have the records since
+module _ (At : ℕ → ℕ → Type 0) (gray : Bool) (job other : List ℕ) (work work′ room space : ℕ) (a b : State)
+    (moved : OperatorsMoved At (a .past) (b .past) (outcomeOf gray every job work room .state .past) (outcomeOf gray every other work′ space .state .past)) where
+  pub lists-moved : Long a → Long b
+      → RecordsMoved At (recordsFrom (a .records) (verdictOf gray job work room .records) (listOf gray job work room))
+      (recordsFrom (b .records) (verdictOf gray other work′ space .records) (listOf gray other work′ space))
+  unfolding listOf verdictOf
+  lists-moved x y =
+      let z = since moved RecordsMoved.none in
+      subst₂ (RecordsMoved At)
+      (sym (behind-part (recordsBefore (a .past) []) (z .here-since) _ (a .records) _ (z .first) x (list-long gray job work room)))
+      (sym (behind-part (recordsBefore (b .past) []) (z .there-since) _ (b .records) _ (z .second) y (list-long gray other work′ space))) (z .moved)
+
+  -- the records before are those of the operators before, whatever stands behind the list
+  pub first-front : Long a → (rest : List ℕ) → take (a .records * 16) (listOf gray job work room ++ rest) ≡ recordsBefore (a .past) []
+  unfolding listOf
+  first-front x rest =
+      let z = since moved RecordsMoved.none in
+      front-part (recordsBefore (a .past) []) (z .here-since) _ rest (a .records) (z .first) x
+
+  pub second-front : Long b → (rest : List ℕ) → take (b .records * 16) (listOf gray other work′ space ++ rest) ≡ recordsBefore (b .past) []
+  unfolding listOf
+  second-front x rest =
+      let z = since moved RecordsMoved.none in
+      front-part (recordsBefore (b .past) []) (z .there-since) _ rest (b .records) (z .second) x
 
 pub same-list : SameList
-unfolding listOf verdictOf
 same-list set job other work work′ room space a b x y h =
-    let z = since (h .listed) RecordsMoved.none in
-    subst₂ (RecordsMoved (a .at) (b .at))
-    (sym (behind-part (recordsBefore (a .past) []) (z .here-since) _ (a .records) _ (z .first) (between-long set job room a x) (list-long (set .gray) job work room)))
-    (sym (behind-part (recordsBefore (b .past) []) (z .there-since) _ (b .records) _ (z .second) (between-long set other space b y) (list-long (set .gray) other work′ space)))
-    (z .moved)
+    lists-moved (Further (a .at) (b .at)) (set .gray) job other work work′ room space a b (h .listed) (reached-long set job room a (x .there)) (reached-long set other space b (y .there))

@@ -9,46 +9,50 @@ use native.Mathlib.Omega.{arith}
 use borrow.Author.Tests.{le-ltb}
 use lib.ListN.{length, drop, length-drop}
 use Rattle.scope.specs.Item.{after as blackAfter}
-use Rattle.scope.specs.Reading.{Operator, Read}
+use Rattle.scope.specs.Reading.{Operator, Read, operatorAt}
 use Rattle.scope.specs.Setting.{Setting}
 use Rattle.scope.specs.Session.{outside}
 use Rattle.scope.specs.Judge.{State, Outcome, contextOf, judgedFrom}
 use Rattle.scope.specs.Verdict.{every, judgedAfter, entryOf, outcomeAt, outcomeOf}
 use Rattle.scope.specs.Runs.{readAt, ended, onto}
-use Rattle.scope.specs.Claims.{Reached, limit, OperatorsMoved, SameFrom, Alike, Isolated}
+use Rattle.scope.specs.Claims.{Further, Reached, limit, OperatorsMoved, SameFrom, Alike, Isolated}
 use Rattle.scope.proofs.Ends.{after-le}
 use Rattle.scope.proofs.Runs.{runs-of, runs-judged, runs-past, ends-state}
-use Rattle.scope.proofs.Says.{akin-refl, LikePlace, outsides}
+use Rattle.scope.proofs.Says.{akin-refl, LikePlace, outsides, session-same, phase-same}
 use Rattle.scope.proofs.Apart.{clash-of}
 use Rattle.scope.proofs.Goes.{read-goes}
-use Rattle.scope.proofs.Moved.{pairwise-listed, starts-listed}
+use Rattle.scope.proofs.Moved.{starts-back, pairwise-listed, starts-listed}
 use Rattle.scope.proofs.Twice.{TwoEnds, both-end, first-ends, second-ends, two-judged}
 use Rattle.scope.proofs.Beside.{LikeState}
-use Rattle.scope.proofs.Like.{Far, far-start}
+use Rattle.scope.proofs.Like.{Far, far-start, far-end, read-like}
+use Rattle.scope.proofs.Alike.{LikeRead}
 
 -- what an outcome lists are the operators of its run, before those already there
-judged-past : (given : ℕ → Bool) (set : Setting) (s : List ℕ) (room : ℕ) (st : State)
+pub judged-past : (given : ℕ → Bool) (set : Setting) (s : List ℕ) (room : ℕ) (st : State)
     → judgedFrom given set s room st .state .past ≡ onto (runs-of given set s room st .ops) (st .past)
 judged-past given set s room st =
     let c = runs-of given set s room st in
     ap (λ z. z .past) (ends-state given set s room (c .ends)) ∙ runs-past given set s room (c .runs)
 
 module _ (s t : List ℕ) (a b : State) (hp : a .at ≤ length s) (hq : b .at ≤ length t) (same-bytes : drop (a .at) s ≡ drop (b .at) t) (set : Setting) (room space : ℕ) where
+  abbrev F : ℕ → ℕ → Type 0
+  F = Far s t (a .at) (b .at) hp hq same-bytes
+
   alike-of : {os ps : List Operator} {e f : Outcome}
-      → TwoEnds s t (a .at) (b .at) hp hq same-bytes every every (λ k _. refl) set (a .performed) (b .performed) (a .records) (b .records) room space os ps e f
+      → TwoEnds every every (λ k _. refl) set set akin-refl s t (Further (a .at) (b .at)) F (a .performed) (b .performed) (a .records) (b .records) room space os ps e f
       → e .state .past ≡ onto os (a .past) → f .state .past ≡ onto ps (b .past) → Alike a b room space e f
   alike-of (both-end k c d i u v) x y =
       Alike.same
       (record {
         code = c;
-        position = d .far;
+        position = d;
         inner = i;
         performed = u;
         records = v;
-        listed = subst₂ (OperatorsMoved (a .at) (b .at) (a .past) (b .past)) (sym x) (sym y) (pairwise-listed k OperatorsMoved.start);
+        listed = subst₂ (OperatorsMoved (Further (a .at) (b .at)) (a .past) (b .past)) (sym x) (sym y) (pairwise-listed k OperatorsMoved.start);
       })
   alike-of (first-ends c k d) x y =
-      let z : OperatorsMoved (a .at) (b .at) (a .past) (b .past) (a .past) (b .past) = OperatorsMoved.start in
+      let z : OperatorsMoved (Further (a .at) (b .at)) (a .past) (b .past) (a .past) (b .past) = OperatorsMoved.start in
       let l = starts-listed k z in
       Alike.first-cut
       (record {
@@ -56,27 +60,38 @@ module _ (s t : List ℕ) (a b : State) (hp : a .at ≤ length s) (hq : b .at �
         later = l .later;
         until = l .until;
         parts = y ∙ l .parts;
-        listed = subst⁻¹ (λ z. OperatorsMoved (a .at) (b .at) (a .past) (b .past) z (l .until)) x (l .listed);
+        listed = subst⁻¹ (λ z. OperatorsMoved (Further (a .at) (b .at)) (a .past) (b .past) z (l .until)) x (l .listed);
         differs = d (λ _. refl);
       })
   alike-of (second-ends c k d) x y =
-      let z : OperatorsMoved (b .at) (a .at) (b .past) (a .past) (b .past) (a .past) = OperatorsMoved.start in
-      let l = starts-listed k z in
+      let z : OperatorsMoved (Further (b .at) (a .at)) (b .past) (a .past) (b .past) (a .past) = OperatorsMoved.start in
+      let l = starts-listed (starts-back (Further (a .at) (b .at)) (Further (b .at) (a .at)) (λ x y h. sym h) k) z in
       Alike.second-cut
       (record {
         over = c;
         later = l .later;
         until = l .until;
         parts = x ∙ l .parts;
-        listed = subst⁻¹ (λ z. OperatorsMoved (b .at) (a .at) (b .past) (a .past) z (l .until)) y (l .listed);
+        listed = subst⁻¹ (λ z. OperatorsMoved (Further (b .at) (a .at)) (b .past) (a .past) z (l .until)) y (l .listed);
         differs = λ n r z. d (λ _. refl) (sym n) (sym r) (sym z);
       })
 
+  abbrev St : State → State → Type 0
+  St = LikeState every every (λ k _. refl) set set akin-refl s t F (a .performed) (b .performed) (a .records) (b .records)
+
+  reads-both : (x y : State) → St x y → LikeRead (set .high) (set .high) s t (Further (a .at) (b .at)) F (readAt every set s x) (readAt every set t y)
+  unfolding contextOf
+  reads-both x y l =
+      subst (λ c. LikeRead (set .high) (set .high) s t (Further (a .at) (b .at)) F (readAt every set s x) (operatorAt c t (y .at)))
+      (λ i. record { set = set; phase = phase-same (l .place) i; opened = session-same (l .place) i .opened; asked = every 17 })
+      (read-like s t (a .at) (b .at) hp hq same-bytes (Further (a .at) (b .at)) F (λ x y h. h .far) (λ x y h. h) (contextOf every set (x .place)) (l .at))
+
   -- from two states on that are the same but for their places in the bytes and for what went before
-  pub alike-from : LikeState every every (λ k _. refl) set set akin-refl s t (Far s t (a .at) (b .at) hp hq same-bytes) (a .performed) (b .performed) (a .records) (b .records) a b
-      → Alike a b room space (judgedFrom every set s room a) (judgedFrom every set t space b)
+  pub alike-from : St a b → Alike a b room space (judgedFrom every set s room a) (judgedFrom every set t space b)
   alike-from l =
-      alike-of (two-judged s t (a .at) (b .at) hp hq same-bytes every every (λ k _. refl) set (a .performed) (b .performed) (a .records) (b .records) room space a b l)
+      alike-of
+      (two-judged every every (λ k _. refl) set set akin-refl s t (Further (a .at) (b .at)) F (a .performed) (b .performed) (a .records) (b .records) room space
+      (far-end s t (a .at) (b .at) hp hq same-bytes .far) reads-both a b l)
       (judged-past every set s room a) (judged-past every set t space b)
 
   -- so from two states outside a session on

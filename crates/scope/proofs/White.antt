@@ -17,7 +17,7 @@ use Rattle.scope.specs.Session.{Place, outside, inside}
 use Rattle.scope.specs.Judge.{State, Refusal, Outcome, caseOf, after, rules, firstBroken, endAt, onRefusal, onCase, onRead, contextOf, jobStep, judgedFrom, starting}
 use Rattle.scope.specs.Verdict.{every, outcomeOf}
 use Rattle.scope.specs.Runs.{caseAt, next, Runs, here, then}
-use Rattle.scope.specs.Claims.{OperatorsMoved, Reached, SameFrom, moveBy, putIn, WhiteBetween}
+use Rattle.scope.specs.Claims.{Further, OperatorsMoved, Reached, SameFrom, moveBy, putIn, WhiteBetween}
 use Rattle.scope.proofs.Falls.{scan-step, judged-step}
 use Rattle.scope.proofs.Runs.{runs-up, runs-on}
 use Rattle.scope.proofs.Says.{same-place}
@@ -28,7 +28,7 @@ use Rattle.scope.proofs.Ahead.{broken-same, next-same, HeaderPast, Head
 
 -- what is performed within u is performed there whatever stands behind u
 module _ (u x y : List ℕ) (set : Setting) (room : ℕ) where
-  shared-runs : {a b : State} {os : List Operator} → Runs every set (u ++ x) room a os b → b .at ≤ length u → Runs every set (u ++ y) room a os b
+  pub shared-runs : {a b : State} {os : List Operator} → Runs every set (u ++ x) room a os b → b .at ≤ length u → Runs every set (u ++ y) room a os b
   unfolding after caseOf contextOf
   shared-runs here h = here
   shared-runs {b = b} (then {a = a} {o = o} {os = os} p r) h =
@@ -42,7 +42,7 @@ module _ (u x y : List ℕ) (set : Setting) (room : ℕ) where
       (subst (λ z. Runs every set (u ++ y) room z os b) e (shared-runs r h))
 
 -- and a header that ends within u too
-shared-header : (u x y : List ℕ) (class : Class) (high : Bool) (next : ℕ) → headerOf (u ++ x) ≡ Header.is class high next → next ≤ length u → headerOf (u ++ y) ≡ Header.is class high next
+pub shared-header : (u x y : List ℕ) (class : Class) (high : Bool) (next : ℕ) → headerOf (u ++ x) ≡ Header.is class high next → next ≤ length u → headerOf (u ++ y) ≡ Header.is class high next
 shared-header u x y class high next e h = sym (second (headerOf u) (header-cut u y) (first (headerOf u) (header-cut u x) e))
   where
     IsHeader : Header → Type 0
@@ -60,7 +60,7 @@ shared-header u x y class high next e h = sym (second (headerOf u) (header-cut u
     second g (HeaderCut.header-short l) f = absurd (subst⁻¹ IsHeader f tt)
 
 -- the header of a job ends within it
-header-within : (job : List ℕ) (class : Class) (high : Bool) (next : ℕ) → headerOf job ≡ Header.is class high next → next ≤ length job
+pub header-within : (job : List ℕ) (class : Class) (high : Bool) (next : ℕ) → headerOf job ≡ Header.is class high next → next ≤ length job
 header-within job class high next e = by (subst (λ g. HeaderCut job g (headerOf (job ++ []))) e (header-cut job []))
   where
     by : {k : Header} → HeaderCut job (Header.is class high next) k → next ≤ length job
@@ -74,7 +74,7 @@ read-after c s m n e =
     (scan-step (c .set .high) s (record { at = m; attrs = [] }) ∙ ap (λ p. onward (scanFrom (c .set .high) s) (scanItem (c .set .high) s [] p)) e
     ∙ sym (scan-step (c .set .high) s (record { at = n; attrs = [] })))
 
-spaces-all : (blank rest : List ℕ) → spaces blank ≡ length blank → spaces (blank ++ rest) ≡ length blank + spaces rest
+pub spaces-all : (blank rest : List ℕ) → spaces blank ≡ length blank → spaces (blank ++ rest) ≡ length blank + spaces rest
 unfolding spaces
 spaces-all [] rest e = omega arith
 spaces-all (b ∷ bs) rest e = by (white b) e (spaces-all bs rest)
@@ -135,7 +135,7 @@ from-told {a} {b} {e} h t =
       inner = h .inner ∙ sym (t .inner);
       performed = h .performed ∙ ap (λ n. n + a .performed) (sym (t .performed));
       records = h .records ∙ ap (λ n. n + a .records) (sym (t .records));
-      listed = subst⁻¹ (λ l. OperatorsMoved (a .at) (b .at) (a .past) (b .past) (e .state .past) l) (t .past) (h .listed);
+      listed = subst⁻¹ (λ l. OperatorsMoved (Further (a .at) (b .at)) (a .past) (b .past) (e .state .past) l) (t .past) (h .listed);
     }
 
 module _ (set : Setting) (u v blank : List ℕ) (room : ℕ) (st : State) (at : st .at ≡ length u) (all : spaces blank ≡ length blank) where

@@ -1,5 +1,5 @@
 -- The theorems to prove, as types.
-use Prim.Native.Nat.{ℕ, _+_, _*_, _/_, _≤_, _<_}
+use Prim.Native.Nat.{ℕ, suc, _+_, _*_, _/_, _≤_, _<_}
 use mathlib.Core.Path.{_≡_}
 use mathlib.Core.Logic.{_↔_}
 use mathlib.Core.Bool.{Bool, true, false, _||_}
@@ -8,7 +8,8 @@ use lib.ListN.{length, take, drop, getD}
 use lib.Dec.{eqb}
 use Rattle.scope.specs.Choice.{among}
 use Rattle.scope.specs.Header.{one, headerOf}
-use Rattle.scope.specs.Item.{Attribute, spaces, after}
+use Rattle.scope.specs.Iterate.{go, stop}
+use Rattle.scope.specs.Item.{Attribute, Value, kindOf, valueOf, Scan, Walk, scanStep, spaces, after}
 use Rattle.scope.specs.Reading.{Context, Operator, Read, operatorAt}
 use Rattle.scope.specs.Attributes.{valueIn, bytesIn}
 use Rattle.scope.specs.Data.{Image, bitsOf, blockDue}
@@ -106,33 +107,37 @@ Cuts =
     (gray : Bool) (start rest : List ℕ) (work room : ℕ) → verdictOf gray (start ++ rest) work room .code ≡ 0
     → (among (0 ∷ 2 ∷ 5 ∷ 27 ∷ []) (verdictOf gray start work room .code) ≡ true) × (verdictOf gray start work room .inner ≡ outer)
 
--- an attribute that has moved with the bytes from place p to place q: the same but for its two places
-pub record AttributeMoved (p q : ℕ) (a b : Attribute) : Type 0 where
+-- places that have moved with the bytes from place p to place q
+abbrev pub Further : (p q : ℕ) → ℕ → ℕ → Type 0
+Further p q x y = x + q ≡ y + p
+
+-- an attribute that has moved, its place by `At`: the same but for its place and that of its value, which has moved along
+pub record AttributeMoved (At : ℕ → ℕ → Type 0) (a b : Attribute) : Type 0 where
   pub number : a .number ≡ b .number
   pub tag : a .tag ≡ b .tag
-  pub at : a .at + q ≡ b .at + p
+  pub at : At (a .at) (b .at)
   pub count : a .count ≡ b .count
-  pub first : a .first + q ≡ b .first + p
+  pub first : a .first + b .at ≡ b .first + a .at
 
 -- attributes that have moved, one by one
-pub data AttributesMoved (p q : ℕ) : List Attribute → List Attribute → Type 0 where
-  none : AttributesMoved p q [] []
-  more : {a b : Attribute} {l m : List Attribute} → AttributeMoved p q a b → AttributesMoved p q l m → AttributesMoved p q (a ∷ l) (b ∷ m)
+pub data AttributesMoved (At : ℕ → ℕ → Type 0) : List Attribute → List Attribute → Type 0 where
+  none : AttributesMoved At [] []
+  more : {a b : Attribute} {l m : List Attribute} → AttributeMoved At a b → AttributesMoved At l m → AttributesMoved At (a ∷ l) (b ∷ m)
 
 -- an operator that has moved: the same but for its places; the 0 of one that reads no data stays
-pub record OperatorMoved (p q : ℕ) (a b : Operator) : Type 0 where
+pub record OperatorMoved (At : ℕ → ℕ → Type 0) (a b : Operator) : Type 0 where
   pub tag : a .tag ≡ b .tag
-  pub at : a .at + q ≡ b .at + p
-  pub attrs : AttributesMoved p q (a .attrs) (b .attrs)
+  pub at : At (a .at) (b .at)
+  pub attrs : AttributesMoved At (a .attrs) (b .attrs)
   pub length : a .length ≡ b .length
   pub reads : a .reads ≡ b .reads
-  pub reading : a .reads ≡ true → a .first + q ≡ b .first + p
+  pub reading : a .reads ≡ true → At (a .first) (b .first)
   pub quiet : a .reads ≡ false → (a .first ≡ 0) × (b .first ≡ 0)
 
 -- the operators after those before, which stand last one first
-pub data OperatorsMoved (p q : ℕ) (before other : List Operator) : List Operator → List Operator → Type 0 where
-  start : OperatorsMoved p q before other before other
-  more : {a b : Operator} {l m : List Operator} → OperatorMoved p q a b → OperatorsMoved p q before other l m → OperatorsMoved p q before other (a ∷ l) (b ∷ m)
+pub data OperatorsMoved (At : ℕ → ℕ → Type 0) (before other : List Operator) : List Operator → List Operator → Type 0 where
+  start : OperatorsMoved At before other before other
+  more : {a b : Operator} {l m : List Operator} → OperatorMoved At a b → OperatorsMoved At before other l m → OperatorsMoved At before other (a ∷ l) (b ∷ m)
 
 -- judging comes to a state: from the end of the header on it has performed some operators, none refused
 pub record Reached (set : Setting) (job : List ℕ) (room : ℕ) (st : State) : Type 0 where
@@ -159,13 +164,13 @@ pub record SameFrom (a b : State) (e f : Outcome) : Type 0 where
   pub inner : e .inner ≡ f .inner
   pub performed : e .state .performed + b .performed ≡ f .state .performed + a .performed
   pub records : e .state .records + b .records ≡ f .state .records + a .records
-  pub listed : OperatorsMoved (a .at) (b .at) (a .past) (b .past) (e .state .past) (f .state .past)
+  pub listed : OperatorsMoved (Further (a .at) (b .at)) (a .past) (b .past) (e .state .past) (f .state .past)
 
 -- records of 16 bytes that have moved: record by record those of an attribute or of an operator that has
-pub data RecordsMoved (p q : ℕ) : List ℕ → List ℕ → Type 0 where
-  none : RecordsMoved p q [] []
-  attribute : {a b : Attribute} {l m : List ℕ} → AttributeMoved p q a b → RecordsMoved p q l m → RecordsMoved p q (attributeRecord a ++ l) (attributeRecord b ++ m)
-  operator : {a b : Operator} {l m : List ℕ} → OperatorMoved p q a b → RecordsMoved p q l m → RecordsMoved p q (operatorRecord a ++ l) (operatorRecord b ++ m)
+pub data RecordsMoved (At : ℕ → ℕ → Type 0) : List ℕ → List ℕ → Type 0 where
+  none : RecordsMoved At [] []
+  attribute : {a b : Attribute} {l m : List ℕ} → AttributeMoved At a b → RecordsMoved At l m → RecordsMoved At (attributeRecord a ++ l) (attributeRecord b ++ m)
+  operator : {a b : Operator} {l m : List ℕ} → OperatorMoved At a b → RecordsMoved At l m → RecordsMoved At (operatorRecord a ++ l) (operatorRecord b ++ m)
 
 -- the bytes of a list from its record m on up to its record n
 abbrev pub recordsFrom : (m n : ℕ) → List ℕ → List ℕ
@@ -181,7 +186,7 @@ pub record CutShort (a b : State) (room space : ℕ) (e f : Outcome) : Type 0 wh
   pub later : List Operator
   pub until : List Operator
   pub parts : f .state .past ≡ later ++ until
-  pub listed : OperatorsMoved (a .at) (b .at) (a .past) (b .past) (e .state .past) until
+  pub listed : OperatorsMoved (Further (a .at) (b .at)) (a .past) (b .past) (e .state .past) until
   pub differs : a .performed ≡ b .performed → a .records ≡ b .records → room ≡ space → ⊥
 
 -- the two are the same from there on, or 26 or 28 cuts one of them short
@@ -203,7 +208,7 @@ abbrev pub SameList : Type 0
 SameList =
     (set : Setting) (job other : List ℕ) (work work′ room space : ℕ) (a b : State) → Between set job room a → Between set other space b
     → SameFrom a b (outcomeOf (set .gray) every job work room) (outcomeOf (set .gray) every other work′ space)
-    → RecordsMoved (a .at) (b .at) (recordsFrom (a .records) (verdictOf (set .gray) job work room .records) (listOf (set .gray) job work room))
+    → RecordsMoved (Further (a .at) (b .at)) (recordsFrom (a .records) (verdictOf (set .gray) job work room .records) (listOf (set .gray) job work room))
     (recordsFrom (b .records) (verdictOf (set .gray) other work′ space .records) (listOf (set .gray) other work′ space))
 
 -- the same state, so many bytes further on
@@ -220,6 +225,46 @@ abbrev pub WhiteBetween : Type 0
 WhiteBetween =
     (set : Setting) (job blank : List ℕ) (work room : ℕ) (st : State) → 16384 ≤ work → length (putIn (st .at) blank job) ≤ 61440 → spaces blank ≡ length blank
     → Reached set job room st → SameFrom st (moveBy (length blank) st) (outcomeOf (set .gray) every job work room) (outcomeOf (set .gray) every (putIn (st .at) blank job) work room)
+
+-- a place, and where it is with so many bytes put in at place p: before p it stays, from p on it moves along
+pub data Shifted (p many : ℕ) : ℕ → ℕ → Type 0 where
+  stays : {x : ℕ} → x < p → Shifted p many x x
+  moves : {x : ℕ} → p ≤ x → Shifted p many x (x + many)
+
+-- from the place `from` on up to p there are white bytes only
+pub record WhiteUpTo (s : List ℕ) (from p : ℕ) : Type 0 where
+  pub behind : from ≤ p
+  pub before : p ≤ after s from
+
+-- the value whose tag stands at a place, after n pairs
+abbrev pub valueAt : (high : Bool) → List ℕ → (at n : ℕ) → Value
+valueAt high s at n = valueOf high s at n (kindOf (getD s at 0))
+
+-- p is a place between two items of those that are read from where a scan stands: before a value, an operator's tag or the end; between a value and its number;
+-- between an operator's tag and its data, or what comes behind one that reads none
+pub data Gap (high : Bool) (s : List ℕ) (p : ℕ) : Walk → Type 0 where
+  before-item : {w : Walk} → WhiteUpTo s (w .at) p → Gap high s p w
+  before-number : {w : Walk} {count first next : ℕ} → valueAt high s (after s (w .at)) (length (w .attrs)) ≡ Value.is count first next → WhiteUpTo s next p → Gap high s p w
+  behind-tag : {w : Walk} {tag at : ℕ} {l : List Attribute} → scanStep high s w ≡ stop (Scan.tagged tag at l) → WhiteUpTo s (suc at) p → Gap high s p w
+  behind-pair : {w v : Walk} → scanStep high s w ≡ go v → Gap high s p v → Gap high s p w
+
+-- two outcomes, of a job and of the job with so many bytes put in at p, are the same: code, inner, the operators performed and the records listed; the position
+-- but for the shift; and the operators listed since some before, but for their places
+pub record SameButShifted (p many : ℕ) (before : List Operator) (e f : Outcome) : Type 0 where
+  pub code : e .code ≡ f .code
+  pub position : Shifted p many (e .position) (f .position)
+  pub inner : e .inner ≡ f .inner
+  pub performed : e .state .performed ≡ f .state .performed
+  pub records : e .state .records ≡ f .state .records
+  pub listed : OperatorsMoved (Shifted p many) before before (e .state .past) (f .state .past)
+
+-- white space between items plays no part: a job, and the job with white bytes put in at a place between two items that judging reads, get the same code and inner
+-- place, perform and list the same; positions and places behind the white bytes move along
+abbrev pub WhiteBetweenItems : Type 0
+WhiteBetweenItems =
+    (set : Setting) (job blank : List ℕ) (work room p : ℕ) (st : State) → 16384 ≤ work → length (putIn p blank job) ≤ 61440 → spaces blank ≡ length blank
+    → Reached set job room st → Gap (set .high) job p (record { at = st .at; attrs = [] })
+    → SameButShifted p (length blank) (st .past) (outcomeOf (set .gray) every job work room) (outcomeOf (set .gray) every (putIn p blank job) work room)
 
 -- the operators performed since the last BeginSession; as everywhere, the last one stands first
 unfoldable pub ofSession : List Operator → List Operator

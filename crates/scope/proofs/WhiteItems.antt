@@ -1,0 +1,107 @@
+-- White space between items plays no part: a job, and the same job with white bytes put in at such a place, come alike to the operator that the place stands in, read it
+-- alike, and from there on the same bytes.
+-- Assumes nothing.
+use Prim.Native.Nat.{ℕ, _+_}
+use mathlib.Core.Path.{_≡_, refl, sym, ap, _∙_, subst, subst₂, subst⁻¹}
+use mathlib.Core.List.{List, [], _++_}
+use native.Mathlib.Omega.{arith}
+use lib.ListN.{length, take, drop, length-append, take-append-drop}
+use lib.Seq.{length-take-le}
+use Rattle.scope.specs.Header.{headerOf}
+use Rattle.scope.specs.Item.{spaces}
+use Rattle.scope.specs.Reading.{Operator, operatorAt}
+use Rattle.scope.specs.Setting.{Setting}
+use Rattle.scope.specs.Judge.{State, Outcome, contextOf, judgedFrom, starting}
+use Rattle.scope.specs.Verdict.{every, outcomeOf}
+use Rattle.scope.specs.Runs.{readAt, onto, Runs}
+use Rattle.scope.specs.Claims.{OperatorsMoved, Reached, putIn, moves, Gap, SameButShifted, WhiteBetweenItems}
+use Rattle.scope.proofs.Runs.{runs-on}
+use Rattle.scope.proofs.Says.{akin-refl, same-place, session-same, phase-same}
+use Rattle.scope.proofs.Moved.{pairwise-listed}
+use Rattle.scope.proofs.Alike.{LikeRead}
+use Rattle.scope.proofs.Beside.{LikeState}
+use Rattle.scope.proofs.Twice.{TwoEnds, both-end, first-ends, second-ends, two-judged}
+use Rattle.scope.proofs.Sessions.{judged-past, reached-judged}
+use Rattle.scope.proofs.White.{shared-runs, shared-header, header-within}
+use Rattle.scope.proofs.Shift.{At, up-to-s}
+use Rattle.scope.proofs.Gaps.{gap-place, On, at-gap, gap-read}
+
+module _ (set : Setting) (u v blank : List ℕ) (all : spaces blank ≡ length blank) (room : ℕ) where
+  abbrev s : List ℕ
+  s = u ++ v
+
+  abbrev t : List ℕ
+  t = u ++ (blank ++ v)
+
+  abbrev To : ℕ → ℕ → Type 0
+  To = On u v blank all (set .high)
+
+  abbrev Place : ℕ → ℕ → Type 0
+  Place = At u v blank all
+
+  abbrev St : State → State → Type 0
+  St = LikeState every every (λ k _. refl) set set akin-refl s t To 0 0 0 0
+
+  ends-shifted : Place (length s) (length t)
+  ends-shifted =
+      let e = length-append u v in
+      let f = length-append u (blank ++ v) in
+      let g = length-append blank v in
+      let h : length s + length blank ≡ length t = omega arith in
+      subst (Place (length s)) h (moves (up-to-s u v blank all))
+
+  reads-both : (x y : State) → St x y → LikeRead (set .high) (set .high) s t Place To (readAt every set s x) (readAt every set t y)
+  unfolding contextOf
+  reads-both x y l =
+      subst (λ c. LikeRead (set .high) (set .high) s t Place To (readAt every set s x) (operatorAt c t (y .at)))
+      (λ i. record { set = set; phase = phase-same (l .place) i; opened = session-same (l .place) i .opened; asked = every 17 })
+      (gap-read u v blank all (contextOf every set (x .place)) (l .at))
+
+  shifted-of : (before : List Operator) {os ps : List Operator} {e f : Outcome} → TwoEnds every every (λ k _. refl) set set akin-refl s t Place To 0 0 0 0 room room os ps e f
+      → e .state .past ≡ onto os before → f .state .past ≡ onto ps before → SameButShifted (length u) (length blank) before e f
+  shifted-of before (both-end k c d i m r) x y =
+      record {
+        code = c;
+        position = d;
+        inner = i;
+        performed = omega arith;
+        records = omega arith;
+        listed = subst₂ (OperatorsMoved Place before before) (sym x) (sym y) (pairwise-listed k OperatorsMoved.start);
+      }
+  shifted-of before (first-ends c k d) x y = absurd (d (λ _. refl) refl refl refl)
+  shifted-of before (second-ends c k d) x y = absurd (d (λ _. refl) refl refl refl)
+
+  judged-shifted : (st : State) → Gap (set .high) s (length u) (record { at = st .at; attrs = [] })
+      → SameButShifted (length u) (length blank) (st .past) (judgedFrom every set s room st) (judgedFrom every set t room st)
+  judged-shifted st g =
+      shifted-of (st .past)
+      (two-judged every every (λ k _. refl) set set akin-refl s t Place To 0 0 0 0 room room ends-shifted reads-both st st
+      (record { at = at-gap g; place = same-place; performed = refl; records = refl }))
+      (judged-past every set s room st) (judged-past every set t room st)
+
+pub white-between-items : WhiteBetweenItems
+white-between-items set job blank work room p st hw hl all r g =
+    let u = take p job in
+    let v = drop p job in
+    let e : u ++ v ≡ job = take-append-drop p job in
+    let n = header-within job (set .class) (set .high) (r .next) (r .header) in
+    let on = runs-on every set job room (r .runs) n in
+    let h = gap-place (set .high) job p g (on .1) in
+    let lu : length u ≡ p = length-take-le p job (h .1) in
+    let ls = length-append u v in
+    let lt = length-append u (blank ++ v) in
+    let lb = length-append blank v in
+    let le = ap length e in
+    let there : Reached set (putIn p blank job) room st = record {
+      next = r .next;
+      header = shared-header u v (blank ++ v) (set .class) (set .high) (r .next) (ap headerOf e ∙ r .header) (omega arith);
+      before = r .before;
+      runs = shared-runs u v (blank ++ v) set room (subst⁻¹ (λ z. Runs every set z room (starting (r .next)) (r .before) st) e (r .runs)) (omega arith);
+    } in
+    let gap : Gap (set .high) (u ++ v) (length u) (record { at = st .at; attrs = [] }) =
+    subst⁻¹ (λ z. Gap (set .high) z (length u) (record { at = st .at; attrs = [] })) e (subst⁻¹ (λ z. Gap (set .high) job z (record { at = st .at; attrs = [] })) lu g) in
+    subst⁻¹ (λ z. SameButShifted p (length blank) (st .past) z (outcomeOf (set .gray) every (putIn p blank job) work room)) (reached-judged set job work room st hw (omega arith) r)
+    (subst⁻¹ (λ z. SameButShifted p (length blank) (st .past) (judgedFrom every set job room st) z) (reached-judged set (putIn p blank job) work room st hw hl there)
+    (subst (λ z. SameButShifted p (length blank) (st .past) (judgedFrom every set z room st) (judgedFrom every set (putIn p blank job) room st)) e
+    (subst (λ z. SameButShifted z (length blank) (st .past) (judgedFrom every set (u ++ v) room st) (judgedFrom every set (putIn p blank job) room st)) lu
+    (judged-shifted set u v blank all room st gap))))
