@@ -49,3 +49,4 @@ pub mod Starts
 pub mod Halves
 pub mod Jobs
 pub mod Shown
+pub mod ShownWhite
