@@ -2,7 +2,7 @@
 -- they read the same bytes, behind the white ones.
 -- Assumes nothing.
 use Prim.Native.Nat.{ℕ, suc, _+_, _-_, _≤_, _<_}
-use mathlib.Core.Path.{_≡_, refl, sym, ap, _∙_, subst, subst⁻¹}
+use mathlib.Core.Path.{_≡_, refl, sym, ap, _∙_, subst, subst₂, subst⁻¹}
 use mathlib.Core.Bool.{Bool, true, false}
 use mathlib.Core.List.{List, [], _∷_, _++_, append-assoc}
 use native.Mathlib.Omega.{arith}
@@ -15,7 +15,7 @@ use Rattle.scope.specs.Reading.{Context, Operator, Read, scanned, operat
 use Rattle.scope.specs.Setting.{Setting}
 use Rattle.scope.specs.Session.{Place, outside, inside}
 use Rattle.scope.specs.Judge.{State, Refusal, Outcome, caseOf, after, rules, firstBroken, endAt, onRefusal, onCase, onRead, contextOf, jobStep, judgedFrom, starting}
-use Rattle.scope.specs.Verdict.{every, outcomeOf}
+use Rattle.scope.specs.Verdict.{every}
 use Rattle.scope.specs.Runs.{caseAt, next, Runs, here, then}
 use Rattle.scope.specs.Claims.{Further, OperatorsMoved, Reached, SameFrom, moveBy, putIn, WhiteBetween}
 use Rattle.scope.proofs.Falls.{scan-step, judged-step}
@@ -28,7 +28,7 @@ use Rattle.scope.proofs.Ahead.{broken-same, next-same, HeaderPast, Head
 
 -- what is performed within u is performed there whatever stands behind u
 module _ (u x y : List ℕ) (set : Setting) (room : ℕ) where
-  pub shared-runs : {a b : State} {os : List Operator} → Runs every set (u ++ x) room a os b → b .at ≤ length u → Runs every set (u ++ y) room a os b
+  shared-runs : {a b : State} {os : List Operator} → Runs every set (u ++ x) room a os b → b .at ≤ length u → Runs every set (u ++ y) room a os b
   unfolding after caseOf contextOf
   shared-runs here h = here
   shared-runs {b = b} (then {a = a} {o = o} {os = os} p r) h =
@@ -42,7 +42,7 @@ module _ (u x y : List ℕ) (set : Setting) (room : ℕ) where
       (subst (λ z. Runs every set (u ++ y) room z os b) e (shared-runs r h))
 
 -- and a header that ends within u too
-pub shared-header : (u x y : List ℕ) (class : Class) (high : Bool) (next : ℕ) → headerOf (u ++ x) ≡ Header.is class high next → next ≤ length u → headerOf (u ++ y) ≡ Header.is class high next
+shared-header : (u x y : List ℕ) (class : Class) (high : Bool) (next : ℕ) → headerOf (u ++ x) ≡ Header.is class high next → next ≤ length u → headerOf (u ++ y) ≡ Header.is class high next
 shared-header u x y class high next e h = sym (second (headerOf u) (header-cut u y) (first (headerOf u) (header-cut u x) e))
   where
     IsHeader : Header → Type 0
@@ -60,7 +60,7 @@ shared-header u x y class high next e h = sym (second (headerOf u) (header-cut u
     second g (HeaderCut.header-short l) f = absurd (subst⁻¹ IsHeader f tt)
 
 -- the header of a job ends within it
-pub header-within : (job : List ℕ) (class : Class) (high : Bool) (next : ℕ) → headerOf job ≡ Header.is class high next → next ≤ length job
+header-within : (job : List ℕ) (class : Class) (high : Bool) (next : ℕ) → headerOf job ≡ Header.is class high next → next ≤ length job
 header-within job class high next e = by (subst (λ g. HeaderCut job g (headerOf (job ++ []))) e (header-cut job []))
   where
     by : {k : Header} → HeaderCut job (Header.is class high next) k → next ≤ length job
@@ -175,26 +175,41 @@ module _ (set : Setting) (u v blank : List ℕ) (room : ℕ) (st : State) (at : 
       refl refl refl)
       (skip set t room (length blank) st white-there)
 
-pub white-between : WhiteBetween
-unfolding after caseOf
-white-between set job blank work room st hw hl all r =
-    let u = take (st .at) job in
-    let v = drop (st .at) job in
-    let e : u ++ v ≡ job = take-append-drop (st .at) job in
-    let n = header-within job (set .class) (set .high) (r .next) (r .header) in
-    let on = runs-on every set job room (r .runs) n in
-    let lu : length u ≡ st .at = length-take-le (st .at) job (on .1) in
-    let ls = length-append u v in
-    let lt = length-append u (blank ++ v) in
-    let lb = length-append blank v in
-    let le = ap length e in
-    let there : Reached set (putIn (st .at) blank job) room st = record {
+-- a job with bytes put in at a place comes to every state that it comes to before that place
+pub reached-before : (set : Setting) (job bytes : List ℕ) (room p : ℕ) (st : State) → Reached set job room st → st .at ≤ p → p ≤ length job → Reached set (putIn p bytes job) room st
+reached-before set job bytes room p st r h k =
+    let u = take p job in
+    let v = drop p job in
+    let e : u ++ v ≡ job = take-append-drop p job in
+    let lu : length u ≡ p = length-take-le p job k in
+    let up = runs-up every set job room (r .runs) in
+    record {
       next = r .next;
-      header = shared-header u v (blank ++ v) (set .class) (set .high) (r .next) (ap headerOf e ∙ r .header) (omega arith);
+      header = shared-header u v (bytes ++ v) (set .class) (set .high) (r .next) (ap headerOf e ∙ r .header) (omega arith);
       before = r .before;
-      runs = shared-runs u v (blank ++ v) set room (subst⁻¹ (λ z. Runs every set z room (starting (r .next)) (r .before) st) e (r .runs)) (omega arith);
-    } in
-    subst⁻¹ (λ z. SameFrom st (moveBy (length blank) st) z (outcomeOf (set .gray) every (putIn (st .at) blank job) work room)) (reached-judged set job work room st hw (omega arith) r)
-    (subst⁻¹ (λ z. SameFrom st (moveBy (length blank) st) (judgedFrom every set job room st) z) (reached-judged set (putIn (st .at) blank job) work room st hw hl there)
-    (subst (λ z. SameFrom st (moveBy (length blank) st) (judgedFrom every set z room st) (judgedFrom every set (putIn (st .at) blank job) room st)) e
-    (white-alike set u v blank room st (sym lu) all)))
+      runs = shared-runs u v (bytes ++ v) set room (subst⁻¹ (λ z. Runs every set z room (starting (r .next)) (r .before) st) e (r .runs)) (omega arith);
+    }
+
+-- a state that a job comes to stands within it
+pub reached-within : (set : Setting) (job : List ℕ) (room : ℕ) (st : State) → Reached set job room st → st .at ≤ length job
+reached-within set job room st r = runs-on every set job room (r .runs) (header-within job (set .class) (set .high) (r .next) (r .header)) .1
+
+-- and is not longer than with bytes put in
+pub put-longer : (p : ℕ) (bytes job : List ℕ) → length job ≤ length (putIn p bytes job)
+put-longer p bytes job =
+    let e = ap length (take-append-drop p job) in
+    let a = length-append (take p job) (drop p job) in
+    let b = length-append (take p job) (bytes ++ drop p job) in
+    let c = length-append bytes (drop p job) in
+    omega arith
+
+pub white-between : WhiteBetween
+white-between set job blank work room st hw hl all r =
+    let p = st .at in
+    let e : take p job ++ drop p job ≡ job = take-append-drop p job in
+    let h = reached-within set job room st r in
+    let k = put-longer p blank job in
+    let there = reached-before set job blank room p st r (omega arith) h in
+    subst₂ (SameFrom st (moveBy (length blank) st)) (sym (reached-judged set job work room st hw (omega arith) r)) (sym (reached-judged set (putIn p blank job) work room st hw hl there))
+    (subst (λ z. SameFrom st (moveBy (length blank) st) (judgedFrom every set z room st) (judgedFrom every set (putIn p blank job) room st)) e
+    (white-alike set (take p job) (drop p job) blank room st (sym (length-take-le p job h)) all))

@@ -2,27 +2,25 @@
 -- alike, and from there on the same bytes.
 -- Assumes nothing.
 use Prim.Native.Nat.{ℕ, _+_}
-use mathlib.Core.Path.{_≡_, refl, sym, ap, _∙_, subst, subst₂, subst⁻¹}
+use mathlib.Core.Path.{_≡_, refl, sym, subst, subst₂}
 use mathlib.Core.List.{List, [], _++_}
 use native.Mathlib.Omega.{arith}
 use lib.ListN.{length, take, drop, length-append, take-append-drop}
 use lib.Seq.{length-take-le}
-use Rattle.scope.specs.Header.{headerOf}
-use Rattle.scope.specs.Item.{spaces}
+use Rattle.scope.specs.Item.{Walk, spaces}
 use Rattle.scope.specs.Reading.{Operator, operatorAt}
 use Rattle.scope.specs.Setting.{Setting}
-use Rattle.scope.specs.Judge.{State, Outcome, contextOf, judgedFrom, starting}
-use Rattle.scope.specs.Verdict.{every, outcomeOf}
-use Rattle.scope.specs.Runs.{readAt, onto, Runs}
-use Rattle.scope.specs.Claims.{OperatorsMoved, Reached, putIn, moves, Gap, SameButShifted, WhiteBetweenItems}
-use Rattle.scope.proofs.Runs.{runs-on}
+use Rattle.scope.specs.Judge.{State, Outcome, contextOf, judgedFrom}
+use Rattle.scope.specs.Verdict.{every}
+use Rattle.scope.specs.Runs.{readAt, onto}
+use Rattle.scope.specs.Claims.{OperatorsMoved, putIn, moves, Gap, SameButShifted, WhiteBetweenItems}
 use Rattle.scope.proofs.Says.{akin-refl, same-place, session-same, phase-same}
 use Rattle.scope.proofs.Moved.{pairwise-listed}
 use Rattle.scope.proofs.Alike.{LikeRead}
 use Rattle.scope.proofs.Beside.{LikeState}
 use Rattle.scope.proofs.Twice.{TwoEnds, both-end, first-ends, second-ends, two-judged}
 use Rattle.scope.proofs.Sessions.{judged-past, reached-judged}
-use Rattle.scope.proofs.White.{shared-runs, shared-header, header-within}
+use Rattle.scope.proofs.White.{reached-before, reached-within, put-longer}
 use Rattle.scope.proofs.Shift.{At, up-to-s}
 use Rattle.scope.proofs.Gaps.{gap-place, On, at-gap, gap-read}
 
@@ -84,24 +82,12 @@ white-between-items set job blank work room p st hw hl all r g =
     let u = take p job in
     let v = drop p job in
     let e : u ++ v ≡ job = take-append-drop p job in
-    let n = header-within job (set .class) (set .high) (r .next) (r .header) in
-    let on = runs-on every set job room (r .runs) n in
-    let h = gap-place (set .high) job p g (on .1) in
+    let h = gap-place (set .high) job p g (reached-within set job room st r) in
+    let k = put-longer p blank job in
     let lu : length u ≡ p = length-take-le p job (h .1) in
-    let ls = length-append u v in
-    let lt = length-append u (blank ++ v) in
-    let lb = length-append blank v in
-    let le = ap length e in
-    let there : Reached set (putIn p blank job) room st = record {
-      next = r .next;
-      header = shared-header u v (blank ++ v) (set .class) (set .high) (r .next) (ap headerOf e ∙ r .header) (omega arith);
-      before = r .before;
-      runs = shared-runs u v (blank ++ v) set room (subst⁻¹ (λ z. Runs every set z room (starting (r .next)) (r .before) st) e (r .runs)) (omega arith);
-    } in
-    let gap : Gap (set .high) (u ++ v) (length u) (record { at = st .at; attrs = [] }) =
-    subst⁻¹ (λ z. Gap (set .high) z (length u) (record { at = st .at; attrs = [] })) e (subst⁻¹ (λ z. Gap (set .high) job z (record { at = st .at; attrs = [] })) lu g) in
-    subst⁻¹ (λ z. SameButShifted p (length blank) (st .past) z (outcomeOf (set .gray) every (putIn p blank job) work room)) (reached-judged set job work room st hw (omega arith) r)
-    (subst⁻¹ (λ z. SameButShifted p (length blank) (st .past) (judgedFrom every set job room st) z) (reached-judged set (putIn p blank job) work room st hw hl there)
-    (subst (λ z. SameButShifted p (length blank) (st .past) (judgedFrom every set z room st) (judgedFrom every set (putIn p blank job) room st)) e
-    (subst (λ z. SameButShifted z (length blank) (st .past) (judgedFrom every set (u ++ v) room st) (judgedFrom every set (putIn p blank job) room st)) lu
-    (judged-shifted set u v blank all room st gap))))
+    let there = reached-before set job blank room p st r (h .0) (h .1) in
+    let w : Walk = record { at = st .at; attrs = [] } in
+    let gap : Gap (set .high) (u ++ v) (length u) w = subst₂ (λ z n. Gap (set .high) z n w) (sym e) (sym lu) g in
+    subst₂ (SameButShifted p (length blank) (st .past)) (sym (reached-judged set job work room st hw (omega arith) r)) (sym (reached-judged set (putIn p blank job) work room st hw hl there))
+    (subst₂ (λ z n. SameButShifted n (length blank) (st .past) (judgedFrom every set z room st) (judgedFrom every set (putIn p blank job) room st)) e lu
+    (judged-shifted set u v blank all room st gap))
