@@ -39,7 +39,7 @@ both-right true b e = e
 both-right false b e = absurd (true≢false (sym e))
 
 module _ (n : ℕ) (ks : List ℕ) (apart : Apart n ks) where
-  pub other : (m : ℕ) → among ks m ≡ true → eqb m n ≡ false
+  other : (m : ℕ) → among ks m ≡ true → eqb m n ≡ false
   other m t = ne-eqb m n (λ e. true≢false (sym t ∙ subst (λ (x : ℕ). among ks x ≡ false) (sym e) (apart-out n ks apart)))
 
   pub no-line : (rows : List scope.Row) → within ks (opsIn rows) ≡ true → scope.lineIn rows n ≡ scope.Line.none

@@ -1,10 +1,12 @@
 // The operator table: a line for an operator, in the order of Appendix C of 000, and a line for each attribute; and what class 2;1 has besides.
 ghost use mathlib.Core.Path.{_≡_};
+ghost use mathlib.Core.Bool.{true};
 ghost use mathlib.Core.List.{_∷_, []};
 ghost use Rattle.scope.specs.Header.{one, two};
 ghost use Rattle.scope.specs.Table.{tableOne, tableTwo, table, lineIn};
 ghost use Rattle.setting.specs.Views.{classAs};
-ghost use Rattle.table.specs.Lines.{isKnown, rowWith, briefAs, briefOf, takesOf, ruleOf};
+ghost use Rattle.scope.specs.Choice.{among};
+ghost use Rattle.table.specs.Lines.{ownLines, ownRules, ownLine, ownRule, isKnown, rowWith, briefAs, briefOf, takesOf, ruleOf};
 ghost use Rattle.table.specs.declared.table.Form.the-variants.{Each, One, Line, Unknown};
 use names::attributes::SOURCE_HEIGHT as HEIGHT;
 use names::attributes::SOURCE_WIDTH as WIDTH;
@@ -208,9 +210,21 @@ fn row_of_one(tag: u8) -> Row
     }
 }
 
-// And in class 2;1: three lines that are its own, the others as in 1;1.
-fn row_of_two(tag: u8) -> Row
-    ensures { λ r. ⌜ briefAs r ≡ briefOf (lineIn tableTwo tag) ⌝ }
+// Class 2;1 has a line of its own for this operator.
+fn has_own_line(tag: u8) -> bool
+    ensures { λ r. ⌜ r ≡ among ownLines tag ⌝ }
+{
+    match tag {
+        BEGIN_PAGE => true,
+        READ_IMAGE => true,
+        SET_DEFAULT_GS => true,
+        _ => false,
+    }
+}
+
+// The lines that are its own.
+fn own_row(tag: u8) -> Row
+    ensures { λ r. ⌜ (among ownLines tag ≡ true → briefAs r ≡ briefOf (lineIn tableTwo tag)) ⌝ }
 {
     match tag {
         BEGIN_PAGE => may_four(ORIENTATION, MEDIA_SIZE, MEDIA_SOURCE, MEDIA_TYPE),
@@ -221,19 +235,28 @@ fn row_of_two(tag: u8) -> Row
             PAD_BYTES_MULTIPLE,
             BLOCK_BYTE_LENGTH,
         ),
-        SET_DEFAULT_GS => nothing(),
-        _ => row_of_one(tag),
+        _ => nothing(),
     }
 }
 
-// What attributes an operator takes in a class.
+// The operator's line is one of class 2;1 alone.
+fn is_own_line(class: Class, tag: u8) -> bool
+    ensures { λ r. ⌜ r ≡ ownLine (classAs class) tag ⌝ }
+{
+    match class {
+        Class::One => false,
+        Class::Two => has_own_line(tag),
+    }
+}
+
+// What attributes an operator takes in a class: in 2;1 by its own lines, all others as in 1;1.
 pub fn row_of(class: Class, tag: u8) -> Row
     ensures { λ r. ⌜ briefAs r ≡ briefOf (lineIn (table (classAs class)) tag) ⌝ }
 {
-    match class {
-        Class::One => row_of_one(tag),
-        Class::Two => row_of_two(tag),
+    if is_own_line(class, tag) {
+        return own_row(tag);
     }
+    row_of_one(tag)
 }
 
 fn takes(kind: Kind, low: usize, high: usize) -> Rule
@@ -282,17 +305,40 @@ fn rule_of_one(number: u8) -> Rule
     }
 }
 
-// And in class 2;1: those of its own lines, the others as in 1;1.
-fn rule_of_two(number: u8) -> Rule
-    ensures { λ r. ⌜ takesOf r ≡ ruleOf two number .takes ⌝ }
+// Class 2;1 has values of its own for this attribute.
+fn has_own_rule(number: u8) -> bool
+    ensures { λ r. ⌜ r ≡ among ownRules number ⌝ }
+{
+    match number {
+        ORIENTATION => true,
+        MEDIA_SIZE => true,
+        MEDIA_TYPE => true,
+        PAD_BYTES_MULTIPLE => true,
+        BLOCK_BYTE_LENGTH => true,
+        _ => false,
+    }
+}
+
+// The values that are its own.
+fn own_rule(number: u8) -> Rule
+    ensures { λ r. ⌜ (among ownRules number ≡ true → takesOf r ≡ ruleOf two number .takes) ⌝ }
 {
     match number {
         ORIENTATION => takes(Kind::E, 0, 3),
         MEDIA_SIZE => takes(Kind::M2, 0, 0),
         MEDIA_TYPE => takes(Kind::A, 0, 1024),
         PAD_BYTES_MULTIPLE => takes(Kind::E, 1, 255),
-        BLOCK_BYTE_LENGTH => takes(Kind::L, 0, 0),
-        _ => rule_of_one(number),
+        _ => takes(Kind::L, 0, 0),
+    }
+}
+
+// The attribute's values are those of class 2;1 alone.
+fn is_own_rule(class: Class, number: u8) -> bool
+    ensures { λ r. ⌜ r ≡ ownRule (classAs class) number ⌝ }
+{
+    match class {
+        Class::One => false,
+        Class::Two => has_own_rule(number),
     }
 }
 
@@ -300,10 +346,10 @@ fn rule_of_two(number: u8) -> Rule
 pub fn rule_of(class: Class, number: u8) -> Rule
     ensures { λ r. ⌜ takesOf r ≡ ruleOf (classAs class) number .takes ⌝ }
 {
-    match class {
-        Class::One => rule_of_one(number),
-        Class::Two => rule_of_two(number),
+    if is_own_rule(class, number) {
+        return own_rule(number);
     }
+    rule_of_one(number)
 }
 
 // The form of a line that the table has.
