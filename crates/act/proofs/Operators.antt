@@ -13,8 +13,8 @@ use Rattle.scope.specs.Arm.{Act, Space, any, gray, Effect, push, pop, put, kept
 use Rattle.arm.specs.Views.{keeping}
 use Rattle.act.specs.Acts.{actFor, plain}
 
-pub act-is : (set : Setting) (s : List ℕ) (o : Operator) → actFor set s (o .tag) (o .reads) (o .attrs) ≡ actOf set s o
-unfolding actFor actOf
+pub act-is : (set : Setting) (s : List ℕ) (o : Operator) → actFor (set .high) (set .gray) s (o .tag) (o .reads) (o .attrs) ≡ actOf set s o
+unfolding actFor actOf effectOf
 act-is set s o = refl
 
 -- a plain operator needs at most an open source and a set cursor, and leaves the page as it is

@@ -6,6 +6,7 @@ use mathlib.Core.List.{List, [], _∷_}
 use lib.Dec.{eqb}
 use Rattle.scope.specs.Choice.{pick, among}
 use Rattle.scope.specs.Names.{SetDefaultGS, PopGS, PushGS, SetBrushSource, SetColorSpace, SetCursor, SetPenSource, NewPath, BeginImage}
+use Rattle.scope.specs.Header.{one}
 use Rattle.scope.specs.Setting.{Setting}
 use Rattle.scope.specs.Item.{Attribute}
 use Rattle.scope.specs.Attributes.{has, valueIn}
@@ -19,10 +20,14 @@ brushSpace l = pick (has 11 l) rgb (pick (has 9 l) gray any)
 unfoldable pub spaceEffect : Bool → List ℕ → List Attribute → Effect
 spaceEffect high s l = put kept (to (eqb (valueIn high s l 3) 1))
 
+-- what an act knows of the setting: the byte order and the start; the class plays no part
+abbrev pub read : (high starts-gray : Bool) → Setting
+read high starts = record { class = one; high = high; gray = starts }
+
 -- an operator of this tag, which reads data or not, with these attributes
-unfoldable pub actFor : Setting → List ℕ → ℕ → Bool → List Attribute → Act
-actFor set s tag reads l =
-    record { source = reads; cursor = needsCursor tag; space = needsSpace tag l; effect = effectOf set s tag l }
+unfoldable pub actFor : (high starts-gray : Bool) → List ℕ → ℕ → Bool → List Attribute → Act
+actFor high starts s tag reads l =
+    record { source = reads; cursor = needsCursor tag; space = needsSpace tag l; effect = effectOf (read high starts) s tag l }
 
 -- these need a colour space or do something to the page; every other operator needs at most an open source and a set cursor, and leaves the page as it is
 unfoldable pub plain : ℕ → Bool

@@ -2,9 +2,8 @@
 ghost use mathlib.Core.Path.{_≡_};
 ghost use Rattle.items.specs.Rows.{rowsOf, Sized};
 ghost use Rattle.scope.specs.Arm.{needsCursor, needsSpace, effectOf};
-ghost use Rattle.setting.specs.Views.{settingAs};
 ghost use Rattle.arm.specs.Views.{spaceAs, effectAs, actAs};
-ghost use Rattle.act.specs.Acts.{actFor, brushSpace, spaceEffect, plain};
+ghost use Rattle.act.specs.Acts.{read, actFor, brushSpace, spaceEffect, plain};
 use arm::page::Act;
 use arm::page::Effect;
 use arm::page::Mark;
@@ -24,7 +23,6 @@ use names::operators::SET_CURSOR;
 use names::operators::SET_CURSOR_REL;
 use names::operators::SET_DEFAULT_GS;
 use names::operators::SET_PEN_SOURCE;
-use setting::Setting;
 
 // The operator needs no colour space and does nothing to the page, as most.
 pub fn is_plain(tag: u8) -> bool
@@ -96,8 +94,8 @@ fn space_effect(s: &[u8], high: bool, attrs: &[usize; 80], n: usize) -> Effect
     Effect::Put(Mark::Keep, Mark::To(space == 1))
 }
 
-fn effect_of(s: &[u8], set: Setting, tag: u8, attrs: &[usize; 80], n: usize) -> Effect
-    ensures { λ r. ⌜ (Sized (now (attrs .entry)) n → effectAs r ≡ effectOf (settingAs set) (now (s .entry)) tag (rowsOf (now (attrs .entry)) n)) ⌝ }
+fn effect_of(s: &[u8], high: bool, gray: bool, tag: u8, attrs: &[usize; 80], n: usize) -> Effect
+    ensures { λ r. ⌜ (Sized (now (attrs .entry)) n → effectAs r ≡ effectOf (read high gray) (now (s .entry)) tag (rowsOf (now (attrs .entry)) n)) ⌝ }
 {
     if tag == PUSH_GS {
         return Effect::Push;
@@ -112,21 +110,29 @@ fn effect_of(s: &[u8], set: Setting, tag: u8, attrs: &[usize; 80], n: usize) -> 
         return Effect::Put(Mark::To(false), Mark::Keep);
     }
     if tag == SET_COLOR_SPACE {
-        return space_effect(s, set.high, attrs, n);
+        return space_effect(s, high, attrs, n);
     }
     if tag == SET_DEFAULT_GS {
-        return Effect::Put(Mark::To(false), Mark::To(set.gray));
+        return Effect::Put(Mark::To(false), Mark::To(gray));
     }
     Effect::Put(Mark::Keep, Mark::Keep)
 }
 
-// What an operator needs and does, which reads data or not.
-pub fn act_of(s: &[u8], set: Setting, tag: u8, reads: bool, attrs: &[usize; 80], n: usize) -> Act
-    ensures { λ r. ⌜ (Sized (now (attrs .entry)) n → actAs r ≡ actFor (settingAs set) (now (s .entry)) tag reads (rowsOf (now (attrs .entry)) n)) ⌝ }
+// What an operator needs and does, which reads data or not, in a byte order and where pages start in gray or not.
+pub fn act_of(
+    s: &[u8],
+    high: bool,
+    gray: bool,
+    tag: u8,
+    reads: bool,
+    attrs: &[usize; 80],
+    n: usize,
+) -> Act
+    ensures { λ r. ⌜ (Sized (now (attrs .entry)) n → actAs r ≡ actFor high gray (now (s .entry)) tag reads (rowsOf (now (attrs .entry)) n)) ⌝ }
 {
     let cursor = needs_cursor(tag);
     let space = needs_space(tag, attrs, n);
-    let effect = effect_of(s, set, tag, attrs, n);
+    let effect = effect_of(s, high, gray, tag, attrs, n);
     Act {
         source: reads,
         cursor,

@@ -35,7 +35,7 @@ fn row_in(
 fn step(s: &[u8], set: Setting, attrs: &[usize; 80], st: &[usize; 16], seen: Seen) -> Seen {
     let tag = (st[TAG] % 256) as u8;
     let reads = trail::is_told(s, st);
-    seen.step(act::act_of(s, set, tag, reads, attrs, st[COUNT]))
+    seen.step(act::act_of(s, set.high, set.gray, tag, reads, attrs, st[COUNT]))
 }
 
 // Notes the motif that an operator of s calls.

@@ -53,7 +53,7 @@ fn perform(
     if act::is_plain(o.tag) {
         return page.keep(o.reads, act::needs_cursor(o.tag), opened, performed);
     }
-    let act = act::act_of(job, set, o.tag, o.reads, attrs, o.count);
+    let act = act::act_of(job, set.high, set.gray, o.tag, o.reads, attrs, o.count);
     page.perform(act, opened, performed)
 }
 

@@ -146,7 +146,7 @@ fn deed(s: &[u8], set: Setting, o: Operator, attrs: &[usize; 80], inside: Inside
     let tag = o.tag;
     let picture = inside.picture;
     let both = inside.both;
-    let act = act_of(s, set, tag, o.reads, attrs, o.count);
+    let act = act_of(s, set.high, set.gray, tag, o.reads, attrs, o.count);
     let after = picture_after(s, set.high, tag, attrs, o.count, picture);
     let next = both.step(act);
     let saved = saved_after(tag, inside.saved);
