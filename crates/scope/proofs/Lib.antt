@@ -38,6 +38,8 @@ pub mod White
 pub mod Shift
 pub mod Gaps
 pub mod WhiteItems
+pub mod Turned
+pub mod ByteOrder
 pub mod Known
 pub mod Parts
 pub mod JobsRead

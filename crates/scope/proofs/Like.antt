@@ -36,7 +36,7 @@ module _ {S R : Type 0} (f g : S → Next S R) (d : R) (I : S → S → Type 0) 
   run-like zero x y i = z
   run-like (suc n) x y i = onward-like (run f d n) (run g d n) (run-like n) (h x y i)
 
-  iterate-like : (m l : S → ℕ) (x y : S) → m x ≡ l y → I x y → Q (iterate f d m x) (iterate g d l y)
+  pub iterate-like : (m l : S → ℕ) (x y : S) → m x ≡ l y → I x y → Q (iterate f d m x) (iterate g d l y)
   unfolding iterate
   iterate-like m l x y e i = rw e (run-like (suc (l y)) x y i)
 

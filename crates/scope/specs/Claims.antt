@@ -6,10 +6,11 @@ use mathlib.Core.Bool.{Bool, true, false, _||_}
 use mathlib.Core.List.{List, [], _∷_, _++_}
 use lib.ListN.{length, take, drop, getD}
 use lib.Dec.{eqb}
-use Rattle.scope.specs.Choice.{among}
+use Rattle.scope.specs.Choice.{pick, between, among}
+use Rattle.scope.specs.Number.{number}
 use Rattle.scope.specs.Header.{one, headerOf}
 use Rattle.scope.specs.Iterate.{go, stop}
-use Rattle.scope.specs.Item.{Attribute, Value, kindOf, valueOf, Scan, Walk, scanStep, spaces, after}
+use Rattle.scope.specs.Item.{Attribute, plain, Value, kindOf, valueOf, Scan, Walk, scanStep, white, spaces, after}
 use Rattle.scope.specs.Reading.{Context, Operator, Read, operatorAt}
 use Rattle.scope.specs.Attributes.{valueIn, bytesIn}
 use Rattle.scope.specs.Data.{Image, bitsOf, blockDue}
@@ -265,6 +266,56 @@ WhiteBetweenItems =
     (set : Setting) (job blank : List ℕ) (work room p : ℕ) (st : State) → 16384 ≤ work → length (putIn p blank job) ≤ 61440 → spaces blank ≡ length blank
     → Reached set job room st → Gap (set .high) job p (record { at = st .at; attrs = [] })
     → SameButShifted p (length blank) (st .past) (outcomeOf (set .gray) every job work room) (outcomeOf (set .gray) every (putIn p blank job) work room)
+
+-- the bytes of the number right behind an item's tag: of an attribute's number, or of the length of data
+abbrev pub leads : ℕ → ℕ
+leads t = pick (eqb t 0xf8 || eqb t 0xfb) 1 (pick (eqb t 0xf9) 2 (pick (eqb t 0xfa) 4 0))
+
+abbrev pub isNumber : ℕ → Bool
+isNumber t = eqb t 0xf8 || eqb t 0xf9
+
+abbrev pub isData : ℕ → Bool
+isData t = eqb t 0xfa || eqb t 0xfb
+
+abbrev pub ledBy : Bool → List ℕ → ℕ → ℕ
+ledBy high s at = number high (leads (getD s at 0)) s (at + 1)
+
+-- the places at which items begin, from a place on
+pub data ItemFrom (high : Bool) (s : List ℕ) (start : ℕ) : ℕ → Type 0 where
+  first : ItemFrom high s start start
+  behind-white : {at : ℕ} → ItemFrom high s start at → white (getD s at 0) ≡ true → ItemFrom high s start (suc at)
+  behind-tag : {at : ℕ} → ItemFrom high s start at → between 0x41 0xbf (getD s at 0) ≡ true → ItemFrom high s start (suc at)
+  behind-value : {at c f next : ℕ} → ItemFrom high s start at → valueAt high s at 0 ≡ Value.is c f next → ItemFrom high s start next
+  behind-number : {at : ℕ} → ItemFrom high s start at → isNumber (getD s at 0) ≡ true → ItemFrom high s start (at + 1 + leads (getD s at 0))
+  behind-data : {at : ℕ} → ItemFrom high s start at → isData (getD s at 0) ≡ true → ItemFrom high s start (at + 1 + leads (getD s at 0) + ledBy high s at)
+
+-- an item that is the same in two jobs, at the same place, each in its own byte order
+pub record SameItem (h k : Bool) (s t : List ℕ) (at : ℕ) : Type 0 where
+  pub tag : getD s at 0 ≡ getD t at 0
+  pub extent : valueAt h s at 0 ≡ valueAt k t at 0
+  pub numbers : (c f next : ℕ) → valueAt h s at 0 ≡ Value.is c f next → (n w : ℕ) → kindOf (getD s at 0) ≡ plain n w → (i : ℕ) → i < n
+      → number h w s (f + i * w) ≡ number k w t (f + i * w)
+  pub row : (c f next : ℕ) → valueAt h s at 0 ≡ Value.is c f next → getD s at 0 ≡ 0xc8 → take c (drop f s) ≡ take c (drop f t)
+  pub led : ledBy h s at ≡ ledBy k t at
+  pub block : isData (getD s at 0) ≡ true → take (ledBy h s at) (drop (at + 1 + leads (getD s at 0)) s) ≡ take (ledBy h s at) (drop (at + 1 + leads (getD s at 0)) t)
+
+-- two outcomes are the same: code, position, inner, the operators performed and the records listed; and the operators listed, at the same places
+pub record SameOutcome (e f : Outcome) : Type 0 where
+  pub code : e .code ≡ f .code
+  pub position : e .position ≡ f .position
+  pub inner : e .inner ≡ f .inner
+  pub performed : e .state .performed ≡ f .state .performed
+  pub records : e .state .records ≡ f .state .records
+  pub listed : OperatorsMoved (λ x y. x ≡ y) [] [] (e .state .past) (f .state .past)
+
+-- the byte order plays no part: two jobs of the same length, class and start, each with a header of its own byte order that ends at the same place, whose items from
+-- there on are the same, each number in the byte order of its job, get the same verdict and list the same
+abbrev pub ByteOrder : Type 0
+ByteOrder =
+    (set other : Setting) (job turned : List ℕ) (work room next : ℕ) → 16384 ≤ work → length job ≤ 61440 → length job ≡ length turned → set .class ≡ other .class
+    → set .gray ≡ other .gray → headerOf job ≡ headed set next → headerOf turned ≡ headed other next
+    → ((at : ℕ) → ItemFrom (set .high) job next at → SameItem (set .high) (other .high) job turned at)
+    → SameOutcome (outcomeOf (set .gray) every job work room) (outcomeOf (other .gray) every turned work room)
 
 -- the operators performed since the last BeginSession; as everywhere, the last one stands first
 unfoldable pub ofSession : List Operator → List Operator
