@@ -3,7 +3,7 @@
 use Prim.Native.Nat.{ℕ, _+_, _*_, _≤_}
 use mathlib.Core.Path.{_≡_, sym, ap, _∙_, subst, subst₂, subst⁻¹}
 use mathlib.Core.Bool.{Bool}
-use mathlib.Core.List.{List}
+use mathlib.Core.List.{List, _++_}
 use lib.ListN.{length, take, drop}
 use native.Mathlib.Omega.{arith}
 use lib.Seq.{take-at, take-all}
@@ -12,13 +12,14 @@ use Rattle.scope.specs.Claims.{limit, Further, Shifted, recordsFrom, RecordsMov
 use Rattle.scope.proofs.Demand.{demand-3}
 use Rattle.scope.proofs.Whole.{verdict-placed, passes-exactly}
 use Rattle.scope.proofs.Sessions.{isolated, alike-same}
-use Rattle.scope.proofs.Records.{list-long, reached-long, lists-moved, first-front, second-front, same-list}
+use Rattle.scope.proofs.Records.{list-long, reached-long, lists-moved, outcome-list, first-front, second-front, same-list}
 use Rattle.scope.proofs.White.{white-between}
 use Rattle.scope.proofs.WhiteItems.{white-between-items}
+use Rattle.scope.proofs.ByteOrder.{byte-order}
 use Rattle.scope.proofs.Buffers.{no-motif-left, zeroed}
 use Rattle.state.specs.Views.{verdictAs}
 use Rattle.state.specs.declared.verdict.Verdict.{Verdict}
-use Rattle.checker.specs.Claims.{Answer, Promised, OneAnswer, PlaceInJob, OldContents, NoMotifBehind, WorkCarriesNothing, SessionsIsolated, WhiteIgnored, WhiteIgnoredInside, PassesAsDrawn, PassesOnly}
+use Rattle.checker.specs.Claims.{Answer, Promised, OneAnswer, PlaceInJob, OldContents, NoMotifBehind, WorkCarriesNothing, SessionsIsolated, WhiteIgnored, WhiteIgnoredInside, OrderIgnored, PassesAsDrawn, PassesOnly}
 
 -- two verdicts whose five numbers agree are one
 same-verdict : (v w : Verdict) → verdictAs v ≡ verdictAs w → v ≡ w
@@ -109,6 +110,17 @@ white-inside-of-check set job blank work list a b p st x y hw hl all r g =
           (sym (records-in (set .gray) (putIn p blank job) work list b (st .records) y))
           (lists-moved (Shifted p (length blank)) (set .gray) job (putIn p blank job) (length work) (length work) (length list) (length list) st st (i .listed) long long);
     }
+
+pub order-of-check : OrderIgnored
+unfolding verdictOf listAfter
+order-of-check set other job turned work list next a b p q hw hl long class gray x y same =
+    let i = byte-order set other job turned (length work) (length list) next hw hl long class gray x y same in
+    let m = outcome-list (set .gray) (other .gray) job turned (length work) (length list) i in
+    let v = same-verdict (a .verdict) (b .verdict)
+    (p .verdict ∙ (λ j. record { code = i .code j; position = i .position j; inner = i .inner j; records = i .records j; performed = i .performed j }) ∙ sym (q .verdict)) in
+    let w = p .worked ∙ no-motif-left job turned work hl (omega arith) ∙ sym (q .worked) in
+    let l = p .listed ∙ (λ j. m j ++ drop (length (m j)) list) ∙ sym (q .listed) in
+    λ j. record { verdict = v j; work = w j; list = l j }
 
 pub demand-3-of-check : PassesAsDrawn
 demand-3-of-check gray job work list a p h k r =

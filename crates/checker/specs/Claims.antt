@@ -6,12 +6,13 @@ use mathlib.Core.Logic.{_↔_}
 use mathlib.Core.Bool.{Bool, true, false}
 use mathlib.Core.List.{List, [], _++_}
 use lib.ListN.{length, take, drop}
-use Rattle.scope.specs.Setting.{Setting}
+use Rattle.scope.specs.Header.{headerOf}
+use Rattle.scope.specs.Setting.{Setting, headed}
 use Rattle.scope.specs.Item.{spaces, after}
 use Rattle.scope.specs.Judge.{State}
 use Rattle.scope.specs.Verdict.{zeros, verdictOf, listAfter, workAfter}
 use Rattle.scope.specs.Plain.{unfoldingOf, comes, atStart}
-use Rattle.scope.specs.Claims.{Keeps, HasRoom, Reached, Between, limit, Further, Shifted, RecordsMoved, recordsFrom, moveBy, putIn, Gap}
+use Rattle.scope.specs.Claims.{Keeps, HasRoom, Reached, Between, limit, Further, Shifted, RecordsMoved, recordsFrom, moveBy, putIn, Gap, ItemFrom, SameItem}
 use Rattle.state.specs.Views.{verdictAs}
 use Rattle.state.specs.declared.verdict.Verdict.{Verdict}
 
@@ -101,6 +102,14 @@ WhiteIgnoredInside =
     (set : Setting) (job blank work list : List ℕ) (a b : Answer) (p : ℕ) (st : State) → Promised (set .gray) job work list a → Promised (set .gray) (putIn p blank job) work list b
     → 16384 ≤ length work → length (putIn p blank job) ≤ 61440 → spaces blank ≡ length blank → Reached set job (length list) st
     → Gap (set .high) job p (record { at = st .at; attrs = [] }) → AnswersShifted p (length blank) st a b
+
+-- the byte order plays no part: two jobs of the same length, class and start, each with a header of its own byte order that ends at the same place, whose items from
+-- there on are the same, each number in the byte order of its job, get the same answer, the verdict and each byte of both buffers
+abbrev pub OrderIgnored : Type 0
+OrderIgnored =
+    (set other : Setting) (job turned work list : List ℕ) (next : ℕ) (a b : Answer) → Promised (set .gray) job work list a → Promised (other .gray) turned work list b
+    → 16384 ≤ length work → length job ≤ 61440 → length job ≡ length turned → set .class ≡ other .class → set .gray ≡ other .gray → headerOf job ≡ headed set next
+    → headerOf turned ≡ headed other next → ((at : ℕ) → ItemFrom (set .high) job next at → SameItem (set .high) (other .high) job turned at) → a ≡ b
 
 -- demand 3: a job that keeps the layout rules, with room for its list, passes exactly if the plain arm comes to its end with no rule broken; and the number
 -- reported with a pass is the number of operators that the arm performs

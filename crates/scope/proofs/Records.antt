@@ -1,8 +1,8 @@
 -- The bytes of a list: 16 for each record, and the records of operators that have moved have moved.
 -- Assumes nothing.
-use Prim.Native.Nat.{ℕ, suc, _+_, _*_}
+use Prim.Native.Nat.{ℕ, suc, _+_, _*_, _/_, _%_}
 use mathlib.Core.Path.{_≡_, refl, sym, ap, _∙_, subst₂}
-use mathlib.Core.Bool.{Bool}
+use mathlib.Core.Bool.{Bool, true, false}
 use mathlib.Core.List.{List, [], _∷_, _++_, append-nil, append-assoc}
 use native.Mathlib.Omega.{arith}
 use lib.ListN.{length, take, drop, length-append}
@@ -14,7 +14,7 @@ use Rattle.scope.specs.Setting.{Setting}
 use Rattle.scope.specs.Judge.{State, caseOf, after, judgedFrom, starting}
 use Rattle.scope.specs.Verdict.{every, four, attributeRecord, operatorRecord, attributeRecords, recordsBefore, listOf, judgedAfter, Entry, entryOf, outcomeAt, outcomeOf, verdictOf}
 use Rattle.scope.specs.Runs.{Runs, here, then}
-use Rattle.scope.specs.Claims.{Further, AttributesMoved, OperatorsMoved, RecordsMoved, recordsFrom, Reached, ListLong, SameList}
+use Rattle.scope.specs.Claims.{Further, AttributesMoved, OperatorMoved, OperatorsMoved, SameOutcome, RecordsMoved, recordsFrom, Reached, ListLong, SameList}
 use Rattle.scope.proofs.Runs.{runs-of, ends-state}
 
 -- the records of some operators stand before what is there
@@ -148,3 +148,36 @@ module _ (At : ℕ → ℕ → Type 0) (gray : Bool) (job other : List ℕ) (wor
 pub same-list : SameList
 same-list set job other work work′ room space a b x y h =
     lists-moved (Further (a .at) (b .at)) (set .gray) job other work work′ room space a b (h .listed) (reached-long set job room a (x .there)) (reached-long set other space b (y .there))
+
+-- at the same places, the same records
+same-attributes : {l m : List Attribute} → AttributesMoved (λ x y. x ≡ y) l m → l ≡ m
+same-attributes AttributesMoved.none = refl
+same-attributes (AttributesMoved.more {a = a} {b = b} h k) =
+    let x = h .at in
+    let y = h .first in
+    let f : a .first ≡ b .first = omega arith in
+    let ks = same-attributes k in
+    λ i. record { number = h .number i; tag = h .tag i; at = x i; count = h .count i; first = f i } ∷ ks i
+
+same-data : {a b : Operator} → OperatorMoved (λ x y. x ≡ y) a b → (r : Bool) → a .reads ≡ r → a .first ≡ b .first
+same-data h true e = h .reading e
+same-data h false e = let k = h .quiet e in k .0 ∙ sym (k .1)
+
+same-operator : {a b : Operator} → OperatorMoved (λ x y. x ≡ y) a b → operatorRecord a ≡ operatorRecord b
+unfolding operatorRecord
+same-operator {a} {b} h =
+    let l = same-attributes (h .attrs) in
+    let f = same-data h (a .reads) refl in
+    λ i. 2 ∷ h .tag i ∷ length (l i) % 256 ∷ length (l i) / 256 ∷ (four (h .at i) ++ (four (h .length i) ++ four (f i)))
+
+same-records : {l m : List Operator} → OperatorsMoved (λ x y. x ≡ y) [] [] l m → (rest : List ℕ) → recordsBefore l rest ≡ recordsBefore m rest
+unfolding recordsBefore
+same-records OperatorsMoved.start rest = refl
+same-records (OperatorsMoved.more {a = a} {b = b} {m = m} h k) rest =
+    same-records k (attributeRecords (a .attrs) ++ (operatorRecord a ++ rest))
+    ∙ (λ i. recordsBefore m (attributeRecords (same-attributes (h .attrs) i) ++ (same-operator h i ++ rest)))
+
+pub outcome-list : (gray starts : Bool) (job other : List ℕ) (work room : ℕ) → SameOutcome (outcomeOf gray every job work room) (outcomeOf starts every other work room)
+    → listOf gray job work room ≡ listOf starts other work room
+unfolding listOf
+outcome-list gray starts job other work room h = same-records (h .listed) []
