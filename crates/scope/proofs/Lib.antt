@@ -52,3 +52,4 @@ pub mod Halves
 pub mod Jobs
 pub mod Shown
 pub mod ShownWhite
+pub mod ShownOrder
