@@ -7,13 +7,12 @@ use mathlib.Core.List.{List, [], _∷_, _++_}
 use lib.Dec.{eqb}
 use borrow.Author.Tests.{eqb-true}
 use Rattle.scope.specs.Choice.{pick}
-use Rattle.scope.specs.Header.{one}
 use Rattle.scope.specs.Item.{Attribute}
 use Rattle.scope.specs.Table.{Rule, Row, Line, Ruled, tableOne, table, lineIn, ruleIn}
 use Rattle.scope.specs.Attributes.{Fault, fine, bad, has, attributeCode, oneByOne, firstOf, valueIn}
 use Rattle.scope.specs.Data.{bitsOf, rowOf, padOf, blockDue}
 use Rattle.scope.specs.Order.{lengthFits}
-use Rattle.scope.specs.Reading.{Context, Operator, Read}
+use Rattle.scope.specs.Reading.{Read}
 use Rattle.scope.specs.Claims.{OneAsBefore}
 use Rattle.scope.proofs.Apart.{clash-of}
 use Rattle.scope.proofs.Taken.{Taken, read-taken}

@@ -5,7 +5,7 @@ use mathlib.Core.Path.{_≡_, refl, sym, ap, _∙_, subst}
 use mathlib.Core.Bool.{Bool, true, false}
 use mathlib.Core.List.{List, [], _∷_, _++_}
 use lib.ListN.{length}
-use Rattle.scope.specs.Header.{Header, headerOf}
+use Rattle.scope.specs.Header.{headerOf}
 use Rattle.scope.specs.Order.{mayCome}
 use Rattle.scope.specs.Reading.{Operator}
 use Rattle.scope.specs.Setting.{Setting, headed}

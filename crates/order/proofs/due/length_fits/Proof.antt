@@ -1,6 +1,6 @@
 -- `length_fits`: nothing told, or the length due.
 -- Assumes nothing.
-use mathlib.Core.Path.{refl, sym, _∙_}
+use mathlib.Core.Path.{sym, _∙_}
 use borrow.Author.Tests.{not-true, not-false}
 use Rattle.scope.specs.Order.{lengthFits}
 use borrow.Author.Needs.{needs}

@@ -1,10 +1,10 @@
 -- `row_of`: a multiple of `pad` bytes, and none of 0.
 -- Assumes nothing.
-use Prim.Native.Nat.{ℕ, _+_, _-_, _*_, _/_, _≤_}
-use mathlib.Core.Path.{_≡_, refl}
+use Prim.Native.Nat.{_+_, _-_, _/_}
+use mathlib.Core.Path.{refl}
 use native.Mathlib.Omega.{arith}
 use native.Mathlib.Nat.{div-mul-le-self, mul-zero}
-use Rattle.scope.specs.Data.{bitsOf, rowOf}
+use Rattle.scope.specs.Data.{rowOf}
 use borrow.Author.Needs.{needs}
 use Rattle.order.proofs.due.row_of.Statement.{statement}
 use Rattle.order.proofs.due.row_of.Tie as tie
