@@ -39,6 +39,10 @@ fn one(s: &[u8], high: bool, tag: u8, at: usize) -> usize {
             number(number_at(s, at, Width::Two, high));
             after(at, 2)
         }
+        2 => {
+            number(number_at(s, at, Width::Four, high));
+            after(at, 4)
+        }
         3 => {
             signed(number_at(s, at, Width::Two, high));
             after(at, 2)
@@ -72,6 +76,7 @@ fn is_short(tag: u8, count: u32) -> bool {
     match tag % 8 {
         0 => true,
         1 => true,
+        2 => true,
         3 => true,
         5 => true,
         _ => false,
