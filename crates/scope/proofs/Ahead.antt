@@ -240,7 +240,7 @@ let-in gray job work room pass = by (ltb work 16384) (ltb 61440 (length job)) re
 -- with a pass no motif is at fault
 passes-outer : (set : Setting) (job : List ℕ) (e : Outcome) → InnerSays set job e → e .code ≡ 0 → e .inner ≡ outer
 passes-outer set job e (InnerSays.nothing h) k = h
-passes-outer set job e (InnerSays.of-motif m i t) k = by (subst GoodJudged m (motif-good set _ _))
+passes-outer set job e (InnerSays.of-motif m i t) k = by (subst GoodJudged m (motif-good set _))
   where
     by : GoodJudged (Judged.faulty (e .code) (e .inner)) → e .inner ≡ outer
     by (GoodJudged.ill c) = not-coded (e .code) c k

@@ -5,7 +5,7 @@ use mathlib.Core.Path.{_≡_, refl, sym, ap, _∙_, subst, subst⁻¹}
 use mathlib.Core.Bool.{Bool, true, false}
 use mathlib.Core.List.{List, [], _∷_}
 use native.Mathlib.Omega.{arith}
-use borrow.Author.Tests.{eqb-true}
+use borrow.Author.Tests.{eqb-true, eq-eqb}
 use lib.Dec.{eqb}
 use Rattle.scope.specs.Choice.{same}
 use Rattle.scope.specs.Motif.{Own, Motif, Held, Judged, valid, faulty}
@@ -34,6 +34,12 @@ same-eq (x ∷ xs) (y ∷ ys) e = by (eqb x y) refl e (same-eq xs ys)
     by true f g k = λ i. eqb-true x y f i ∷ k g i
     by false f g k = clash-of (sym g)
 
+-- and bytes are the same as themselves
+pub same-refl : (a : List ℕ) → same a a ≡ true
+unfolding same
+same-refl [] = refl
+same-refl (x ∷ xs) = ap (λ b. elim b [ true ↦ same xs xs | false ↦ false ]) (eq-eqb x x refl) ∙ same-refl xs
+
 -- a refusal is not none
 abbrev pub IsNone : Refusal → Type 0
 IsNone Refusal.none = Unit {0}
@@ -44,10 +50,10 @@ is-none e = subst⁻¹ IsNone e tt
 
 -- a motif that is faulty is not valid
 abbrev IsFaulty : Judged → Type 0
-IsFaulty (valid ops d) = ⊥
+IsFaulty (valid ops) = ⊥
 IsFaulty (faulty code inner) = Unit {0}
 
-pub not-valid : {A : Type 0} {code inner d : ℕ} {ops : List Own} → faulty code inner ≡ valid ops d → A
+pub not-valid : {A : Type 0} {code inner : ℕ} {ops : List Own} → faulty code inner ≡ valid ops → A
 not-valid e = absurd (subst IsFaulty e tt)
 
 -- no motif is not one

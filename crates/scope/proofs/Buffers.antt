@@ -2,10 +2,9 @@
 -- play no part in the verdict, as `verdictOf` is not given them.
 -- Assumes nothing.
 use Prim.Native.Nat.{ℕ, _-_, _≤_}
-use mathlib.Core.Path.{_≡_, refl, sym, ap, _∙_}
+use mathlib.Core.Path.{_≡_, refl, sym, ap, _∙_, subst}
 use mathlib.Core.Bool.{Bool, true, false, _||_}
 use mathlib.Core.List.{List, _++_}
-use native.Mathlib.Omega.{arith}
 use borrow.Author.Tests.{le-ltb, ne-eqb}
 use lib.ListN.{length, drop}
 use lib.Dec.{ltb, eqb}
@@ -17,7 +16,7 @@ use Rattle.scope.specs.Session.{Place, outside, inside as within, sessio
 use Rattle.scope.specs.Judge.{State, Outcome, Case, Refusal, starting, outer, refusedAt, caseOf, endAt, onRefusal, onCase, onRead, contextOf, jobStep, judgedFrom}
 use Rattle.scope.specs.Verdict.{every, Entry, refused, admitted, entryOf, judgedAfter, outcomeAt, outcomeOf, verdictOf, zeros, clearedBy, workAfter}
 use Rattle.scope.specs.Claims.{NoMotifLeft, Zeroed}
-use Rattle.scope.proofs.Ends.{pick-all, Kept, kept-go, kept-stop, iterate-holds, coded-between, ZeroOr, none-given, given, GoodRead, read-good}
+use Rattle.scope.proofs.Ends.{pick-all, Kept, kept-go, kept-stop, iterate-holds, Coded, ZeroOr, none-given, given, GoodRead, read-good}
 use Rattle.scope.proofs.Codes.{judged-good, Refuses, not-so, so, broken-coded, GoodHeader, header-good}
 
 short : (n work : ℕ) → n ≤ 61440 → entryOf n work ≡ entryOf 0 work
@@ -55,7 +54,7 @@ module _ (set : Setting) (s : List ℕ) (room : ℕ) where
   read-late : (st : State) {at len : ℕ} {may : ℕ → Bool} {r : Read} → GoodRead len at may r → Kept Any Late (onRead every set s room st r)
   unfolding onRead onCase caseOf
   read-late st (GoodRead.operator {o = o} x y z) =
-      refusal-late st _ (broken-coded every room (caseOf set s st (sessionOf (st .place)) o) (judged-good set _ _ (o .tag)))
+      refusal-late st _ (broken-coded every room (caseOf set s st (sessionOf (st .place)) o) (judged-good set _ (o .tag)))
   read-late st GoodRead.ended = kept-stop (end-late st (st .place))
   read-late st (GoodRead.no k) = kept-stop (late (given k))
 
@@ -75,7 +74,7 @@ header-late gray job room (GoodHeader.ill k) = late (given k)
 
 neither : (k : ℕ) → ZeroOr k → (eqb k 1 || eqb k 29) ≡ false
 neither k none-given = refl
-neither k (given c) = let h = coded-between k c in rw (ne-eqb k 1 (λ e. omega arith), ne-eqb k 29 (λ e. omega arith)) refl
+neither k (given c) = rw (ne-eqb k 1 (λ e. subst Coded e c), ne-eqb k 29 (λ e. subst Coded e c)) refl
 
 -- what the entry may say
 pub data Entered : Entry → Type 0 where

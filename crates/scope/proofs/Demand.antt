@@ -32,10 +32,11 @@ use Rattle.scope.proofs.Asks.{Asks, alike, failed, closed, read-asks}
 use Rattle.scope.proofs.Rows.{Clean, armOf, row-clean, clean-row, comes-append, deeds-length, walk-count}
 use Rattle.scope.proofs.Codes.{end-state, not-coded, GoodJudged, judged-good, Refuses, not-so, so, broken-coded, stateCode, Laid, laid, layout-none, clean-none, none-clean, GoodHeader, header-good}
 use Rattle.scope.proofs.Stands.{Shaped, shaped, row-shaped, standing, stands}
+use Rattle.scope.specs.Sound.{Sound, sound-none}
 use Rattle.scope.proofs.Sound.{knownOf}
 use Rattle.scope.proofs.Runs.{runs-of, ends-state, runs-grow}
 use Rattle.scope.proofs.Gathered.{unrolled, unrolled-step, gathered}
-use Rattle.scope.proofs.Follows.{Steady, steady-start, steady-after, at-state, phase-same, operator-on}
+use Rattle.scope.proofs.Follows.{sound-after, at-state, phase-same, operator-on}
 
 module _ (set : Setting) (s : List ℕ) where
   abbrev lay : State → Outcome
@@ -90,7 +91,7 @@ module _ (set : Setting) (s : List ℕ) (room : ℕ) where
 
   abbrev Shown : ℕ → Type 0
   Shown n =
-      (st : State) → Steady set (sessionOf (st .place)) → length s - st .at < n → st .performed ≤ 1_000_000 → lay set s st .code ≡ 0 → lay set s st .state .records * 16 ≤ room
+      (st : State) → Sound set (sessionOf (st .place) .held) → length s - st .at < n → st .performed ≤ 1_000_000 → lay set s st .code ≡ 0 → lay set s st .state .records * 16 ≤ room
       → Result (full st) (unrolled set s (at-state st [])) st
 
   module _ (st : State) (o : Operator) (may : mayCome (phaseOf (st .place)) (sessionOf (st .place) .opened) (o .tag) ≡ true) where
@@ -153,7 +154,7 @@ module _ (set : Setting) (s : List ℕ) (room : ℕ) where
           count = λ k. let a = r .count k in let b = counted in let c = all-length in omega arith;
         }
 
-  module _ (n : ℕ) (ih : Shown n) (st : State) (steady : Steady set (sessionOf (st .place))) (h : length s - st .at < suc n) (few : st .performed ≤ 1_000_000) where
+  module _ (n : ℕ) (ih : Shown n) (st : State) (sound : Sound set (sessionOf (st .place) .held)) (h : length s - st .at < suc n) (few : st .performed ≤ 1_000_000) where
     module _ (o : Operator) (less : length s - o .next < n) (may : mayCome (phaseOf (st .place)) (sessionOf (st .place) .opened) (o .tag) ≡ true) where
       abbrev c : Case
       c = caseOf set s st (sessionOf (st .place)) o
@@ -170,17 +171,17 @@ module _ (set : Setting) (s : List ℕ) (room : ℕ) where
       unfolding onRefusal after caseOf
       by-state d Refusal.none e not-so l r =
           let k = none-clean room c e in
-          performed-on st o may k (ih (next set s st o) (steady-after set s st o steady may d) less (k .count) l r)
+          performed-on st o may k (ih (next set s st o) (sound-after set s st o sound may d) less (k .count) l r)
       by-state d (Refusal.refused code inner) e (so k) l r =
           stopped st o may code (o .at) inner k (λ q. absurd (is-none (sym e ∙ clean-none room c q (fits-here r)))) few
 
       made-good : GoodJudged (c .made)
       unfolding caseOf
-      made-good = judged-good set _ _ (o .tag)
+      made-good = judged-good set _ (o .tag)
 
       -- the row that the plain arm performs from here on, where no layout rule is broken
       all-here : Laid c → unrolled set s (onOperator set s (at-state st []) o) ≡ all st o may
-      all-here d = ap (unrolled set s) (operator-on set s st o steady may d [])
+      all-here d = ap (unrolled set s) (operator-on set s st o sound may d [])
 
       by-layout : (f : Refusal) → firstBroken layout c (rules 0) ≡ f → Refuses f → onward (lay set s) (onRefusal set s st c f) .code ≡ 0
           → onward (lay set s) (onRefusal set s st c f) .state .records * 16 ≤ room
@@ -240,11 +241,11 @@ module _ (set : Setting) (s : List ℕ) (room : ℕ) where
 
   shown : (n : ℕ) → Shown n
   unfolding jobStep unrollStep contextOf contextAt layout among
-  shown zero st steady h few l r = absurd (omega arith)
-  shown (suc n) st steady h few l r =
+  shown zero st sound h few l r = absurd (omega arith)
+  shown (suc n) st sound h few l r =
       let a = judged-step layout set s 0 st in
       let x = sessionOf (st .place) in
-      let g = on-both n (shown n) st steady h few (read-asks set (phaseOf (st .place)) s (x .opened) (st .at))
+      let g = on-both n (shown n) st sound h few (read-asks set (phaseOf (st .place)) s (x .opened) (st .at))
       (read-good (contextOf layout set (st .place)) s (st .at)) (ap (λ z. z .code) (sym a) ∙ l) (subst (λ z. z .state .records * 16 ≤ room) a r) in
       let p : unrollStep set s (at-state st []) ≡ onNext set s (at-state st []) (operatorAt (contextOf layout set (st .place)) s (st .at)) =
       ap (λ f. onNext set s (at-state st []) (operatorAt (record { set = set; phase = f; opened = x .opened; asked = false }) s (st .at))) (phase-same (st .place)) in
@@ -259,7 +260,7 @@ at-header : (gray : Bool) (job : List ℕ) (room : ℕ) {r : Header} → GoodHea
     → judgedAfter gray layout job 0 r .state .records * 16 ≤ room → Meets (judgedAfter gray every job room r) (unfoldedAfter gray job r)
 unfolding judgedAfter unfoldedAfter knownOf
 at-header gray job room (GoodHeader.good {class = class} {high = high} {next = next}) l r =
-    let k = shown (record { class = class; high = high; gray = gray }) job room (suc (length job - next)) (starting next) (steady-start _ false) (omega arith) (omega arith) l r in
+    let k = shown (record { class = class; high = high; gray = gray }) job room (suc (length job - next)) (starting next) sound-none (omega arith) (omega arith) l r in
     ((k .passes, k .back), λ e. k .count e ∙ zero-add _)
 at-header gray job room (GoodHeader.ill {code = code} k) l r = not-coded code k l
 

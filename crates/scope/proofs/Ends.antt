@@ -2,7 +2,7 @@
 -- Assumes nothing.
 use Prim.Native.Nat.{ℕ, zero, suc, _+_, _-_, _*_, _≤_, _<_}
 use mathlib.Core.Path.{_≡_, refl}
-use mathlib.Core.Bool.{Bool, true, false, not, _&&_}
+use mathlib.Core.Bool.{Bool, true, false, not, _&&_, _||_}
 use mathlib.Core.List.{List, [], _∷_, _++_}
 use native.Mathlib.Omega.{arith}
 use borrow.Author.Tests.{leb-true, leb-false, eqb-false}
@@ -44,17 +44,12 @@ module _ {S R : Type 0} (step : S → Next S R) (d : R) (I : S → Type 0) (Q : 
   unfolding iterate
   iterate-holds m s i = run-holds (suc (m s)) s i
 
--- a code that is given here is one of 2 to 28: not 0, which is a pass, nor 1 or 29, which only the entry gives
-abbrev pub Coded : ℕ → Type 0
-Coded k = T (between 2 28 k)
+-- a code that is given here is one of 2 to 28 but 20, or 32: not 0, which is a pass, nor 1 or 29, which only the entry gives
+abbrev pub given-here : ℕ → Bool
+given-here k = between 2 19 k || (between 21 28 k || between 32 32 k)
 
-pub coded-between : (k : ℕ) → Coded k → (2 ≤ k) × (k ≤ 28)
-coded-between k c = by (leb 2 k) (leb k 28) refl refl c
-  where
-    by : (a b : Bool) → leb 2 k ≡ a → leb k 28 ≡ b → T (pick a b false) → (2 ≤ k) × (k ≤ 28)
-    by true true e f c = (leb-true 2 k e, leb-true k 28 f)
-    by true false e f c = absurd c
-    by false b e f c = absurd c
+abbrev pub Coded : ℕ → Type 0
+Coded k = T (given-here k)
 
 -- no code, or one that is given here
 pub data ZeroOr : ℕ → Type 0 where

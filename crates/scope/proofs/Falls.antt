@@ -6,13 +6,13 @@ use mathlib.Core.Bool.{Bool, true, false}
 use mathlib.Core.List.{List}
 use native.Mathlib.Omega.{arith}
 use lib.ListN.{length, getD}
-use lib.Dec.{leb, eqb}
+use lib.Dec.{leb}
 use Rattle.scope.specs.Choice.{between}
 use Rattle.scope.specs.Iterate.{Next, go, stop, onward, unroll}
 use Rattle.scope.specs.Item.{Attribute, Pair, Walk, onPair, scanItem, scanStep, scanFrom, after as blackAfter}
-use Rattle.scope.specs.Reading.{Operator, Read}
+use Rattle.scope.specs.Reading.{Read}
 use Rattle.scope.specs.Arm.{Stroke}
-use Rattle.scope.specs.Motif.{Motif, Held, Inside, phaseIn, contextIn, onCall, onDeed, onRead as motifRead, motifStep, judgedInside}
+use Rattle.scope.specs.Motif.{Inside, phaseIn, contextIn, onRead as motifRead, motifStep, judgedInside}
 use Rattle.scope.specs.Setting.{Setting}
 use Rattle.scope.specs.Judge.{State, Case, Refusal, caseOf, after, onRefusal, onCase, onRead, contextOf, jobStep, judgedFrom}
 use Rattle.scope.specs.Plain.{Going, onOwn, ownStep, ownFrom, Unrolled, contextAt, onOperator, onNext, unrollStep}
@@ -53,31 +53,26 @@ module _ (high : Bool) (s : List ℕ) where
   unfolding scanFrom
   scan-step w = unroll (scanStep high s) _ _ scan-falls w
 
-module _ (held : List Motif) (set : Setting) (s : List ℕ) where
+module _ (set : Setting) (s : List ℕ) where
   leftIn : Inside → ℕ
   leftIn w = length s - w .at
 
-  call-below : (o : Operator) (n : List ℕ) (w : Inside) (x : Held) → length s - o .next < length s - w .at → Below leftIn (length s - w .at) (onCall o n w x)
-  unfolding onCall leftIn
-  call-below o n w Held.none h = below-stop
-  call-below o n w (Held.is m) h = pick-all (Below leftIn (length s - w .at)) (leb 32 (m .depth)) (λ _. below-stop) (λ _. below-go h)
-
-  read-below : (w : Inside) {r : Read} {may : ℕ → Bool} → GoodRead (length s) (w .at) may r → Below leftIn (length s - w .at) (motifRead held set s w r)
-  unfolding motifRead onDeed leftIn
+  read-below : (w : Inside) {r : Read} {may : ℕ → Bool} → GoodRead (length s) (w .at) may r → Below leftIn (length s - w .at) (motifRead set s w r)
+  unfolding motifRead leftIn
   read-below w (GoodRead.operator {o = o} h k m) =
       let z : length s - o .next < length s - w .at = omega arith in
-      pick-all (Below leftIn (length s - w .at)) (eqb (o .tag) 0x5e) (λ _. call-below o _ w _ z) (λ _. below-go z)
+      below-go z
   read-below w GoodRead.ended = below-stop
   read-below w (GoodRead.no k) = below-stop
 
-  pub motif-falls : (w t : Inside) → motifStep held set s w ≡ go t → length s - t .at < length s - w .at
+  pub motif-falls : (w t : Inside) → motifStep set s w ≡ go t → length s - t .at < length s - w .at
   unfolding motifStep leftIn
   motif-falls w t e = below-falls (rw e at (read-below w (read-good (contextIn set w) s (w .at))))
 
   -- judging a motif is one operator, and judging from there
-  pub motif-step : (w : Inside) → judgedInside held set s w ≡ onward (judgedInside held set s) (motifStep held set s w)
+  pub motif-step : (w : Inside) → judgedInside set s w ≡ onward (judgedInside set s) (motifStep set s w)
   unfolding judgedInside
-  motif-step w = unroll (motifStep held set s) _ _ motif-falls w
+  motif-step w = unroll (motifStep set s) _ _ motif-falls w
 
 module _ (given : ℕ → Bool) (set : Setting) (s : List ℕ) (room : ℕ) where
   leftOf : State → ℕ

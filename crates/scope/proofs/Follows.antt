@@ -3,8 +3,8 @@
 -- Assumes nothing.
 use Prim.Native.Nat.{ℕ, _+_}
 use mathlib.Core.Path.{_≡_, refl, ap, _∙_}
-use mathlib.Core.Bool.{Bool, true, false, _&&_, _||_}
-use mathlib.Core.List.{List, [], _∷_, _++_}
+use mathlib.Core.Bool.{Bool, true, false, _||_}
+use mathlib.Core.List.{List, [], _++_}
 use lib.ListN.{length, take, drop}
 use lib.Dec.{eqb}
 use Rattle.scope.specs.Choice.{pick, among}
@@ -12,15 +12,16 @@ use Rattle.scope.specs.Attributes.{bytesIn}
 use Rattle.scope.specs.Order.{mayCome, drawn, in-stream, in-page, in-image}
 use Rattle.scope.specs.Reading.{Operator}
 use Rattle.scope.specs.Arm.{Page}
-use Rattle.scope.specs.Motif.{Motif, Held, heldAs, isHeld, Picture, Judged, valid, motifOf}
+use Rattle.scope.specs.Motif.{Picture, Judged, valid, motifOf}
 use Rattle.scope.specs.Setting.{Setting}
 use Rattle.scope.specs.Session.{Busy, resting, reading, drawing, Session, Place, outside, inside, sessionOf, phaseOf, phaseBusy, phaseDrawing, pageOf, joinedOf, rowFor, keptAs, sessionAfter, placeAfter}
-use Rattle.scope.specs.Judge.{State, caseOf, after, judgedAt, nameHeld, nameMissing}
-use Rattle.scope.specs.Plain.{Known, Doing, doingAfter, knownAfter, Unrolled, deeds, turnOf, Deed, deedsFor, onOperator, phaseAt, performed}
+use Rattle.scope.specs.Judge.{State, caseOf, after, judgedAt}
+use Rattle.scope.specs.Plain.{Known, Doing, doingAfter, learnt, knownAfter, Unrolled, deeds, turnOf, Deed, deedsFor, onOperator, phaseAt, performed}
 use Rattle.scope.proofs.Codes.{Valid, Laid}
 use Rattle.scope.proofs.Apart.{clash-of, differs}
 use Rattle.scope.proofs.Stands.{standing, stands}
-use Rattle.scope.proofs.Sound.{Sound, none, more, knownOf, row-again}
+use Rattle.scope.specs.Sound.{Sound, sound-none}
+use Rattle.scope.proofs.Sound.{knownOf, row-again, kept-known, kept-sound}
 
 abbrev pub doingBusy : Busy → Doing
 doingBusy resting = Doing.resting
@@ -48,101 +49,80 @@ unfolding phaseOf phaseAt
 phase-same (outside b) = refl
 phase-same (inside x) = phase-busy (x .busy)
 
--- what is held is sound, and a name that is being read is new
-abbrev Fresh : Busy → List Motif → Type 0
-Fresh resting l = Unit {0}
-Fresh (reading n j) l = heldAs n l ≡ Held.none
-Fresh (drawing p i) l = Unit {0}
-
-pub record Steady (set : Setting) (x : Session) : Type 0 where
-  pub sound : Sound set (x .held)
-  pub fresh : Fresh (x .busy) (x .held)
-
-pub steady-start : (set : Setting) (b : Bool) → Steady set (sessionOf (outside b))
-steady-start set b = record { sound = none; fresh = tt }
-
-not-held : (x : Held) → isHeld x ≡ false → x ≡ Held.none
-unfolding isHeld
-not-held (Held.is m) e = clash-of e
-not-held Held.none e = refl
-
 -- what a place has become
 record Follows (set : Setting) (d : Doing) (l : List Known) (q : Place) : Type 0 where
   doing : d ≡ doingOf q
   known : l ≡ knownOf (sessionOf q .held)
-  steady : Steady set (sessionOf q)
+  sound : Sound set (sessionOf q .held)
 
 module _ (set : Setting) (s : List ℕ) (o : Operator) (p : Page) where
-  by-reading : (n j : List ℕ) (x : Session) → Sound set (x .held) → heldAs n (x .held) ≡ Held.none → (b : Bool) → {m : Judged} → motifOf set (x .held) j ≡ m → (b ≡ false → Valid m)
-      → Follows set (pick b (Doing.reading n (j ++ take (o .length) (drop (o .first) s))) Doing.resting) (pick b (knownOf (x .held)) (record { name = n; bytes = j } ∷ knownOf (x .held)))
+  by-reading : (n j : List ℕ) (x : Session) → Sound set (x .held) → (b : Bool) → {m : Judged} → motifOf set j ≡ m → (b ≡ false → Valid m)
+      → Follows set (pick b (Doing.reading n (j ++ take (o .length) (drop (o .first) s))) Doing.resting) (pick b (knownOf (x .held)) (learnt n j (knownOf (x .held))))
       (inside (pick b (record { held = x .held; opened = x .opened; busy = reading n (j ++ take (o .length) (drop (o .first) s)) })
       (record { held = keptAs n j m (x .held); opened = x .opened; busy = resting })))
-  unfolding keptAs knownOf
-  by-reading n j x k f true e v = record { doing = refl; known = refl; steady = record { sound = k; fresh = f } }
-  by-reading n j x k f false {m} e v = ended m e (v refl)
+  by-reading n j x k true e v = record { doing = refl; known = refl; sound = k }
+  by-reading n j x k false {m} e v = ended m e (v refl)
     where
-      ended : (m : Judged) → motifOf set (x .held) j ≡ m → Valid m
-          → Follows set Doing.resting (record { name = n; bytes = j } ∷ knownOf (x .held)) (inside (record { held = keptAs n j m (x .held); opened = x .opened; busy = resting }))
-      ended (valid ops d) g h = record { doing = refl; known = refl; steady = record { sound = more g refl f k; fresh = tt } }
+      ended : (m : Judged) → motifOf set j ≡ m → Valid m
+          → Follows set Doing.resting (learnt n j (knownOf (x .held))) (inside (record { held = keptAs n j m (x .held); opened = x .opened; busy = resting }))
+      ended (valid ops) g h = record { doing = refl; known = kept-known n j ops k; sound = kept-sound n j ops g k }
 
-  by-resting : (x : Session) → Sound set (x .held) → (a b c d : Bool) → (c ≡ true → heldAs (bytesIn s (o .attrs) 139) (x .held) ≡ Held.none)
+  by-resting : (x : Session) → Sound set (x .held) → (a b c d : Bool)
       → Follows set (pick a Doing.outside (pick b (Doing.drawing Picture.none) (pick c (Doing.reading (bytesIn s (o .attrs) 139) []) Doing.resting))) (pick a [] (knownOf (x .held)))
       (pick a (outside true) (inside (record { held = x .held; opened = d; busy = pick b (drawing (record { cursor = false; gray = set .gray; saved = [] }) Picture.none) (pick c (reading (bytesIn s (o .attrs) 139) []) resting) })))
   unfolding knownOf
-  by-resting x k true b c d f = record { doing = refl; known = refl; steady = record { sound = none; fresh = tt } }
-  by-resting x k false true c d f = record { doing = refl; known = refl; steady = record { sound = k; fresh = tt } }
-  by-resting x k false false true d f = record { doing = refl; known = refl; steady = record { sound = k; fresh = f refl } }
-  by-resting x k false false false d f = record { doing = refl; known = refl; steady = record { sound = k; fresh = tt } }
+  by-resting x k true b c d = record { doing = refl; known = refl; sound = sound-none }
+  by-resting x k false true c d = record { doing = refl; known = refl; sound = k }
+  by-resting x k false false true d = record { doing = refl; known = refl; sound = k }
+  by-resting x k false false false d = record { doing = refl; known = refl; sound = k }
 
   by-drawing : (x : Session) → Sound set (x .held) → (i : Picture) (b : Bool)
       → Follows set (pick b Doing.resting (Doing.drawing i)) (knownOf (x .held))
       (inside (pick b (record { held = x .held; opened = x .opened; busy = resting }) (record { held = x .held; opened = x .opened; busy = drawing p i })))
-  by-drawing x k i true = record { doing = refl; known = refl; steady = record { sound = k; fresh = tt } }
-  by-drawing x k i false = record { doing = refl; known = refl; steady = record { sound = k; fresh = tt } }
+  by-drawing x k i true = record { doing = refl; known = refl; sound = k }
+  by-drawing x k i false = record { doing = refl; known = refl; sound = k }
 
   either : (a b : Bool) → (a || b) ≡ true → a ≡ false → b ≡ true
   either true b e f = clash-of f
   either false b e f = e
 
-  follow-busy : (x : Session) (b : Busy) → Sound set (x .held) → Fresh b (x .held) → mayCome (phaseBusy b) (x .opened) (o .tag) ≡ true
-      → (eqb (o .tag) 0x5b && isHeld (heldAs (bytesIn s (o .attrs) 139) (x .held))) ≡ false → Valid (judgedAt set (x .held) (joinedOf b) (o .tag))
+  follow-busy : (x : Session) (b : Busy) → Sound set (x .held) → mayCome (phaseBusy b) (x .opened) (o .tag) ≡ true
+      → Valid (judgedAt set (joinedOf b) (o .tag))
       → Follows set (doingAfter (set .high) s o (doingBusy b)) (knownAfter o (doingBusy b) (knownOf (x .held)))
       (pick (eqb (o .tag) 0x42) (outside true) (inside (sessionAfter set s o p b x)))
   unfolding doingAfter knownAfter sessionAfter phaseBusy phaseDrawing mayCome drawn among judgedAt
-  follow-busy x resting k f h g v =
-      by-resting x k (eqb (o .tag) 0x42) (eqb (o .tag) 0x43) (eqb (o .tag) 0x5b) _ (λ t. not-held (heldAs (bytesIn s (o .attrs) 139) (x .held)) (rw t at g))
-  follow-busy x (reading n j) k f h g v =
+  follow-busy x resting k h v = by-resting x k (eqb (o .tag) 0x42) (eqb (o .tag) 0x43) (eqb (o .tag) 0x5b) _
+  follow-busy x (reading n j) k h v =
       rw (differs (mayCome in-stream (x .opened)) (o .tag) 0x42 h refl)
-      (by-reading n j x k f (eqb (o .tag) 0x5c) refl (λ t. rw (either (eqb (o .tag) 0x5c) (eqb (o .tag) 0x5d) h t) at v))
-  follow-busy x (drawing q Picture.none) k f h g v =
+      (by-reading n j x k (eqb (o .tag) 0x5c) refl (λ t. rw (either (eqb (o .tag) 0x5c) (eqb (o .tag) 0x5d) h t) at v))
+  follow-busy x (drawing q Picture.none) k h v =
       rw (differs (mayCome (in-page (length (q .saved))) (x .opened)) (o .tag) 0x42 h refl) (by-drawing x k _ (eqb (o .tag) 0x44))
-  follow-busy x (drawing q (Picture.being i)) k f h g v =
+  follow-busy x (drawing q (Picture.being i)) k h v =
       rw (differs (mayCome (in-image i) (x .opened)) (o .tag) 0x42 h refl) (by-drawing x k _ (eqb (o .tag) 0x44))
 
-  follow : (q : Place) → Steady set (sessionOf q) → mayCome (phaseOf q) (sessionOf q .opened) (o .tag) ≡ true
-      → (eqb (o .tag) 0x5b && isHeld (heldAs (bytesIn s (o .attrs) 139) (sessionOf q .held))) ≡ false
-      → Valid (judgedAt set (sessionOf q .held) (joinedOf (sessionOf q .busy)) (o .tag))
+  follow : (q : Place) → Sound set (sessionOf q .held) → mayCome (phaseOf q) (sessionOf q .opened) (o .tag) ≡ true
+      → Valid (judgedAt set (joinedOf (sessionOf q .busy)) (o .tag))
       → Follows set (doingAfter (set .high) s o (doingOf q)) (knownAfter o (doingOf q) (knownOf (sessionOf q .held))) (placeAfter set s o p q)
   unfolding placeAfter phaseOf doingAfter knownAfter knownOf
-  follow (outside b) k h g v = record { doing = refl; known = refl; steady = record { sound = none; fresh = tt } }
-  follow (inside x) k h g v = follow-busy x (x .busy) (k .sound) (k .fresh) h g v
+  follow (outside b) k h v = record { doing = refl; known = refl; sound = sound-none }
+  follow (inside x) k h v = follow-busy x (x .busy) k h v
 
-module _ (set : Setting) (s : List ℕ) (st : State) (o : Operator) (k : Steady set (sessionOf (st .place)))
+module _ (set : Setting) (s : List ℕ) (st : State) (o : Operator) (k : Sound set (sessionOf (st .place) .held))
     (may : mayCome (phaseOf (st .place)) (sessionOf (st .place) .opened) (o .tag) ≡ true) (l : Laid (caseOf set s st (sessionOf (st .place)) o)) where
   abbrev next : State
   next = after set s st (caseOf set s st (sessionOf (st .place)) o)
 
   followed : Follows set (doingAfter (set .high) s o (doingOf (st .place))) (knownAfter o (doingOf (st .place)) (knownOf (sessionOf (st .place) .held))) (next .place)
-  unfolding after caseOf nameHeld
-  followed = follow set s o _ (st .place) k may (l .fresh) (l .made)
+  unfolding after caseOf
+  followed = follow set s o _ (st .place) k may (l .made)
 
-  pub steady-after : Steady set (sessionOf (next .place))
-  steady-after = followed .steady
+  pub sound-after : Sound set (sessionOf (next .place) .held)
+  sound-after = followed .sound
 
   row-found : deedsFor set s (knownOf (sessionOf (st .place) .held)) o
       ≡ deeds (turnOf (set .gray) (o .tag)) (rowFor set s (sessionOf (st .place) .held) o)
-  unfolding deedsFor caseOf nameMissing
-  row-found = ap (deeds (turnOf (set .gray) (o .tag))) (row-again set s o (k .sound) (l .found))
+  unfolding deedsFor caseOf
+  row-found = ap (deeds (turnOf (set .gray) (o .tag))) (row-again k s o (l .met))
 
   -- the plain arm after an operator
   pub operator-on : (row : List Deed) → onOperator set s (at-state st row) o

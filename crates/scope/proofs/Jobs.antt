@@ -18,13 +18,14 @@ use Rattle.scope.specs.Order
 use Rattle.scope.specs.Reading
 use Rattle.scope.specs.Arm
 use Rattle.scope.specs.Motif
+use Rattle.scope.specs.Calls
 use Rattle.scope.specs.Session
 use Rattle.scope.specs.Judge
 use Rattle.scope.specs.Names.{EndPage, Comment, PopGS, PushGS, NewPath}
 use Rattle.scope.specs.Verdict.{Verdict, verdictOf, listOf}
 use Rattle.scope.specs.Verdict as Verd
 use Rattle.scope.specs.Plain
-use Rattle.scope.proofs.Parts.{all, times, op, H, S, E, J, P, O, Z, CUR, LN, LD, D, GL, N, M, X, Tried}
+use Rattle.scope.proofs.Parts.{all, times, op, H, S, E, J, P, O, Z, CUR, LN, LD, PW, D, GL, N, M, X, Tried}
 use Rattle.scope.proofs.JobsRead.{given, read}
 use Rattle.scope.proofs.JobsJudged.{judged}
 use Rattle.scope.proofs.Padded.{padded}
@@ -32,6 +33,8 @@ use Rattle.scope.proofs.Copies.{copies}
 use Rattle.scope.proofs.Starts.{starts}
 use Rattle.scope.proofs.Halves.{halves}
 use Rattle.scope.proofs.Classes.{classes}
+use Rattle.scope.proofs.Replaced.{replacements}
+use Rattle.scope.proofs.Rings.{Begun, chain, rings}
 
 -- the table
 abbrev tables : List (List Tried)
@@ -44,6 +47,7 @@ tables =
     ∷ starts
     ∷ halves
     ∷ classes
+    ∷ replacements
     ∷ []
 
 joined : List (List Tried) → List Tried
@@ -90,12 +94,32 @@ armBehind n = record { opened = false; page = Arm.blank false; count = n }
 -- each operator that the plain arm performs, by its motif and the place of its tag there
 traceOf : List Plain.Deed → List ℕ
 traceOf [] = []
-traceOf (d ∷ ds) = d .stroke .motif ∷ d .stroke .at ∷ traceOf ds
+traceOf (d ∷ ds) = d .stroke .motif ∷ d .stroke .op .at ∷ traceOf ds
 
 -- motif 2 has a Comment, a call of motif 1 and NewPath; the job calls it, and then has NewPath of its own
 abbrev nested : List ℕ
 nested =
     all (H ∷ S ∷ O ∷ (M 0x61 (PushGS ∷ PopGS ∷ [])) ∷ (M 0x62 (op Comment ++ (X 0x61 ++ op NewPath))) ∷ P ∷ (X 0x62) ∷ (op NewPath) ∷ Z ∷ [])
+
+-- motif 1 is called on page one; on page two, where it is replaced, motif 2 calls it
+abbrev mended : List ℕ
+mended =
+    all (H ∷ S ∷ O ∷ (M 0x61 PW) ∷ (M 0x62 (X 0x61)) ∷ P ∷ (X 0x61) ∷ (op EndPage) ∷ (M 0x61 (PushGS ∷ PopGS ∷ [])) ∷ P ∷ (X 0x62) ∷ Z ∷ [])
+
+-- judging that begins in a session
+begunIn : Begun → Judge.Outcome
+begunIn x =
+    Judge.judgedFrom Verd.every ordinary (x .items) 65536
+    (record { at = 0; place = Session.inside (record { held = x .held; opened = x .opened; busy = x .busy }); performed = 0; records = 0; past = [] })
+
+-- the code and the position with which each ends; and those expected
+endings : List Begun → List ℕ
+endings [] = []
+endings (x ∷ l) = begunIn x .code ∷ begunIn x .position ∷ endings l
+
+endingsOf : List Begun → List ℕ
+endingsOf [] = []
+endingsOf (x ∷ l) = x .code ∷ x .position ∷ endingsOf l
 
 -- jobs that keep the layout rules and break another: 23, 24, 25, 17, and 24 inside a call
 abbrev broken : List (List (List ℕ))
@@ -127,15 +151,8 @@ looked (x ∷ l) =
 abbrev breaking : ℕ → Looked
 breaking code = record { code = code; kept = 0; came = false }
 
--- one held motif, which nests so deep; and the bytes of a motif that calls it
-abbrev holding : ℕ → List Motif.Motif
-holding depth = record { name = 0x61 ∷ []; bytes = []; number = 1; ops = []; depth = depth } ∷ []
-
-abbrev calling : List ℕ
-calling = H ++ X 0x61
-
 -- the table; J's records; (i) of 01; 26; the record of an operator with data; 26 is no layout rule, and the plain arm meets it; the order in which that arm
--- performs; the layout rules kept and another broken; how deep motifs nest
+-- performs, and that it means the new motif, under the old number; calls in long chains and rings; the layout rules kept and another broken
 proved-jobs : (answers (joined tables) ≡ expecteds (joined tables))
     × (listOf false J 16384 65536 ≡ recordsOfJ)
     × (Data.rowOf 32 0 4 ∷ Data.rowOf 33 0 4 ∷ Data.rowOf 33 1 4 ∷ Data.rowOf 33 2 4 ∷ [] ≡ 4 ∷ 8 ∷ 20 ∷ 36 ∷ [])
@@ -147,8 +164,10 @@ proved-jobs : (answers (joined tables) ≡ expecteds (joined tables))
     × (traceOf (Plain.unfoldingOf false nested)
     ≡ 0 ∷ 27 ∷ 0 ∷ 36 ∷ 0 ∷ 43 ∷ 0 ∷ 49 ∷ 0 ∷ 70 ∷ 0 ∷ 77 ∷ 0 ∷ 83 ∷ 0 ∷ 111 ∷ 0 ∷ 120
     ∷ 0 ∷ 127 ∷ 2 ∷ 16 ∷ 2 ∷ 23 ∷ 1 ∷ 16 ∷ 1 ∷ 17 ∷ 2 ∷ 24 ∷ 0 ∷ 128 ∷ 0 ∷ 129 ∷ 0 ∷ 130 ∷ 0 ∷ 131 ∷ [])
+    × (traceOf (Plain.unfoldingOf false mended)
+    ≡ 0 ∷ 27 ∷ 0 ∷ 36 ∷ 0 ∷ 43 ∷ 0 ∷ 49 ∷ 0 ∷ 73 ∷ 0 ∷ 80 ∷ 0 ∷ 86 ∷ 0 ∷ 112 ∷ 0 ∷ 121 ∷ 0 ∷ 128 ∷ 1 ∷ 20 ∷ 0 ∷ 129
+    ∷ 0 ∷ 136 ∷ 0 ∷ 142 ∷ 0 ∷ 163 ∷ 0 ∷ 172 ∷ 0 ∷ 179 ∷ 2 ∷ 22 ∷ 1 ∷ 16 ∷ 1 ∷ 17 ∷ 0 ∷ 180 ∷ 0 ∷ 181 ∷ 0 ∷ 182 ∷ [])
+    × (endings rings ≡ endingsOf rings)
     × (looked broken ≡ breaking 23 ∷ breaking 24 ∷ breaking 25 ∷ breaking 17 ∷ breaking 24 ∷ [])
-    × (Motif.motifOf ordinary (holding 31) calling ≡ Motif.valid (Motif.calls 22 (0x61 ∷ []) ∷ []) 32)
-    × (Motif.motifOf ordinary (holding 32) calling ≡ Motif.faulty 22 22)
-unfolding Choice.among Choice.same Iterate.run Iterate.iterate Number.digits Number.number Header.mayStand Header.formFrom Header.classed Header.headerOf Item.white Item.spaces Item.after Item.widthOf Item.kindOf Item.numbersAt Item.elementsAt Item.countedAt Item.arrayAt Item.valueOf Item.numbered Item.numberAt Item.pairOf Item.pairAt Item.endedWith Item.onPair Item.scanItem Item.scanStep Item.scanFrom Item.scanAt Table.tableOne Table.tableTwo Table.table Table.lineIn Table.ruleIn Attributes.has Attributes.twoAt Attributes.finite Attributes.above Attributes.firstOf Attributes.typeTaken Attributes.inRange Attributes.attributeCode Attributes.oneByOne Attributes.allThere Attributes.howMany Attributes.choiceCode Attributes.formCode Attributes.valueIn Attributes.longIn Attributes.bytesIn Data.bitsOf Data.rowOf Data.padOf Data.blockDue Data.pointBytes Data.dueOf Data.blockOf Data.blockAt Order.drawn Order.mayCome Order.lengthFits Order.rowsFit Reading.withBlock Reading.withData Reading.asWhole Reading.withAttributes Reading.withLine Reading.scanned Reading.operatorAt Arm.needsCursor Arm.needsSpace Arm.effectOf Arm.actOf Arm.done Arm.risen Arm.step Arm.walk Arm.from Motif.heldAs Motif.isHeld Motif.flat Motif.unfolded Motif.bytesHeld Motif.begun Motif.readOn Motif.pictureAfter Motif.savedAfter Motif.phaseIn Motif.contextIn Motif.onCall Motif.onDeed Motif.onEnd Motif.onRead Motif.motifStep Motif.judgedInside Motif.motifFrom Motif.motifOf Session.phaseDrawing Session.phaseBusy Session.phaseOf Session.rowFor Session.keptAs Session.sessionAfter Session.placeAfter Judge.judgedAt Judge.caseOf Judge.tooMuch Judge.nameHeld Judge.nameMissing Judge.sourceClosed Judge.savedOver Judge.cursorUnset Judge.spaceWrong Judge.countOver Judge.roomOver Judge.rules Judge.firstBroken Judge.after Judge.endAt Judge.onRefusal Judge.onCase Judge.onRead Judge.contextOf Judge.jobStep Judge.judgedFrom Verd.layout Verd.judgedAfter Verd.entryOf Verd.outcomeAt Verd.outcomeOf Verd.verdictOf Verd.four Verd.attributeRecord Verd.operatorRecord Verd.attributeRecords Verd.recordsBefore Verd.listOf Verd.listAfter Verd.zeros Verd.clearedBy Verd.workAfter Plain.turnOf Plain.performs Plain.performed Plain.deeds Plain.knownAs Plain.strokesOf Plain.onOwn Plain.ownStep Plain.ownFrom Plain.ownAfter Plain.ownOf Plain.called Plain.doingAfter Plain.knownAfter Plain.deedsFor Plain.onOperator Plain.onNext Plain.phaseAt Plain.contextAt Plain.unrollStep Plain.unfoldedAfter Plain.unfoldingOf Plain.breaks Plain.comes all times joined answers expecteds traceOf looked
+unfolding Choice.among Choice.same Iterate.run Iterate.iterate Number.digits Number.number Header.mayStand Header.formFrom Header.classed Header.headerOf Item.white Item.spaces Item.after Item.widthOf Item.kindOf Item.numbersAt Item.elementsAt Item.countedAt Item.arrayAt Item.valueOf Item.numbered Item.numberAt Item.pairOf Item.pairAt Item.endedWith Item.onPair Item.scanItem Item.scanStep Item.scanFrom Item.scanAt Table.tableOne Table.tableTwo Table.table Table.lineIn Table.ruleIn Attributes.has Attributes.twoAt Attributes.finite Attributes.above Attributes.firstOf Attributes.typeTaken Attributes.inRange Attributes.attributeCode Attributes.oneByOne Attributes.allThere Attributes.howMany Attributes.choiceCode Attributes.formCode Attributes.valueIn Attributes.longIn Attributes.bytesIn Data.bitsOf Data.rowOf Data.padOf Data.blockDue Data.pointBytes Data.dueOf Data.blockOf Data.blockAt Order.drawn Order.mayCome Order.lengthFits Order.rowsFit Reading.withBlock Reading.withData Reading.asWhole Reading.withAttributes Reading.withLine Reading.scanned Reading.operatorAt Arm.needsCursor Arm.needsSpace Arm.effectOf Arm.actOf Arm.done Arm.risen Arm.step Arm.walk Arm.from Motif.heldAs Motif.isHeld Motif.bytesHeld Motif.begun Motif.readOn Motif.pictureAfter Motif.savedAfter Motif.phaseIn Motif.contextIn Motif.ownBy Motif.onEnd Motif.onRead Motif.motifStep Motif.judgedInside Motif.motifFrom Motif.motifOf Calls.flat Calls.isOne Calls.callBy Calls.callOf Calls.through Calls.unfolded Calls.metIn Calls.metBy Calls.met Session.phaseDrawing Session.phaseBusy Session.phaseOf Session.rowFor Session.replaced Session.keptAs Session.sessionAfter Session.placeAfter Judge.judgedAt Judge.metAt Judge.caseOf Judge.tooMuch Judge.nameMissing Judge.callsItself Judge.tooDeep Judge.sourceClosed Judge.savedOver Judge.cursorUnset Judge.spaceWrong Judge.countOver Judge.roomOver Judge.early Judge.armed Judge.limits Judge.rules Judge.firstBroken Judge.after Judge.endAt Judge.onRefusal Judge.onCase Judge.onRead Judge.contextOf Judge.jobStep Judge.judgedFrom Verd.layout Verd.judgedAfter Verd.entryOf Verd.outcomeAt Verd.outcomeOf Verd.verdictOf Verd.four Verd.attributeRecord Verd.operatorRecord Verd.attributeRecords Verd.recordsBefore Verd.listOf Verd.listAfter Verd.zeros Verd.clearedBy Verd.workAfter Plain.turnOf Plain.performs Plain.performed Plain.deeds Plain.knownAs Plain.strokesOf Plain.onOwn Plain.ownStep Plain.ownFrom Plain.ownAfter Plain.ownOf Plain.called Plain.doingAfter Plain.isKnown Plain.relearnt Plain.learnt Plain.knownAfter Plain.deedsFor Plain.onOperator Plain.onNext Plain.phaseAt Plain.contextAt Plain.unrollStep Plain.unfoldedAfter Plain.unfoldingOf Plain.breaks Plain.comes all times chain joined answers expecteds traceOf begunIn endings endingsOf looked
 proved-jobs = (refl, refl, refl, refl, refl, refl, refl, refl, refl, refl, refl, refl)

@@ -2,19 +2,15 @@
 -- Assumes nothing.
 use mathlib.Core.List.{List, [], _∷_, _++_}
 use Rattle.scope.specs.Names.{EndPage, Comment, CloseDataSource, EndStream, PopGS, PushGS, NewPath}
-use Rattle.scope.proofs.Parts.{all, times, op, _with_at_, H, S, E, J, P, O, Z, CUR, LN, LD, D, GR, GL, RGB, IM, N, M, X, Tried, _gets_at_listed_performed_, _gets_at_inside_listed_performed_, lending}
+use Rattle.scope.proofs.Parts.{all, times, op, _with_at_, H, S, E, J, P, O, Z, CUR, LN, LD, PW, D, GR, GL, RGB, IM, N, M, X, Tried, _gets_at_listed_performed_, _gets_at_inside_listed_performed_, lending}
 
--- 17, 19 to 26, 28 and 29, motifs judged at EndStream, and what passes
+-- 17, 21 to 26, 28 and 29, motifs judged at EndStream, and what passes
 abbrev pub judged : List Tried
 judged =
     -- empty motif
     (H ∷ S ∷ (N 0x61) ∷ (op EndStream) ∷ []) gets 2 at 35 inside 0 listed 5 performed 2
     ∷  -- header only
     (H ∷ S ∷ O ∷ (M 0x61 []) ∷ P ∷ (X 0x61) ∷ Z ∷ []) gets 0 at 88 listed 19 performed 10
-    ∷  -- self call
-    (H ∷ S ∷ O ∷ (M 0x61 (X 0x61)) ∷ []) gets 21 at 75 inside 22 listed 10 performed 4
-    ∷  -- 21 not 9
-    (H ∷ S ∷ O ∷ (M 0x61 (all ((X 0x62) ∷ (0x45 ∷ []) ∷ []))) ∷ []) gets 21 at 76 inside 22 listed 10 performed 4
     ∷  -- 27 inside
     (H ∷ S ∷ O ∷ (M 0x61 (times 3 (op PushGS))) ∷ []) gets 27 at 71 inside 19 listed 10 performed 4
     ∷  -- 24 at a call
@@ -36,7 +32,7 @@ judged =
     ∷  -- not in the next session
     (H ∷ S ∷ O ∷ (M 0x61 []) ∷ (op CloseDataSource) ∷ E ∷ S ∷ P ∷ (X 0x61) ∷ []) gets 21 at 98 listed 19 performed 9
     ∷  -- 100 strokes
-    (H ∷ S ∷ O ∷ (M 0x31 (times 10 (0xc0 ∷ 0x01 ∷ 0xf8 ∷ 0x4b ∷ 0x7a ∷ []))) ∷ (M 0x32 (times 10 (X 0x31))) ∷ P ∷ (X 0x32) ∷ Z ∷ []) gets 0 at 240 listed 24 performed 123
+    (H ∷ S ∷ O ∷ (M 0x31 (times 10 PW)) ∷ (M 0x32 (times 10 (X 0x31))) ∷ P ∷ (X 0x32) ∷ Z ∷ []) gets 0 at 240 listed 24 performed 123
     ∷  -- 24 before 25
     (H ∷ S ∷ O ∷ P ∷ IM ∷ []) gets 24 at 69 listed 9 performed 3
     ∷  -- second session
@@ -47,8 +43,6 @@ judged =
     lending 16384 63 ((J ∷ []) gets 28 at 28 listed 3 performed 1)
     ∷  -- short work
     lending 16383 0 ((J ∷ []) gets 29 at 0 listed 0 performed 0)
-    ∷  -- 20: a held name
-    (H ∷ S ∷ O ∷ (M 0x61 []) ∷ (N 0x61) ∷ []) gets 20 at 75 listed 11 performed 5
     ∷  -- 25: GrayLevel in RGB
     (H ∷ S ∷ P ∷ GL ∷ []) gets 25 at 41 listed 6 performed 2
     ∷  -- 25: RGBColor in gray

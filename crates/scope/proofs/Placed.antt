@@ -20,7 +20,7 @@ use Rattle.scope.specs.Data.{Due, Found, blockOf, blockAt}
 use Rattle.scope.specs.Order.{mayCome, imageOf, rowsFit}
 use Rattle.scope.specs.Setting.{Setting, ofMotif, sameClass}
 use Rattle.scope.specs.Reading.{Context, Operator, Read, withBlock, withData, asWhole, withAttributes, withLine, scanned, operatorAt}
-use Rattle.scope.specs.Motif.{Own, Motif, Held, Inside, Picture, Judged, valid, faulty, contextIn, onCall, onDeed, onEnd, onRead, motifStep, judgedInside, motifFrom, motifOf}
+use Rattle.scope.specs.Motif.{Own, Inside, Picture, Judged, valid, faulty, contextIn, onEnd, onRead, motifStep, judgedInside, motifFrom, motifOf}
 use Rattle.scope.proofs.Ends.{pick-all, Kept, kept-go, kept-stop, iterate-holds}
 
 -- attributes that stand within the bytes
@@ -256,46 +256,41 @@ header-placed s code place e = placed (subst (λ r. HeaderIn (length s) r) e (he
     placed (ill k) = k
 
 data JudgedIn (len : ℕ) : Judged → Type 0 where
-  good : {ops : List Own} {d : ℕ} → JudgedIn len (valid ops d)
+  good : {ops : List Own} → JudgedIn len (valid ops)
   ill : {code place : ℕ} → place ≤ len → JudgedIn len (faulty code place)
 
 abbrev Any : Inside → Type 0
 Any w = Unit {0}
 
-module _ (held : List Motif) (set : Setting) (s : List ℕ) where
-  call-in : (o : Operator) (n : List ℕ) (w : Inside) (x : Held) → o .at ≤ length s → Kept Any (JudgedIn (length s)) (onCall o n w x)
-  unfolding onCall
-  call-in o n w Held.none h = kept-stop (ill h)
-  call-in o n w (Held.is m) h = pick-all (Kept Any (JudgedIn (length s))) (leb 32 (m .depth)) (λ _. kept-stop (ill h)) (λ _. kept-go tt)
-
+module _ (set : Setting) (s : List ℕ) where
   end-in : (w : Inside) (p : Picture) → JudgedIn (length s) (onEnd s w p)
   unfolding onEnd
   end-in w (Picture.being i) = let k : length s ≤ length s = omega arith in ill k
   end-in w Picture.none = let k : length s ≤ length s = omega arith in pick-all (JudgedIn (length s)) (eqb (w .saved) 0) (λ _. good) (λ _. ill k)
 
-  on-read-in : (w : Inside) {r : Read} → ReadIn (length s) r → Kept Any (JudgedIn (length s)) (onRead held set s w r)
-  unfolding onRead onDeed
-  on-read-in w (operator {o = o} h) = pick-all (Kept Any (JudgedIn (length s))) (eqb (o .tag) 0x5e) (λ _. call-in o _ w _ h) (λ _. kept-go tt)
+  on-read-in : (w : Inside) {r : Read} → ReadIn (length s) r → Kept Any (JudgedIn (length s)) (onRead set s w r)
+  unfolding onRead
+  on-read-in w (operator h) = kept-go tt
   on-read-in w ended = kept-stop (end-in w (w .picture))
   on-read-in w (no k) = kept-stop (ill k)
 
-  step-in : (w : Inside) → Any w → Kept Any (JudgedIn (length s)) (motifStep held set s w)
+  step-in : (w : Inside) → Any w → Kept Any (JudgedIn (length s)) (motifStep set s w)
   unfolding motifStep
   step-in w u = on-read-in w (read-in (contextIn set w) s (w .at))
 
-from-in : (set : Setting) (held : List Motif) (s : List ℕ) {r : Header} → HeaderIn (length s) r → JudgedIn (length s) (motifFrom set held s r)
+from-in : (set : Setting) (s : List ℕ) {r : Header} → HeaderIn (length s) r → JudgedIn (length s) (motifFrom set s r)
 unfolding motifFrom judgedInside
-from-in set held s (good {class = class} {high = high} {next = next} l) =
+from-in set s (good {class = class} {high = high} {next = next} l) =
     let k : 0 ≤ length s = omega arith in
     pick-all (JudgedIn (length s)) (sameClass class (set .class))
-    (λ _. iterate-holds (motifStep held (ofMotif set high) s) (faulty 5 0) Any (JudgedIn (length s)) (ill k) (step-in held (ofMotif set high) s) (λ w. length s - w .at)
-    (record { at = next; saved = 0; picture = Picture.none; ops = []; depth = 1 }) tt) (λ _. ill l)
-from-in set held s (ill k) = ill k
+    (λ _. iterate-holds (motifStep (ofMotif set high) s) (faulty 5 0) Any (JudgedIn (length s)) (ill k) (step-in (ofMotif set high) s) (λ w. length s - w .at)
+    (record { at = next; saved = 0; picture = Picture.none; ops = [] }) tt) (λ _. ill l)
+from-in set s (ill k) = ill k
 
 -- the place inside a faulty motif lies within it, or right behind it
-pub motif-placed : (set : Setting) (held : List Motif) (s : List ℕ) (code place : ℕ) → motifOf set held s ≡ faulty code place → place ≤ length s
+pub motif-placed : (set : Setting) (s : List ℕ) (code place : ℕ) → motifOf set s ≡ faulty code place → place ≤ length s
 unfolding motifOf
-motif-placed set held s code place e = placed (subst (λ r. JudgedIn (length s) r) e (from-in set held s (header-in s)))
+motif-placed set s code place e = placed (subst (λ r. JudgedIn (length s) r) e (from-in set s (header-in s)))
   where
     placed : JudgedIn (length s) (faulty code place) → place ≤ length s
     placed (ill k) = k

@@ -23,11 +23,11 @@ pub record Clean (opened : Bool) (w : Seen) : Type 0 where
 abbrev pub armOf : Bool → Seen → PlainArm
 armOf opened w = record { opened = opened; page = w .page; count = w .count }
 
-or-left : (a b : Bool) → (a || b) ≡ false → a ≡ false
+pub or-left : (a b : Bool) → (a || b) ≡ false → a ≡ false
 or-left true b e = e
 or-left false b e = refl
 
-or-right : (a b : Bool) → (a || b) ≡ false → b ≡ false
+pub or-right : (a b : Bool) → (a || b) ≡ false → b ≡ false
 or-right true b e = absurd (let z : _≡_ {A = ℕ} 0 1 = cc in omega arith)
 or-right false b e = e
 

@@ -3,7 +3,7 @@
 use Prim.Native.Nat.{ℕ, _+_, _-_}
 use mathlib.Core.Path.{_≡_, refl, sym, ap, _∙_}
 use mathlib.Core.Bool.{Bool, true, false, not, _&&_, _||_}
-use mathlib.Core.List.{List, [], _∷_, _++_}
+use mathlib.Core.List.{List, [], _∷_, _++_, append-assoc}
 use native.Mathlib.Omega.{arith}
 use lib.ListN.{length, take, drop}
 use lib.Dec.{ltb, leb, eqb}
@@ -12,12 +12,14 @@ use Rattle.scope.specs.Attributes.{has, valueIn, bytesIn}
 use Rattle.scope.specs.Header.{Header, headerOf}
 use Rattle.scope.specs.Reading.{Operator}
 use Rattle.scope.specs.Arm.{Act, Page, Seen, idle, push, pop, put, to, kept, gray, rgb, any, clash, done, risen, needsCursor, needsSpace, effectOf, actOf, step, walk, from, blank, Stroke}
-use Rattle.scope.specs.Motif.{Motif, heldAs, isHeld, unfolded, bytesHeld, Picture, begun, readOn, pictureAfter, Judged, valid, faulty, judgedInside, motifFrom, motifOf}
+use Rattle.scope.specs.Calls.{unfolded}
+use Rattle.scope.specs.Motif.{Motif, heldAs, isHeld, bytesHeld, Picture, begun, readOn, pictureAfter, valid, faulty, judgedInside, motifFrom, motifOf}
 use Rattle.scope.specs.Setting.{Setting, sameClass}
 use Rattle.scope.specs.Session.{Busy, resting, reading, drawing, Session, Place, outside, inside, keptAs, sessionOf, phaseOf, pageOf, joinedOf, rowFor, sessionAfter, placeAfter}
-use Rattle.scope.specs.Judge.{State, Case, judgedAt, caseOf, Refusal, rules, firstBroken, ownOr, outer, tooMuch, nameHeld, nameMissing, sourceClosed, savedOver, cursorUnset, spaceWrong, countOver, roomOver, judgedAt}
+use Rattle.scope.specs.Judge.{State, Case, judgedAt, metAt, caseOf, Refusal, Rule, rule, motifs-own, early, armed, limits, rules, firstBroken, ownOr, outer, tooMuch, nameMissing, callsItself, tooDeep, sourceClosed, savedOver, cursorUnset, spaceWrong}
 use Rattle.scope.specs.Runs.{caseAt}
 use Rattle.scope.specs.Claims.{limit}
+use Rattle.scope.proofs.Broken.{orElse, first-append}
 use Rattle.scope.proofs.Rows.{walk-count}
 
 -- the numbers of attributes whose values judging looks at behind reading: ColorSpace, ColorDepth, BlockHeight, SourceHeight, SourceWidth
@@ -67,13 +69,13 @@ walk-uncounted (x ∷ l) w v e =
       wrong = e i .wrong || clash (x .act .space) (e i .page .gray);
     })
 
--- a row performed: where its first operator stands plays no part
-row-through : (call : Bool) (k : ℕ) (a : Act) (l : List Stroke) (w : Seen)
-    → walk (pick call (record { motif = 0; at = k; act = idle } ∷ l) (record { motif = 0; at = k; act = a } ∷ [])) w
+-- a row performed: of its first operator only what it needs and does plays a part
+row-through : (call : Bool) (o : Operator) (a : Act) (l : List Stroke) (w : Seen)
+    → walk (pick call (record { motif = 0; op = o; act = idle } ∷ l) (record { motif = 0; op = o; act = a } ∷ [])) w
     ≡ pick call (walk l (step idle w)) (step a w)
 unfolding walk
-row-through true k a l w = refl
-row-through false k a l w = refl
+row-through true o a l w = refl
+row-through false o a l w = refl
 
 -- two cases that the rules cannot tell apart but by the numbers, of which the first has m operators and r records before it, the second n and q
 pub record LikeCase (m n r q : ℕ) (c d : Case) : Type 0 where
@@ -83,66 +85,55 @@ pub record LikeCase (m n r q : ℕ) (c d : Case) : Type 0 where
   pub name : c .name ≡ d .name
   pub seen : uncounted (c .seen) ≡ uncounted (d .seen)
   pub made : c .made ≡ d .made
+  pub met : c .met ≡ d .met
   pub count : c .seen .count + n ≡ d .seen .count + m
   pub records : c .records + q ≡ d .records + r
 
--- the rules before 26 and 28, and behind them what those say
-unfoldable pub chain : (ℕ → Bool) → Case → Refusal → Refusal
-chain given c r =
-    pick (given 19 && tooMuch c) (Refusal.refused 19 outer)
-    (pick (given 20 && nameHeld c) (Refusal.refused 20 outer)
-    (pick (given 21 && nameMissing c) (Refusal.refused 21 outer)
-    (ownOr (c .made)
-    (pick (given 17 && sourceClosed c) (Refusal.refused 17 outer)
-    (pick (given 23 && savedOver c) (Refusal.refused 23 outer)
-    (pick (given 24 && cursorUnset c) (Refusal.refused 24 outer)
-    (pick (given 25 && spaceWrong c) (Refusal.refused 25 outer) r)))))))
-
-unfoldable pub limits : (ℕ → Bool) → ℕ → Case → Refusal
-limits given room c = pick (given 26 && countOver c) (Refusal.refused 26 outer) (pick (given 28 && roomOver room c) (Refusal.refused 28 outer) Refusal.none)
-
-pub broken-is : (given : ℕ → Bool) (room : ℕ) (c : Case) → firstBroken given c (rules room) ≡ chain given c (limits given room c)
-unfolding firstBroken rules chain limits
-broken-is given room c = refl
-
--- either the rules before 26 and 28 say nothing, or they say the same whatever those say
-pub data Splits (f : Refusal → Refusal) : Type 0 where
-  silent : ((r : Refusal) → f r ≡ r) → Splits f
-  speaks : (code inner : ℕ) → ((r : Refusal) → f r ≡ Refusal.refused code inner) → Splits f
-
-pick-splits : (b : Bool) (k : ℕ) {f : Refusal → Refusal} → Splits f → Splits (λ r. pick b (Refusal.refused k outer) (f r))
-pick-splits true k h = speaks k outer (λ r. refl)
-pick-splits false k h = h
-
-own-splits : (j : Judged) {f : Refusal → Refusal} → Splits f → Splits (λ r. ownOr j (f r))
-own-splits (Judged.valid ops d) h = h
-own-splits (Judged.faulty code inner) h = speaks code inner (λ r. refl)
-
-pub chain-splits : (given : ℕ → Bool) (c : Case) → Splits (chain given c)
-unfolding chain
-chain-splits given c =
-    pick-splits (given 19 && tooMuch c) 19 (pick-splits (given 20 && nameHeld c) 20 (pick-splits (given 21 && nameMissing c) 21
-    (own-splits (c .made) (pick-splits (given 17 && sourceClosed c) 17 (pick-splits (given 23 && savedOver c) 23
-    (pick-splits (given 24 && cursorUnset c) 24 (pick-splits (given 25 && spaceWrong c) 25 (silent (λ r. refl)))))))))
+-- the rules before 26 and 28 say something, or else those two
+pub broken-is : (given : ℕ → Bool) (room : ℕ) (c : Case)
+    → firstBroken given c (rules room) ≡ orElse (firstBroken given c (early ++ armed)) (firstBroken given c (limits room))
+unfolding rules
+broken-is given room c = ap (firstBroken given c) (sym (append-assoc early armed (limits room))) ∙ first-append given c (early ++ armed) (limits room)
 
 -- the same codes are given, but for those two perhaps
 abbrev pub AlikeGiven : (ℕ → Bool) → (ℕ → Bool) → Type 0
 AlikeGiven f g = (k : ℕ) → limit k ≡ false → f k ≡ g k
 
-pub chain-like : (f g : ℕ → Bool) → AlikeGiven f g → {m n r q : ℕ} {c d : Case} → LikeCase m n r q c d → (x : Refusal) → chain f c x ≡ chain g d x
-unfolding chain tooMuch nameHeld nameMissing sourceClosed savedOver cursorUnset spaceWrong uncounted
-chain-like f g e h x =
-    λ i. pick
-    (e 19 refl i
-    && ((eqb (h .tag i) 0x5b && leb 64 (length (h .session i .held)))
-    || (eqb (h .tag i) 0x5c && ltb 16384 (bytesHeld (h .session i .held) + (length (joinedOf (h .session i .busy)) + h .size i))))) (Refusal.refused 19 outer)
-    (pick (e 20 refl i && (eqb (h .tag i) 0x5b && isHeld (heldAs (h .name i) (h .session i .held)))) (Refusal.refused 20 outer)
-    (pick (e 21 refl i && (eqb (h .tag i) 0x5e && not (isHeld (heldAs (h .name i) (h .session i .held))))) (Refusal.refused 21 outer)
-    (ownOr (h .made i)
-    (pick (e 17 refl i && (h .seen i .source && not (h .session i .opened))) (Refusal.refused 17 outer)
-    (pick (e 23 refl i && ltb 24 (h .seen i .most)) (Refusal.refused 23 outer)
-    (pick (e 24 refl i && h .seen i .lost) (Refusal.refused 24 outer)
-    (pick (e 25 refl i && h .seen i .wrong) (Refusal.refused 25 outer) x)))))))
+-- each of some rules, but those two, says the same of two cases
+data AllLike (c d : Case) : List Rule → Type 0 where
+  none : AllLike c d []
+  more : {k : ℕ} {broken : Case → Bool} {rs : List Rule} → limit k ≡ false → broken c ≡ broken d → AllLike c d rs → AllLike c d (rule k broken ∷ rs)
+  own : {rs : List Rule} → c .made ≡ d .made → AllLike c d rs → AllLike c d (motifs-own ∷ rs)
+
+like-append : {c d : Case} {xs ys : List Rule} → AllLike c d xs → AllLike c d ys → AllLike c d (xs ++ ys)
+like-append none k = k
+like-append (more e f h) k = more e f (like-append h k)
+like-append (own e h) k = own e (like-append h k)
+
+first-like : (f g : ℕ → Bool) → AlikeGiven f g → {c d : Case} {rs : List Rule} → AllLike c d rs → firstBroken f c rs ≡ firstBroken g d rs
+unfolding firstBroken
+first-like f g e none = refl
+first-like f g e (more {k = k} l b a) = λ i. pick (e k l i && b i) (Refusal.refused k outer) (first-like f g e a i)
+first-like f g e (own m a) = λ i. ownOr (m i) (first-like f g e a i)
+
+module _ {m n r q : ℕ} {c d : Case} (h : LikeCase m n r q c d) where
+  early-like : AllLike c d early
+  unfolding early tooMuch nameMissing callsItself tooDeep
+  early-like =
+      more refl
+      (λ i. (eqb (h .tag i) 0x5b && (leb 64 (length (h .session i .held)) && not (isHeld (heldAs (h .name i) (h .session i .held)))))
+      || (eqb (h .tag i) 0x5c && ltb 16384 (bytesHeld (h .session i .held) + (length (joinedOf (h .session i .busy)) + h .size i))))
+      (own (h .made) (more refl (λ i. h .met i .missing) (more refl (λ i. h .met i .again) (more refl (λ i. h .met i .deep) none))))
+
+  armed-like : AllLike c d armed
+  unfolding armed sourceClosed savedOver cursorUnset spaceWrong uncounted
+  armed-like =
+      more refl (λ i. h .seen i .source && not (h .session i .opened))
+      (more refl (λ i. ltb 24 (h .seen i .most)) (more refl (λ i. h .seen i .lost) (more refl (λ i. h .seen i .wrong) none)))
+
+  -- the rules before 26 and 28 say the same
+  pub before-like : (f g : ℕ → Bool) → AlikeGiven f g → firstBroken f c (early ++ armed) ≡ firstBroken g d (early ++ armed)
+  before-like f g e = first-like f g e (like-append early-like armed-like)
 
 -- two settings that differ in the byte order at most
 pub record Akin (set other : Setting) : Type 0 where
@@ -153,20 +144,20 @@ pub akin-refl : {set : Setting} → Akin set set
 akin-refl = record { class = refl; gray = refl }
 
 -- a motif is judged in its own byte order
-motif-akin : {set other : Setting} → Akin set other → (held : List Motif) (s : List ℕ) → motifOf set held s ≡ motifOf other held s
+motif-akin : {set other : Setting} → Akin set other → (s : List ℕ) → motifOf set s ≡ motifOf other s
 unfolding motifOf motifFrom
-motif-akin {set} {other} k held s = by (headerOf s)
+motif-akin {set} {other} k s = by (headerOf s)
   where
-    by : (h : Header) → motifFrom set held s h ≡ motifFrom other held s h
+    by : (h : Header) → motifFrom set s h ≡ motifFrom other s h
     by (Header.no code place) = refl
     by (Header.is class high next) =
         λ i. pick (sameClass class (k .class i))
-        (judgedInside held (record { class = k .class i; high = high; gray = k .gray i }) s (record { at = next; saved = 0; picture = Picture.none; ops = []; depth = 1 }))
+        (judgedInside (record { class = k .class i; high = high; gray = k .gray i }) s (record { at = next; saved = 0; picture = Picture.none; ops = [] }))
         (faulty 4 12)
 
-judged-akin : {set other : Setting} → Akin set other → (held : List Motif) (joined : List ℕ) (tag : ℕ) → judgedAt set held joined tag ≡ judgedAt other held joined tag
+judged-akin : {set other : Setting} → Akin set other → (joined : List ℕ) (tag : ℕ) → judgedAt set joined tag ≡ judgedAt other joined tag
 unfolding judgedAt
-judged-akin k held joined tag = λ i. pick (eqb tag 0x5d) (motif-akin k held joined i) (valid [] 1)
+judged-akin k joined tag = λ i. pick (eqb tag 0x5d) (motif-akin k joined i) (valid [])
 
 module _ (set other : Setting) (akin : Akin set other) (s t : List ℕ) (a b : Operator) (h : Says (set .high) (other .high) s t a b) where
   space-like : needsSpace (a .tag) (a .attrs) ≡ needsSpace (b .tag) (b .attrs)
@@ -190,9 +181,9 @@ module _ (set other : Setting) (akin : Akin set other) (s t : List ℕ) (a b : O
   row-like : (held : List Motif) (w : Seen) → walk (rowFor set s held a) w ≡ walk (rowFor other t held b) w
   unfolding rowFor
   row-like held w =
-      row-through (eqb (a .tag) 0x5e) (a .at) (actOf set s a) (unfolded held (bytesIn s (a .attrs) 139)) w
-      ∙ (λ i. pick (eqb (h .tag i) 0x5e) (walk (unfolded held (h .name i)) (step idle w)) (step (act-like i) w))
-      ∙ sym (row-through (eqb (b .tag) 0x5e) (b .at) (actOf other t b) (unfolded held (bytesIn t (b .attrs) 139)) w)
+      row-through (eqb (a .tag) 0x5e) a (actOf set s a) (unfolded held 32 [] (bytesIn s (a .attrs) 139)) w
+      ∙ (λ i. pick (eqb (h .tag i) 0x5e) (walk (unfolded held 32 [] (h .name i)) (step idle w)) (step (act-like i) w))
+      ∙ sym (row-through (eqb (b .tag) 0x5e) b (actOf other t b) (unfolded held 32 [] (bytesIn t (b .attrs) 139)) w)
 
   -- as many operators are performed for the one as for the other
   row-length : (held : List Motif) → length (rowFor set s held a) ≡ length (rowFor other t held b)
@@ -230,7 +221,8 @@ module _ (set other : Setting) (akin : Akin set other) (s t : List ℕ) (a b : O
         seen = ap uncounted (row-like (z .held) (from (pageOf (z .busy)) (x .performed)))
             ∙ (λ i. uncounted (walk (rowFor other t (e i .held) b) (from (pageOf (e i .busy)) (x .performed))))
             ∙ walk-uncounted (rowFor other t (v .held) b) (from (pageOf (v .busy)) (x .performed)) (from (pageOf (v .busy)) (y .performed)) refl;
-        made = (λ i. judgedAt set (e i .held) (joinedOf (e i .busy)) (h .tag i)) ∙ judged-akin akin (v .held) (joinedOf (v .busy)) (b .tag);
+        made = (λ i. judgedAt set (joinedOf (e i .busy)) (h .tag i)) ∙ judged-akin akin (joinedOf (v .busy)) (b .tag);
+        met = λ i. metAt (e i .held) (h .name i) (h .tag i);
         count = omega arith;
         records = omega arith;
       }
@@ -246,7 +238,7 @@ module _ (set other : Setting) (akin : Akin set other) (s t : List ℕ) (a b : O
   session-like p q e (reading n j) z =
       λ i. pick (eqb (h .tag i) 0x5c)
       (record { held = z .held; opened = z .opened; busy = reading n (j ++ h .block i) })
-      (record { held = keptAs n j (motif-akin akin (z .held) j i) (z .held); opened = z .opened; busy = resting })
+      (record { held = keptAs n j (motif-akin akin j i) (z .held); opened = z .opened; busy = resting })
   session-like p q e (drawing o v) z =
       λ i. pick (eqb (h .tag i) 0x44)
       (record { held = z .held; opened = z .opened; busy = resting })

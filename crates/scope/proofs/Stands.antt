@@ -11,7 +11,8 @@ use Rattle.scope.specs.Attributes.{bytesIn}
 use Rattle.scope.specs.Order.{mayCome, drawn, between-sessions, in-session, in-stream}
 use Rattle.scope.specs.Reading.{Operator}
 use Rattle.scope.specs.Arm.{Page, Seen, blank, actOf, effectOf, done, walk, step, from, Stroke}
-use Rattle.scope.specs.Motif.{Motif, Picture, unfolded}
+use Rattle.scope.specs.Motif.{Motif, Picture}
+use Rattle.scope.specs.Calls.{unfolded}
 use Rattle.scope.specs.Setting.{Setting}
 use Rattle.scope.specs.Session.{Busy, resting, reading, drawing, Session, Place, outside, inside, sessionOf, phaseOf, phaseBusy, phaseDrawing, pageOf, rowFor, sessionAfter, placeAfter}
 use Rattle.scope.specs.Judge.{State, Case, caseOf, after}
@@ -32,7 +33,7 @@ pub row-shaped : (set : Setting) (s : List ℕ) (held : List Motif) (o : Operato
 unfolding rowFor
 row-shaped set s held o =
     pick-all (Shaped (turnOf (set .gray) (o .tag))) (eqb (o .tag) 0x5e)
-    (λ e. shaped (subst⁻¹ (λ t. Fits t (unfolded held (bytesIn s (o .attrs) 139))) (call-stays (set .gray) (o .tag) e) staying)) (λ _. shaped alone)
+    (λ e. shaped (subst⁻¹ (λ t. Fits t (unfolded held 32 [] (bytesIn s (o .attrs) 139))) (call-stays (set .gray) (o .tag) e) staying)) (λ _. shaped alone)
 
 -- an operator that is no call and leaves the page as it is
 record Quiet (tag : ℕ) : Type 0 where

@@ -2,26 +2,27 @@
 -- Assumes nothing.
 use Prim.Native.Nat.{ℕ, _≤_}
 use mathlib.Core.Path.{_≡_, refl, sym, ap, _∙_, subst, subst⁻¹}
-use mathlib.Core.Bool.{Bool, true, false, _&&_}
+use mathlib.Core.Bool.{Bool, true, false, _&&_, _||_}
 use mathlib.Core.List.{List, [], _∷_}
 use native.Mathlib.Omega.{arith}
-use borrow.Author.Tests.{eqb-true}
+use borrow.Author.Tests.{eqb-true, leb-true, le-leb}
 use lib.ListN.{length, getD}
-use lib.Dec.{leb, eqb}
+use lib.Dec.{T, leb, eqb}
 use Rattle.scope.specs.Choice.{pick, between}
 use Rattle.scope.specs.Header.{Header, headerOf}
 use Rattle.scope.specs.Item.{Attribute, Pair, Scan, Walk, endedWith, onPair, scanItem, scanStep, scanFrom, scanAt, pairAt, after as blackAfter}
 use Rattle.scope.specs.Table.{table, lineIn}
 use Rattle.scope.specs.Reading.{Context, Operator, Read, scanned, operatorAt}
-use Rattle.scope.specs.Motif.{Motif, Judged, valid, faulty, motifOf}
+use Rattle.scope.specs.Motif.{Judged, valid, faulty, motifOf}
 use Rattle.scope.specs.Setting.{Setting, settingOf}
 use Rattle.scope.specs.Session.{Place, outside, inside, sessionOf, joinedOf}
 use Rattle.scope.specs.Judge.{State, Case, Rule, rule, motifs-own, rules, Refusal, ownOr, firstBroken, judgedAt, caseOf, contextOf, Outcome, outer, refusedAt, endAt, starting, judgedFrom}
 use Rattle.scope.specs.Verdict.{every, judgedAfter, Entry, entryOf, outcomeAt, outcomeOf, verdictOf}
 use Rattle.scope.specs.Runs.{readAt, caseAt, Ends, ended, unread, refused, Comes}
-use Rattle.scope.specs.Claims.{CodeKnown, InnerSays, nothing, of-motif, InnerKnown, BreaksNone, FirstFault}
-use Rattle.scope.proofs.Ends.{pick-all, Kept, kept-go, kept-stop, iterate-holds, coded-between, ZeroOr, none-given, given}
-use Rattle.scope.proofs.Apart.{is-none, not-valid}
+use Rattle.scope.specs.Claims.{isCode, CodeKnown, InnerSays, nothing, of-motif, InnerKnown, FirstFault}
+use Rattle.scope.proofs.Ends.{pick-all, Kept, kept-go, kept-stop, iterate-holds, Coded, ZeroOr, none-given, given}
+use Rattle.scope.proofs.Apart.{clash-of, not-valid}
+use Rattle.scope.proofs.Broken.{breaks-none}
 use Rattle.scope.proofs.Through.{through}
 use Rattle.scope.proofs.Placed.{motif-placed}
 use Rattle.scope.proofs.Codes.{header-good}
@@ -30,15 +31,40 @@ use Rattle.scope.proofs.Runs.{runs-of}
 use Rattle.scope.proofs.Sessions.{reached-judged}
 use Rattle.scope.proofs.Places.{between-start}
 
-code-low : (k : ℕ) → ZeroOr k → k ≤ 29
-code-low k none-given = omega arith
-code-low k (given c) = let h = coded-between k c in omega arith
+-- a number of a range is one of a wider range
+widen : (a b c d k : ℕ) → c ≤ a → b ≤ d → between a b k ≡ true → between c d k ≡ true
+widen a b c d k h l e = by (leb a k) (leb k b) refl refl e
+  where
+    by : (x y : Bool) → leb a k ≡ x → leb k b ≡ y → pick x y false ≡ true → between c d k ≡ true
+    by true true f g e =
+        let m = leb-true a k f in
+        let n = leb-true k b g in
+        λ i. pick (le-leb c k (omega arith) i) (le-leb k d (omega arith) i) false
+    by true false f g e = clash-of (sym e)
+    by false y f g e = clash-of (sym e)
 
-code-entered : (gray : Bool) (job : List ℕ) (room : ℕ) {e : Entry} → Entered e → outcomeAt gray every job room e .code ≤ 29
+or-true : (a b : Bool) → b ≡ true → (a || b) ≡ true
+or-true true b e = refl
+or-true false b e = e
+
+coded-known : (k : ℕ) → Coded k → isCode k ≡ true
+coded-known k c = by (between 2 19 k) (between 21 28 k) (between 32 32 k) refl refl refl c
+  where
+    by : (x y z : Bool) → between 2 19 k ≡ x → between 21 28 k ≡ y → between 32 32 k ≡ z → T (x || (y || z)) → isCode k ≡ true
+    by true y z e f g t = λ i. widen 2 19 0 19 k (omega arith) (omega arith) e i || (between 21 29 k || between 32 32 k)
+    by false true z e f g t = or-true (between 0 19 k) (between 21 29 k || between 32 32 k) (λ i. widen 21 28 21 29 k (omega arith) (omega arith) f i || between 32 32 k)
+    by false false true e f g t = or-true (between 0 19 k) (between 21 29 k || between 32 32 k) (or-true (between 21 29 k) (between 32 32 k) g)
+    by false false false e f g t = absurd t
+
+code-late : (k : ℕ) → ZeroOr k → isCode k ≡ true
+code-late k none-given = refl
+code-late k (given c) = coded-known k c
+
+code-entered : (gray : Bool) (job : List ℕ) (room : ℕ) {e : Entry} → Entered e → isCode (outcomeAt gray every job room e .code) ≡ true
 unfolding outcomeAt
-code-entered gray job room short-work = omega arith
-code-entered gray job room long-job = omega arith
-code-entered gray job room Entered.inside = code-low _ (late-code (header-late gray job room (header-good job)))
+code-entered gray job room short-work = refl
+code-entered gray job room long-job = refl
+code-entered gray job room Entered.inside = code-late _ (late-code (header-late gray job room (header-good job)))
 
 pub code-known : CodeKnown
 unfolding verdictOf outcomeOf
@@ -98,7 +124,7 @@ data Whose (c : Case) : Refusal → Type 0 where
   motif's : {code inner : ℕ} → c .made ≡ faulty code inner → Whose c (Refusal.refused code inner)
 
 own-whose : (c : Case) (m : Judged) → c .made ≡ m → (r : Refusal) → Whose c r → Whose c (ownOr m r)
-own-whose c (valid ops d) e r h = h
+own-whose c (valid ops) e r h = h
 own-whose c (faulty code inner) e r h = motif's e
 
 whose : (codes : ℕ → Bool) (c : Case) (rs : List Rule) → Whose c (firstBroken codes c rs)
@@ -108,11 +134,11 @@ whose codes c (rule k broken ∷ rs) = pick-all (Whose c) (codes k && broken c) 
 whose codes c (motifs-own ∷ rs) = own-whose c (c .made) refl (firstBroken codes c rs) (whose codes c rs)
 
 -- a faulty motif is judged at an EndStream
-at-end : (set : Setting) (held : List Motif) (joined : List ℕ) (tag code inner : ℕ) → judgedAt set held joined tag ≡ faulty code inner → (tag ≡ 0x5d) × (motifOf set held joined ≡ faulty code inner)
+at-end : (set : Setting) (joined : List ℕ) (tag code inner : ℕ) → judgedAt set joined tag ≡ faulty code inner → (tag ≡ 0x5d) × (motifOf set joined ≡ faulty code inner)
 unfolding judgedAt
-at-end set held joined tag code inner e = by (eqb tag 0x5d) refl e
+at-end set joined tag code inner e = by (eqb tag 0x5d) refl e
   where
-    by : (b : Bool) → eqb tag 0x5d ≡ b → pick b (motifOf set held joined) (valid [] 1) ≡ faulty code inner → (tag ≡ 0x5d) × (motifOf set held joined ≡ faulty code inner)
+    by : (b : Bool) → eqb tag 0x5d ≡ b → pick b (motifOf set joined) (valid []) ≡ faulty code inner → (tag ≡ 0x5d) × (motifOf set joined ≡ faulty code inner)
     by true f g = (eqb-true tag 0x5d f, g)
     by false f g = not-valid (sym g)
 
@@ -129,8 +155,8 @@ module _ (set : Setting) (s : List ℕ) (room : ℕ) where
   refused-inner st o code inner r rule-of-job = nothing refl
   refused-inner st o code inner r (motif's e) =
       let x = sessionOf (st .place) in
-      let h = at-end set (x .held) (joinedOf (x .busy)) (o .tag) code inner e in
-      of-motif (h .1) (motif-placed set (x .held) (joinedOf (x .busy)) code inner (h .1)) (read-tag s (contextOf every set (st .place)) (st .at) o r ∙ h .0)
+      let h = at-end set (joinedOf (x .busy)) (o .tag) code inner e in
+      of-motif (h .1) (motif-placed set (joinedOf (x .busy)) code inner (h .1)) (read-tag s (contextOf every set (st .place)) (st .at) o r ∙ h .0)
 
   ends-inner : (st : State) (e : Outcome) → Ends every set s room st e → InnerSays set s e
   ends-inner st e (ended r) = end-inner st (st .place)
@@ -154,22 +180,6 @@ entry-inner gray job room Entry.admitted = header-inner gray job room (headerOf 
 pub inner-known : InnerKnown
 unfolding outcomeOf
 inner-known gray job work room = entry-inner gray job room (entryOf (length job) work)
-
--- where no rule refuses, none is broken
-breaks-none : (c : Case) (rs : List Rule) → firstBroken every c rs ≡ Refusal.none → BreaksNone c rs
-unfolding firstBroken
-breaks-none c [] e = BreaksNone.none
-breaks-none c (rule k broken ∷ rs) e = by (broken c) refl e (breaks-none c rs)
-  where
-    by : (b : Bool) → broken c ≡ b → pick b (Refusal.refused k outer) (firstBroken every c rs) ≡ Refusal.none → (firstBroken every c rs ≡ Refusal.none → BreaksNone c rs)
-        → BreaksNone c (rule k broken ∷ rs)
-    by true f g h = absurd (is-none g)
-    by false f g h = BreaksNone.kept f (h g)
-breaks-none c (motifs-own ∷ rs) e = by (c .made) refl e (breaks-none c rs)
-  where
-    by : (m : Judged) → c .made ≡ m → ownOr m (firstBroken every c rs) ≡ Refusal.none → (firstBroken every c rs ≡ Refusal.none → BreaksNone c rs) → BreaksNone c (motifs-own ∷ rs)
-    by (valid ops d) f g h = BreaksNone.sound f (h g)
-    by (faulty code inner) f g h = absurd (is-none g)
 
 pub first-fault : FirstFault
 first-fault set job work room next h k e = (

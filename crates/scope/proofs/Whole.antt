@@ -102,7 +102,7 @@ module _ (set : Setting) (s : List ℕ) (room : ℕ) where
 
       on-operator : onward full (onRead every set s room st (Read.operator o)) .code ≡ 0 → Fine (onward lay (onRead layout set s 0 st (Read.operator o)))
       unfolding onRead onCase caseOf
-      on-operator l = on-refusal (firstBroken every c (rules room)) refl (broken-coded every room c (judged-good set _ _ (o .tag))) l
+      on-operator l = on-refusal (firstBroken every c (rules room)) refl (broken-coded every room c (judged-good set _ (o .tag))) l
 
     on-both : {r q : Read} → Asks (sessionOf (st .place) .opened) r q
         → GoodRead (length s) (st .at) (mayCome (phaseOf (st .place)) (sessionOf (st .place) .opened)) r

@@ -130,11 +130,11 @@ step a w =
       wrong = w .wrong || clash (a .space) (w .page .gray);
     }
 
--- an operator as it is performed: the motif in which it stands (0 is the job, 1 the first motif of the session, and so on), the place of its tag
--- there, and what it needs and does
+-- an operator as it is performed: the motif in which it stands (0 is the job, 1 the first motif of the session, and so on), the operator as it is read there, and
+-- what it needs and does
 pub record Stroke : Type 0 where
   pub motif : ℕ
-  pub at : ℕ
+  pub op : Operator
   pub act : Act
 
 -- a row of operators performed to its end

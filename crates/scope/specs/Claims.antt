@@ -16,12 +16,14 @@ use Rattle.scope.specs.Attributes.{valueIn, bytesIn}
 use Rattle.scope.specs.Data.{Image, bitsOf, blockDue}
 use Rattle.scope.specs.Order.{lengthFits}
 use Rattle.scope.specs.Arm.{Stroke}
-use Rattle.scope.specs.Motif.{Own, Motif, Judged, motifOf}
+use Rattle.scope.specs.Motif.{Own, Motif, Held, heldAs, isHeld, bytesHeld, Judged, motifOf}
+use Rattle.scope.specs.Calls.{nothing as nothing-met, met}
+use Rattle.scope.specs.Reach.{fits, lost, holds, calledBy, Ring}
 use Rattle.scope.specs.Setting.{Setting, headed, settingOf}
-use Rattle.scope.specs.Session.{outside, sessionOf, joinedOf, rowFor}
+use Rattle.scope.specs.Session.{Session, reading, outside, inside, sessionOf, joinedOf, rowFor}
 use Rattle.scope.specs.Names.{BeginSession, SetDefaultGS, BlockHeight, BeginStream, ReadStream, EndStream, ExecStream, StreamName}
 use Rattle.scope.specs.Judge.{State, Case, Rule, rule, motifs-own, rules, outer, Outcome, starting}
-use Rattle.scope.specs.Runs.{caseAt, Performs, Runs, Comes}
+use Rattle.scope.specs.Runs.{caseAt, next, Performs, Runs, Comes}
 use Rattle.scope.specs.Verdict.{every, layout, verdictOf, outcomeOf, attributeRecord, operatorRecord, listOf, zeros, workAfter}
 use Rattle.scope.specs.Plain.{unfoldingOf, comes, atStart}
 
@@ -55,15 +57,19 @@ PassesExactly =
 abbrev pub Within : Type 0
 Within = (gray : Bool) (job : List ℕ) (work room : ℕ) → verdictOf gray job work room .position ≤ length job
 
--- the code of a verdict is one of 0 to 29
+-- the codes: 0 to 29 but 20, which is retired, and 32
+abbrev pub isCode : ℕ → Bool
+isCode code = between 0 19 code || (between 21 29 code || between 32 32 code)
+
+-- the code of a verdict is one of them
 abbrev pub CodeKnown : Type 0
-CodeKnown = (gray : Bool) (job : List ℕ) (work room : ℕ) → verdictOf gray job work room .code ≤ 29
+CodeKnown = (gray : Bool) (job : List ℕ) (work room : ℕ) → isCode (verdictOf gray job work room .code) ≡ true
 
 -- what inner says: nothing; or the motif that was being read is faulty, by its code and at a place of its own or at its end, and the position is that of an
 -- EndStream
 pub data InnerSays (set : Setting) (job : List ℕ) (e : Outcome) : Type 0 where
   nothing : e .inner ≡ outer → InnerSays set job e
-  of-motif : motifOf set (sessionOf (e .state .place) .held) (joinedOf (sessionOf (e .state .place) .busy)) ≡ Judged.faulty (e .code) (e .inner)
+  of-motif : motifOf set (joinedOf (sessionOf (e .state .place) .busy)) ≡ Judged.faulty (e .code) (e .inner)
       → e .inner ≤ length (joinedOf (sessionOf (e .state .place) .busy)) → getD job (e .position) 0 ≡ EndStream → InnerSays set job e
 
 -- inner is 4294967295 unless a motif is faulty
@@ -74,7 +80,7 @@ InnerKnown = (gray : Bool) (job : List ℕ) (work room : ℕ) → InnerSays (set
 pub data BreaksNone (c : Case) : List Rule → Type 0 where
   none : BreaksNone c []
   kept : {code : ℕ} {broken : Case → Bool} {rs : List Rule} → broken c ≡ false → BreaksNone c rs → BreaksNone c (rule code broken ∷ rs)
-  sound : {ops : List Own} {depth : ℕ} {rs : List Rule} → c .made ≡ Judged.valid ops depth → BreaksNone c rs → BreaksNone c (motifs-own ∷ rs)
+  sound : {ops : List Own} {rs : List Rule} → c .made ≡ Judged.valid ops → BreaksNone c rs → BreaksNone c (motifs-own ∷ rs)
 
 -- the first fault: of a job that is let in and has a header, one operator after the other is performed, each of which is read without a fault and breaks no rule;
 -- and there its judging ends, at the end of the job, at what reading refuses, or at an operator that a rule refuses
@@ -328,28 +334,71 @@ pub data Collects (s name : List ℕ) : List ℕ → List Operator → Type 0 wh
   reads : {bytes : List ℕ} {o : Operator} {os : List Operator} → o .tag ≡ ReadStream → Collects s name bytes os
       → Collects s name (bytes ++ take (o .length) (drop (o .first) s)) (o ∷ os)
 
--- a motif of this name and these bytes is defined among some operators: a BeginStream of the name, ReadStreams of the bytes, an EndStream
+-- among some operators a motif of this name is defined, and these are its bytes by its last definition: a BeginStream of the name, ReadStreams of the bytes, an
+-- EndStream; and no later one ends a motif of that name
 pub data Defines (s name bytes : List ℕ) : List Operator → Type 0 where
   ends : {o : Operator} {os : List Operator} → o .tag ≡ EndStream → Collects s name bytes os → Defines s name bytes (o ∷ os)
-  before : {o : Operator} {os : List Operator} → Defines s name bytes os → Defines s name bytes (o ∷ os)
+  before : {o : Operator} {os : List Operator} → ((others : List ℕ) → o .tag ≡ EndStream → Collects s name others os → ⊥) → Defines s name bytes os
+      → Defines s name bytes (o ∷ os)
 
--- all these motifs are defined among some operators, and their own operators are those of their bytes, judged with the motifs defined before
+-- all these motifs are defined among some operators, each by a name of its own, and their own operators are those of their bytes
 pub data AllDefined (set : Setting) (s : List ℕ) (since : List Operator) : List Motif → Type 0 where
   none : AllDefined set s since []
-  more : {m : Motif} {ms : List Motif} → Defines s (m .name) (m .bytes) since → motifOf set ms (m .bytes) ≡ Judged.valid (m .ops) (m .depth) → AllDefined set s since ms
-      → AllDefined set s since (m ∷ ms)
+  more : {m : Motif} {ms : List Motif} → Defines s (m .name) (m .bytes) since → heldAs (m .name) ms ≡ Held.none → motifOf set (m .bytes) ≡ Judged.valid (m .ops)
+      → AllDefined set s since ms → AllDefined set s since (m ∷ ms)
 
--- a motif is known only inside the session that defined it: in every state that judging a job comes to, each motif that is held was defined since the last
--- BeginSession
+-- a motif is known only inside the session that defined it, and by its last definition there: in every state that judging a job comes to, each motif that is held
+-- was so defined since the last BeginSession
 abbrev pub OwnMotifs : Type 0
 OwnMotifs =
     (set : Setting) (job : List ℕ) (room next : ℕ) (os : List Operator) (st : State) → Runs every set job room (starting next) os st
     → AllDefined set job (ofSession (st .past)) (sessionOf (st .place) .held)
 
+-- the bytes that the motif of a name takes, and its number; 0 where the name is not held
+abbrev pub roomOf : Held → ℕ
+roomOf (Held.is m) = length (m .bytes)
+roomOf Held.none = 0
+
+abbrev pub numberOf : Held → ℕ
+numberOf (Held.is m) = m .number
+numberOf Held.none = 0
+
+-- what is held before and after the end of a motif of this name and these bytes: the name holds it from then on, and every other name what it held; a motif that
+-- is replaced leaves its number, and its room
+pub record Replaced (name bytes : List ℕ) (before after : List Motif) : Type 0 where
+  pub held : (m : Motif) × (heldAs name after ≡ Held.is m) × (m .bytes ≡ bytes)
+  pub others : (other : List ℕ) → (other ≡ name → ⊥) → heldAs other after ≡ heldAs other before
+  pub number : numberOf (heldAs name after) ≡ pick (isHeld (heldAs name before)) (numberOf (heldAs name before)) (suc (length before))
+  pub room : bytesHeld after + roomOf (heldAs name before) ≡ bytesHeld before + length bytes
+
+-- request 8: so it is with every EndStream that is performed
+abbrev pub Replaces : Type 0
+Replaces =
+    (set : Setting) (job : List ℕ) (room : ℕ) (st : State) (o : Operator) (x : Session) (name bytes : List ℕ) → Performs every set job room st o → o .tag ≡ EndStream
+    → st .place ≡ inside x → x .busy ≡ reading name bytes → Replaced name bytes (x .held) (sessionOf (next set job st o .place) .held)
+
+-- what a call meets, in words of what it reaches by at most d calls: a name that is not held
+abbrev pub MissingExactly : Type 0
+MissingExactly = (held : List Motif) (d : ℕ) (name : List ℕ) → (met held d [] name .missing ≡ true) ↔ (lost (holds held) (calledBy held) d name ≡ true)
+
+-- a motif that calls itself, directly or through others
+abbrev pub RingExactly : Type 0
+RingExactly = (held : List Motif) (d : ℕ) (name : List ℕ) → (met held d [] name .again ≡ true) ↔ Ring held d name
+
+-- and it meets nothing exactly if its motif and all that it reaches are held and nest within so many
+abbrev pub NestsExactly : Type 0
+NestsExactly = (held : List Motif) (d : ℕ) (name : List ℕ) → (met held (suc d) [] name ≡ nothing-met) ↔ (fits (holds held) (calledBy held) (suc d) name ≡ true)
+
+-- at every moment a session holds at most 64 motifs, and with the one that is being read at most 16,384 bytes of them
+abbrev pub Bounded : Type 0
+Bounded =
+    (set : Setting) (job : List ℕ) (room at : ℕ) (os : List Operator) (st : State) → Runs every set job room (starting at) os st
+    → (length (sessionOf (st .place) .held) ≤ 64) × (bytesHeld (sessionOf (st .place) .held) + length (joinedOf (sessionOf (st .place) .busy)) ≤ 16384)
+
 -- an operator as it is performed, x, is one of these own operators of a motif
 pub data Among (x : Stroke) : List Own → Type 0 where
-  does-it : {os : List Own} → Among x (Own.does (x .at) (x .act) ∷ os)
-  calls-it : {name : List ℕ} {os : List Own} → Among x (Own.calls (x .at) name ∷ os)
+  does-it : {os : List Own} → Among x (Own.does (x .op) (x .act) ∷ os)
+  calls-it : {name : List ℕ} {os : List Own} → Among x (Own.calls (x .op) name ∷ os)
   later : {o : Own} {os : List Own} → Among x os → Among x (o ∷ os)
 
 -- what is performed for an operator of the job: itself; or an operator of a motif that is defined among some operators
@@ -369,7 +418,7 @@ OwnStrokes =
     (set : Setting) (job : List ℕ) (room next : ℕ) (os : List Operator) (st : State) (o : Operator) → Runs every set job room (starting next) os st
     → AllDrawn job (ofSession (st .past)) (rowFor set job (sessionOf (st .place) .held) o)
 
--- an ExecStream that is performed, in whatever job, names a motif that was defined in its own session
+-- an ExecStream that is performed, in whatever job, names a motif that was defined in its own session, with the bytes of its last definition
 abbrev pub OwnCalls : Type 0
 OwnCalls =
     (gray : Bool) (job : List ℕ) (work room : ℕ) (later before : List Operator) (o : Operator) → outcomeOf gray every job work room .state .past ≡ later ++ (o ∷ before)

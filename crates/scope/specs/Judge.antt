@@ -1,8 +1,8 @@
--- Judging: operators to a verdict. 01, "Verdicts": the rules after reading, in their order, and the state after an operator.
+-- Judging: operators to a verdict. 01, "Verdicts", and 02, item 8: the rules after reading, in their order, and the state after an operator.
 -- Assumes nothing.
 use Prim.Native.Nat.{ℕ, suc, _+_, _-_, _*_}
 use mathlib.Core.Bool.{Bool, true, false, not, _&&_, _||_}
-use mathlib.Core.List.{List, [], _∷_}
+use mathlib.Core.List.{List, [], _∷_, _++_}
 use lib.ListN.{length}
 use lib.Dec.{leb, ltb, eqb}
 use Rattle.scope.specs.Choice.{pick}
@@ -11,6 +11,7 @@ use Rattle.scope.specs.Attributes.{bytesIn}
 use Rattle.scope.specs.Reading.{Context, Operator, Read, operatorAt}
 use Rattle.scope.specs.Arm.{Seen, walk, from}
 use Rattle.scope.specs.Motif.{Motif, heldAs, isHeld, bytesHeld, Judged, valid, faulty, motifOf}
+use Rattle.scope.specs.Calls.{Met, nothing, met}
 use Rattle.scope.specs.Setting.{Setting}
 use Rattle.scope.specs.Session.{Session, Place, outside, inside, sessionOf, phaseOf, pageOf, joinedOf, rowFor, placeAfter}
 use Rattle.scope.specs.Names.{EndStream, StreamName, BeginStream, ReadStream, ExecStream}
@@ -27,10 +28,15 @@ pub record State : Type 0 where
   pub records : ℕ
   pub past : List Operator
 
-unfoldable pub judgedAt : Setting → List Motif → List ℕ → ℕ → Judged
-judgedAt set held joined tag = pick (eqb tag EndStream) (motifOf set held joined) (valid [] 1)
+-- the judgement of the motif that an operator ends
+unfoldable pub judgedAt : Setting → (joined : List ℕ) → (tag : ℕ) → Judged
+judgedAt set joined tag = pick (eqb tag EndStream) (motifOf set joined) (valid [])
 
--- what the rules look at: the session, the records with this operator's, the operator, its name, the arm after it, its motif's judgement
+-- what an operator of the job meets in the motifs that it calls
+unfoldable pub metAt : List Motif → (name : List ℕ) → (tag : ℕ) → Met
+metAt held name tag = pick (eqb tag ExecStream) (met held 32 [] name) nothing
+
+-- what the rules look at: the session, the records with this operator's, the operator, its name, the arm after it, its motif's judgement, what its call meets
 pub record Case : Type 0 where
   pub session : Session
   pub records : ℕ
@@ -38,6 +44,7 @@ pub record Case : Type 0 where
   pub name : List ℕ
   pub seen : Seen
   pub made : Judged
+  pub met : Met
 
 unfoldable pub caseOf : Setting → List ℕ → State → Session → Operator → Case
 caseOf set s st x o =
@@ -47,22 +54,27 @@ caseOf set s st x o =
       op = o;
       name = bytesIn s (o .attrs) StreamName;
       seen = walk (rowFor set s (x .held) o) (from (pageOf (x .busy)) (st .performed));
-      made = judgedAt set (x .held) (joinedOf (x .busy)) (o .tag);
+      made = judgedAt set (joinedOf (x .busy)) (o .tag);
+      met = metAt (x .held) (bytesIn s (o .attrs) StreamName) (o .tag);
     }
 
--- 19: BeginStream with 64 held, or ReadStream past 16,384 bytes
+-- 19: BeginStream of a new name with 64 held, or ReadStream past 16,384 bytes; a motif that is being replaced is still held
 unfoldable pub tooMuch : Case → Bool
 tooMuch c =
-    (eqb (c .op .tag) BeginStream && leb 64 (length (c .session .held)))
+    (eqb (c .op .tag) BeginStream && (leb 64 (length (c .session .held)) && not (isHeld (heldAs (c .name) (c .session .held)))))
     || (eqb (c .op .tag) ReadStream && ltb 16384 (bytesHeld (c .session .held) + (length (joinedOf (c .session .busy)) + c .op .length)))
-
--- 20: BeginStream with a held name
-unfoldable pub nameHeld : Case → Bool
-nameHeld c = eqb (c .op .tag) BeginStream && isHeld (heldAs (c .name) (c .session .held))
 
 -- 21: name not held
 unfoldable pub nameMissing : Case → Bool
-nameMissing c = eqb (c .op .tag) ExecStream && not (isHeld (heldAs (c .name) (c .session .held)))
+nameMissing c = c .met .missing
+
+-- 32: a motif calls itself, directly or through others
+unfoldable pub callsItself : Case → Bool
+callsItself c = c .met .again
+
+-- 22: nesting over 32
+unfoldable pub tooDeep : Case → Bool
+tooDeep c = c .met .deep
 
 -- 17: source not open, of a call; of another operator reading has judged it
 unfoldable pub sourceClosed : Case → Bool
@@ -89,20 +101,35 @@ pub data Rule : Type 0 where
   rule : (code : ℕ) → (broken : Case → Bool) → Rule
   motifs-own : Rule
 
--- the rules after reading, in the order in which they are judged, with so many bytes of room for the list
-unfoldable pub rules : ℕ → List Rule
-rules room =
+-- the rules of motifs and their names, which are layout rules
+unfoldable pub early : List Rule
+early =
     rule 19 tooMuch
-    ∷ rule 20 nameHeld
-    ∷ rule 21 nameMissing
     ∷ motifs-own
-    ∷ rule 17 sourceClosed
+    ∷ rule 21 nameMissing
+    ∷ rule 32 callsItself
+    ∷ rule 22 tooDeep
+    ∷ []
+
+-- the rules of the arm's state
+unfoldable pub armed : List Rule
+armed =
+    rule 17 sourceClosed
     ∷ rule 23 savedOver
     ∷ rule 24 cursorUnset
     ∷ rule 25 spaceWrong
-    ∷ rule 26 countOver
+    ∷ []
+
+-- the rules of numbers that grow: operators performed, and records, with so many bytes of room for the list
+unfoldable pub limits : ℕ → List Rule
+limits room =
+    rule 26 countOver
     ∷ rule 28 (roomOver room)
     ∷ []
+
+-- the rules after reading, in the order in which they are judged
+unfoldable pub rules : ℕ → List Rule
+rules room = early ++ (armed ++ limits room)
 
 -- a refusal: its code and inner place
 pub data Refusal : Type 0 where
@@ -110,7 +137,7 @@ pub data Refusal : Type 0 where
   refused : (code : ℕ) → (inner : ℕ) → Refusal
 
 abbrev pub ownOr : Judged → Refusal → Refusal
-ownOr (valid ops d) r = r
+ownOr (valid ops) r = r
 ownOr (faulty code inner) r = refused code inner
 
 -- the first rule broken, of those whose codes are given

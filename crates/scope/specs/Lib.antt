@@ -13,7 +13,10 @@ pub mod Order
 pub mod Reading
 pub mod Arm
 pub mod Motif
+pub mod Calls
+pub mod Reach
 pub mod Session
+pub mod Sound
 pub mod Judge
 pub mod Verdict
 pub mod Plain

@@ -1,10 +1,10 @@
--- 01, "Motifs": what is held, what a call unfolds to, and how a motif is judged at EndStream.
+-- 01, "Motifs", and 02, item 8: what is held, and how a motif is judged at EndStream. It is judged from its bytes alone: it may name a motif that is not held.
 -- Assumes nothing.
-use Prim.Native.Nat.{ℕ, suc, _+_, _-_, max}
+use Prim.Native.Nat.{ℕ, suc, _+_, _-_}
 use mathlib.Core.Bool.{Bool, true, false}
 use mathlib.Core.List.{List, [], _∷_, _++_}
 use lib.ListN.{length}
-use lib.Dec.{leb, eqb}
+use lib.Dec.{eqb}
 use Rattle.scope.specs.Choice.{pick, same}
 use Rattle.scope.specs.Iterate.{Next, go, stop, iterate}
 use Rattle.scope.specs.Header.{Header, headerOf}
@@ -14,21 +14,20 @@ use Rattle.scope.specs.Attributes.{valueIn, bytesIn}
 use Rattle.scope.specs.Data.{Image}
 use Rattle.scope.specs.Order.{Phase, in-motif, in-image}
 use Rattle.scope.specs.Reading.{Context, Operator, Read, operatorAt}
-use Rattle.scope.specs.Arm.{Act, idle, actOf, Stroke}
+use Rattle.scope.specs.Arm.{Act, actOf}
 use Rattle.scope.specs.Names.{SourceWidth, ColorDepth, SourceHeight, BeginImage, ReadImage, BlockHeight, EndImage, PushGS, PopGS, ExecStream, StreamName}
 
--- an operator of a motif, with the place of its tag: it does something, or calls by a name
+-- an operator of a motif, as it is read there: it does something, or calls by a name
 pub data Own : Type 0 where
-  does : (at : ℕ) → Act → Own
-  calls : (at : ℕ) → (name : List ℕ) → Own
+  does : Operator → Act → Own
+  calls : Operator → (name : List ℕ) → Own
 
--- a held motif: its name, its bytes, its number (1 for the first of the session), the operators in it, and how deep it nests (1 without calls)
+-- a held motif: its name, its bytes, its number (1 for the first of the session), the operators in it
 pub record Motif : Type 0 where
   pub name : List ℕ
   pub bytes : List ℕ
   pub number : ℕ
   pub ops : List Own
-  pub depth : ℕ
 
 -- the motif of a name, or none
 pub data Held : Type 0 where
@@ -43,17 +42,6 @@ heldAs n (m ∷ ms) = elim (same (m .name) n) [ true ↦ is m | false ↦ heldAs
 unfoldable pub isHeld : Held → Bool
 isHeld (is m) = true
 isHeld none = false
-
--- the row of operators performed for the own operators of motif k, where a call of n performs f n besides
-unfoldable pub flat : (List ℕ → List Stroke) → ℕ → List Own → List Stroke
-flat f k [] = []
-flat f k (does at a ∷ os) = record { motif = k; at = at; act = a } ∷ flat f k os
-flat f k (calls at n ∷ os) = record { motif = k; at = at; act = idle } ∷ (f n ++ flat f k os)
-
--- the row that a name unfolds to: its motif's operators, the calls among them unfolded through the motifs that were held before it
-unfoldable pub unfolded : List Motif → List ℕ → List Stroke
-unfolded [] n = []
-unfolded (m ∷ ms) n = elim (same (m .name) n) [ true ↦ flat (unfolded ms) (m .number) (m .ops) | false ↦ unfolded ms n ]
 
 -- the bytes that the held motifs take
 unfoldable pub bytesHeld : List Motif → ℕ
@@ -84,9 +72,9 @@ pictureAfter high s o p =
 unfoldable pub savedAfter : ℕ → ℕ → ℕ
 savedAfter tag n = pick (eqb tag PushGS) (suc n) (pick (eqb tag PopGS) (n - 1) n)
 
--- a motif's judgement: valid, with its operators and how deep it nests; or a code and a place inside it
+-- a motif's judgement: valid, with its operators; or a code and a place inside it
 pub data Judged : Type 0 where
-  valid : List Own → (depth : ℕ) → Judged
+  valid : List Own → Judged
   faulty : (code : ℕ) → (inner : ℕ) → Judged
 
 -- where the judging of a motif stands
@@ -95,7 +83,6 @@ pub record Inside : Type 0 where
   pub saved : ℕ
   pub picture : Picture
   pub ops : List Own
-  pub depth : ℕ
 
 unfoldable pub phaseIn : ℕ → Picture → Phase
 phaseIn saved none = in-motif saved
@@ -105,51 +92,40 @@ phaseIn saved (being i) = in-image i
 unfoldable pub contextIn : Setting → Inside → Context
 contextIn set w = record { set = set; phase = phaseIn (w .saved) (w .picture); opened = true; asked = false }
 
--- a call: only of a motif already held, and of one that is less than 32 deep
-unfoldable pub onCall : Operator → List ℕ → Inside → Held → Next Inside Judged
-onCall o n w none = stop (faulty 21 (o .at))
-onCall o n w (is m) =
-    pick (leb 32 (m .depth)) (stop (faulty 22 (o .at)))
-    (go
-    (record { at = o .next; saved = w .saved; picture = w .picture; ops = w .ops ++ (calls (o .at) n ∷ []); depth = max (w .depth) (suc (m .depth)) }))
+-- an operator of a motif that was read
+unfoldable pub ownBy : Setting → List ℕ → Operator → Own
+ownBy set s o = pick (eqb (o .tag) ExecStream) (calls o (bytesIn s (o .attrs) StreamName)) (does o (actOf set s o))
 
-unfoldable pub onDeed : Setting → List ℕ → Operator → Inside → Next Inside Judged
-onDeed set s o w =
+-- the end: no image open and as many PopGS as PushGS, else 27
+unfoldable pub onEnd : List ℕ → Inside → Picture → Judged
+onEnd s w (being i) = faulty 27 (length s)
+onEnd s w none = pick (eqb (w .saved) 0) (valid (w .ops)) (faulty 27 (length s))
+
+unfoldable pub onRead : Setting → List ℕ → Inside → Read → Next Inside Judged
+onRead set s w (Read.no code place) = stop (faulty code place)
+onRead set s w Read.ended = stop (onEnd s w (w .picture))
+onRead set s w (Read.operator o) =
     go
     (record {
       at = o .next;
       saved = savedAfter (o .tag) (w .saved);
       picture = pictureAfter (set .high) s o (w .picture);
-      ops = w .ops ++ (does (o .at) (actOf set s o) ∷ []);
-      depth = w .depth;
+      ops = w .ops ++ (ownBy set s o ∷ []);
     })
 
--- the end: no image open and as many PopGS as PushGS, else 27
-unfoldable pub onEnd : List ℕ → Inside → Picture → Judged
-onEnd s w (being i) = faulty 27 (length s)
-onEnd s w none = pick (eqb (w .saved) 0) (valid (w .ops) (w .depth)) (faulty 27 (length s))
-
-unfoldable pub onRead : List Motif → Setting → List ℕ → Inside → Read → Next Inside Judged
-onRead held set s w (Read.no code place) = stop (faulty code place)
-onRead held set s w Read.ended = stop (onEnd s w (w .picture))
-onRead held set s w (Read.operator o) =
-    pick (eqb (o .tag) ExecStream)
-    (onCall o (bytesIn s (o .attrs) StreamName) w (heldAs (bytesIn s (o .attrs) StreamName) held))
-    (onDeed set s o w)
-
-unfoldable pub motifStep : List Motif → Setting → List ℕ → Inside → Next Inside Judged
-motifStep held set s w = onRead held set s w (operatorAt (contextIn set w) s (w .at))
+unfoldable pub motifStep : Setting → List ℕ → Inside → Next Inside Judged
+motifStep set s w = onRead set s w (operatorAt (contextIn set w) s (w .at))
 
 -- the judging of a motif from where it stands (the answer that `iterate` is given is never used: proofs/Falls)
-unfoldable pub judgedInside : List Motif → Setting → List ℕ → Inside → Judged
-judgedInside held set s = iterate (motifStep held set s) (faulty 5 0) (λ w. length s - w .at)
+unfoldable pub judgedInside : Setting → List ℕ → Inside → Judged
+judgedInside set s = iterate (motifStep set s) (faulty 5 0) (λ w. length s - w .at)
 
 -- a motif has the job's class, else 4
-unfoldable pub motifFrom : Setting → List Motif → List ℕ → Header → Judged
-motifFrom set held s (Header.no code place) = faulty code place
-motifFrom set held s (Header.is class high next) =
-    pick (sameClass class (set .class)) (judgedInside held (ofMotif set high) s (record { at = next; saved = 0; picture = none; ops = []; depth = 1 })) (faulty 4 12)
+unfoldable pub motifFrom : Setting → List ℕ → Header → Judged
+motifFrom set s (Header.no code place) = faulty code place
+motifFrom set s (Header.is class high next) =
+    pick (sameClass class (set .class)) (judgedInside (ofMotif set high) s (record { at = next; saved = 0; picture = none; ops = [] })) (faulty 4 12)
 
--- a motif judged at EndStream of a job with this setting, where these are held
-unfoldable pub motifOf : Setting → List Motif → List ℕ → Judged
-motifOf set held s = motifFrom set held s (headerOf s)
+-- a motif judged at EndStream of a job with this setting
+unfoldable pub motifOf : Setting → List ℕ → Judged
+motifOf set s = motifFrom set s (headerOf s)

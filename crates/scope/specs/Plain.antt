@@ -1,6 +1,6 @@
 -- Demand 3: the plain arm over a whole job. It performs each call and then the motif's own operators, and the calls in those likewise. It shares with the judge
 -- how operators are read and what an operator needs and does, and nothing else: it knows motifs by name and bytes, and reads the bytes of a motif, operator by
--- operator, whenever that motif is called. Which motif a name means is said in `knownAs` and `knownAfter` alone.
+-- operator, whenever that motif is called. A call means the motif that its name holds then: `knownAs` and `knownAfter` alone say which.
 -- Assumes nothing.
 use Prim.Native.Nat.{ℕ, zero, suc, _+_, _-_}
 use mathlib.Core.Bool.{Bool, true, false, not, _&&_, _||_}
@@ -114,8 +114,8 @@ knownAs n (m ∷ ms) = elim (same (m .name) n) [ true ↦ is (suc (length ms)) (
 unfoldable pub strokesOf : (List ℕ → List Stroke) → (k : ℕ) → Setting → List ℕ → Operator → List Stroke
 strokesOf call k set s o =
     pick (eqb (o .tag) ExecStream)
-    (record { motif = k; at = o .at; act = idle } ∷ call (bytesIn s (o .attrs) StreamName))
-    (record { motif = k; at = o .at; act = actOf set s o } ∷ [])
+    (record { motif = k; op = o; act = idle } ∷ call (bytesIn s (o .attrs) StreamName))
+    (record { motif = k; op = o; act = actOf set s o } ∷ [])
 
 -- where the arm stands in a motif: the place of the next item, the states that the motif has saved, its open image, the operators so far
 pub record Going : Type 0 where
@@ -174,11 +174,24 @@ doingAfter high s o resting =
 doingAfter high s o (reading n j) = pick (eqb (o .tag) ReadStream) (reading n (j ++ take (o .length) (drop (o .first) s))) resting
 doingAfter high s o (drawing i) = pick (eqb (o .tag) EndPage) resting (drawing (pictureAfter high s o i))
 
--- BeginSession begins with none and EndSession drops all; EndStream adds the motif that was read
+unfoldable pub isKnown : Found → Bool
+isKnown (is number bytes) = true
+isKnown none = false
+
+-- the bytes of a name's motif replaced, in its place
+unfoldable pub relearnt : (name bytes : List ℕ) → List Known → List Known
+relearnt n j [] = []
+relearnt n j (m ∷ ms) = elim (same (m .name) n) [ true ↦ record { name = n; bytes = j } ∷ ms | false ↦ m ∷ relearnt n j ms ]
+
+-- a motif that was read replaces the one of its name, or is the last one
+unfoldable pub learnt : (name bytes : List ℕ) → List Known → List Known
+learnt n j l = pick (isKnown (knownAs n l)) (relearnt n j l) (record { name = n; bytes = j } ∷ l)
+
+-- BeginSession begins with none and EndSession drops all; EndStream adds the motif that was read, or puts it in the place of the one of its name
 unfoldable pub knownAfter : Operator → Doing → List Known → List Known
 knownAfter o outside l = []
 knownAfter o resting l = pick (eqb (o .tag) EndSession) [] l
-knownAfter o (reading n j) l = pick (eqb (o .tag) ReadStream) l (record { name = n; bytes = j } ∷ l)
+knownAfter o (reading n j) l = pick (eqb (o .tag) ReadStream) l (learnt n j l)
 knownAfter o (drawing i) l = l
 
 -- where the unfolding of a job stands: the place of the next item, what the arm is at, the motifs that it knows, the arm, and the operators so far

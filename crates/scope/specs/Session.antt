@@ -1,4 +1,4 @@
--- 01, "Order of operators" and "Motifs": a job's sessions, what each holds, and where the job stands after an operator. No rule of a job stands
+-- 01, "Order of operators" and "Motifs", and 02, item 8: a job's sessions, what each holds, and where the job stands after an operator. No rule of a job stands
 -- here; a motif that ends is kept if `motifOf` finds it valid.
 -- Motifs, source and page stand inside a session: between sessions there is no place for one.
 -- Assumes nothing.
@@ -7,13 +7,14 @@ use mathlib.Core.Bool.{Bool, true, false}
 use mathlib.Core.List.{List, [], _∷_, _++_}
 use lib.ListN.{length, take, drop}
 use lib.Dec.{eqb}
-use Rattle.scope.specs.Choice.{pick}
+use Rattle.scope.specs.Choice.{pick, same}
 use Rattle.scope.specs.Setting.{Setting}
 use Rattle.scope.specs.Attributes.{bytesIn}
 use Rattle.scope.specs.Order.{Phase, between-sessions, in-session, in-stream, in-page, in-image}
 use Rattle.scope.specs.Reading.{Operator}
 use Rattle.scope.specs.Arm.{Page, blank, idle, actOf, Stroke}
-use Rattle.scope.specs.Motif.{Motif, unfolded, Picture, pictureAfter, Judged, valid, faulty, motifOf}
+use Rattle.scope.specs.Motif.{Own, Motif, heldAs, isHeld, Picture, pictureAfter, Judged, valid, faulty, motifOf}
+use Rattle.scope.specs.Calls.{unfolded}
 use Rattle.scope.specs.Names.{ExecStream, StreamName, OpenDataSource, CloseDataSource, BeginPage, BeginStream, ReadStream, EndPage, EndSession}
 
 -- in a session: at rest, reading a motif of a name (the bytes joined so far), in a page, perhaps with an image open
@@ -70,12 +71,19 @@ joinedOf (drawing p i) = []
 unfoldable pub rowFor : Setting → List ℕ → List Motif → Operator → List Stroke
 rowFor set s held o =
     pick (eqb (o .tag) ExecStream)
-    (record { motif = 0; at = o .at; act = idle } ∷ unfolded held (bytesIn s (o .attrs) StreamName))
-    (record { motif = 0; at = o .at; act = actOf set s o } ∷ [])
+    (record { motif = 0; op = o; act = idle } ∷ unfolded held 32 [] (bytesIn s (o .attrs) StreamName))
+    (record { motif = 0; op = o; act = actOf set s o } ∷ [])
 
--- EndStream: a motif that is not faulty becomes held
-unfoldable pub keptAs : List ℕ → List ℕ → Judged → List Motif → List Motif
-keptAs n j (valid ops d) held = record { name = n; bytes = j; number = suc (length held); ops = ops; depth = d } ∷ held
+-- the motif of a name replaced in its place: the new one keeps its number
+unfoldable pub replaced : (name bytes : List ℕ) → List Own → List Motif → List Motif
+replaced n j ops [] = []
+replaced n j ops (m ∷ ms) =
+    elim (same (m .name) n) [ true ↦ record { name = n; bytes = j; number = m .number; ops = ops } ∷ ms | false ↦ m ∷ replaced n j ops ms ]
+
+-- EndStream: a motif that is not faulty replaces the one that its name holds, or becomes held as the last one
+unfoldable pub keptAs : (name bytes : List ℕ) → Judged → List Motif → List Motif
+keptAs n j (valid ops) held =
+    pick (isHeld (heldAs n held)) (replaced n j ops held) (record { name = n; bytes = j; number = suc (length held); ops = ops } ∷ held)
 keptAs n j (faulty code inner) held = held
 
 -- the session after an operator, which has left the page so
@@ -90,7 +98,7 @@ sessionAfter set s o p resting x =
 sessionAfter set s o p (reading n j) x =
     pick (eqb (o .tag) ReadStream)
     (record { held = x .held; opened = x .opened; busy = reading n (j ++ take (o .length) (drop (o .first) s)) })
-    (record { held = keptAs n j (motifOf set (x .held) j) (x .held); opened = x .opened; busy = resting })
+    (record { held = keptAs n j (motifOf set j) (x .held); opened = x .opened; busy = resting })
 sessionAfter set s o p (drawing q i) x =
     pick (eqb (o .tag) EndPage)
     (record { held = x .held; opened = x .opened; busy = resting })
