@@ -8,13 +8,15 @@ use mathlib.Core.List.{List, [], _∷_, _++_}
 use lib.Dec.{eqb}
 use borrow.Author.Tests.{eqb-true, leb-true}
 use Rattle.scope.specs.Setting.{Setting}
-use Rattle.scope.specs.Choice.{pick, among, same}
+use Rattle.scope.specs.Choice.{pick, among}
 use Rattle.scope.specs.Item.{Attribute}
 use Rattle.scope.specs.Attributes.{valueIn}
 use Rattle.scope.specs.Arm.{Effect, push, pop, put, kept, to, effectOf, Act, idle, Stroke}
 use Rattle.scope.specs.Order.{drawn}
-use Rattle.scope.specs.Motif.{Own, does, calls, Motif, flat, unfolded, savedAfter}
-use Rattle.summary.specs.Balance.{mayDo, depthAfter, Level, Balanced, OwnLevel, HeldBalanced}
+use Rattle.scope.specs.Reading.{Operator}
+use Rattle.scope.specs.Motif.{Own, does, calls, savedAfter}
+use Rattle.scope.specs.Calls.{flat}
+use Rattle.summary.specs.Balance.{mayDo, depthAfter, Level, Balanced, OwnLevel}
 
 may-above : (e : Effect) (d k : ℕ) → mayDo e d → mayDo e (d + k)
 may-above push d k m = tt
@@ -59,33 +61,23 @@ level-call l r x d e m i b = level-append l (x ∷ r) d e e m (rw i (tt, balance
 pub own-level : (f : List ℕ → List Stroke) (k : ℕ) → ((n : List ℕ) → Balanced (f n)) → (os : List Own) (d e : ℕ) → OwnLevel d os e → Level d (flat f k os) e
 unfolding Level OwnLevel flat
 own-level f k b [] d e m = m
-own-level f k b (does at a ∷ os) d e m = (m .0, own-level f k b os (depthAfter (a .effect) d) e (m .1))
-own-level f k b (calls at n ∷ os) d e m = (tt, level-append (f n) (flat f k os) d d e (balanced-level (f n) d (b n)) (own-level f k b os d e m))
+own-level f k b (does o a ∷ os) d e m = (m .0, own-level f k b os (depthAfter (a .effect) d) e (m .1))
+own-level f k b (calls o n ∷ os) d e m = (tt, level-append (f n) (flat f k os) d d e (balanced-level (f n) d (b n)) (own-level f k b os d e m))
 
 own-append : (os qs : List Own) (d e g : ℕ) → OwnLevel d os e → OwnLevel e qs g → OwnLevel d (os ++ qs) g
 unfolding OwnLevel
 own-append [] qs d e g m n = rw m n
-own-append (does at a ∷ os) qs d e g m n = (m .0, own-append os qs (depthAfter (a .effect) d) e g (m .1) n)
-own-append (calls at k ∷ os) qs d e g m n = own-append os qs d e g m n
+own-append (does o a ∷ os) qs d e g m n = (m .0, own-append os qs (depthAfter (a .effect) d) e g (m .1) n)
+own-append (calls o k ∷ os) qs d e g m n = own-append os qs d e g m n
 
 -- an own operator more, and a call more
-pub own-does : (os : List Own) (at : ℕ) (a : Act) (d e : ℕ) → OwnLevel d os e → mayDo (a .effect) e → OwnLevel d (os ++ (does at a ∷ [])) (depthAfter (a .effect) e)
+pub own-does : (os : List Own) (o : Operator) (a : Act) (d e : ℕ) → OwnLevel d os e → mayDo (a .effect) e → OwnLevel d (os ++ (does o a ∷ [])) (depthAfter (a .effect) e)
 unfolding OwnLevel
-own-does os at a d e m n = own-append os (does at a ∷ []) d e (depthAfter (a .effect) e) m (n, refl)
+own-does os o a d e m n = own-append os (does o a ∷ []) d e (depthAfter (a .effect) e) m (n, refl)
 
-pub own-calls : (os : List Own) (at : ℕ) (n : List ℕ) (d e : ℕ) → OwnLevel d os e → OwnLevel d (os ++ (calls at n ∷ [])) e
+pub own-calls : (os : List Own) (o : Operator) (n : List ℕ) (d e : ℕ) → OwnLevel d os e → OwnLevel d (os ++ (calls o n ∷ [])) e
 unfolding OwnLevel
-own-calls os at n d e m = own-append os (calls at n ∷ []) d e e m refl
-
--- what a held name unfolds to is balanced
-pub unfolded-balanced : (ms : List Motif) → HeldBalanced ms → (n : List ℕ) → Balanced (unfolded ms n)
-unfolding HeldBalanced unfolded Balanced Level
-unfolded-balanced [] h n = refl
-unfolded-balanced (m ∷ ms) h n =
-    elim (same (m .name) n) as (λ (t : Bool). Balanced (elim t [ true ↦ flat (unfolded ms) (m .number) (m .ops) | false ↦ unfolded ms n ])) [
-      | true ↦ own-level (unfolded ms) (m .number) (unfolded-balanced ms (h .1)) (m .ops) 0 0 (h .0)
-      | false ↦ unfolded-balanced ms (h .1) n
-    ]
+own-calls os o n d e m = own-append os (calls o n ∷ []) d e e m refl
 
 -- an operator's tag says what its effect does to the number saved
 depth-pop : (n : ℕ) → depthAfter pop n ≡ n - 1

@@ -8,7 +8,9 @@ ghost use Rattle.arm.specs.Holds.{Holds};
 ghost use Rattle.arm.specs.Views.{actAs};
 ghost use Rattle.summary.specs.Balance.{Balanced};
 ghost use Rattle.summary.specs.Sums.{fresh, Ends, Sums};
-ghost use Rattle.arm.specs.Runs.{Runs};
+ghost use Rattle.arm.specs.Runs.{Runs, Kept};
+ghost use lib.ListN.{length};
+use crate::limits::capped;
 use crate::page::Act;
 use crate::page::Page;
 use crate::seen::Seen;
@@ -63,6 +65,18 @@ impl Both {
         let b = self.b;
         let c = a.step(act);
         let d = b.step(act);
+        Both { a: c, b: d }
+    }
+
+    // So many operators more that leave the page as it is, where one of them needs the cursor set or none does.
+    pub fn keep(self, count: usize, cursor: bool) -> Both
+        ensures { λ r. ⌜ ((row more : List Stroke) → Runs self row → Kept cursor more → count ≡ length more → Runs r (row ++ more)) ⌝ }
+    {
+        let a = self.a;
+        let b = self.b;
+        let few = capped(count);
+        let c = a.keep(few, cursor);
+        let d = b.keep(few, cursor);
         Both { a: c, b: d }
     }
 

@@ -14,6 +14,16 @@ pub fn add(n: u32, m: u32) -> u32
     1_000_001
 }
 
+// A count; past 1,000,000 it is 1,000,001.
+pub fn capped(n: usize) -> u32
+    ensures { λ r. ⌜ r ≡ min n 1_000_001 ⌝ }
+{
+    if 1_000_001 <= n {
+        return 1_000_001;
+    }
+    n as u32
+}
+
 // The most states saved, after m more at a time on top of l; past 24 it is 25.
 pub fn higher(most: u32, l: u32, m: u32) -> u32
     ensures { λ r. ⌜ ((x y : ℕ) → most ≡ min x 25 → m ≡ min y 25 → (y ≡ 0 → r ≡ min x 25) × (0 < y → r ≡ min (max x (y + l)) 25)) ⌝ }

@@ -2,6 +2,8 @@
 ghost use mathlib.Core.Path.{_≡_};
 ghost use mathlib.Core.Bool.{_||_, _&&_, not};
 ghost use mathlib.Core.List.{List, _∷_};
+ghost use Prim.Native.Nat.{min};
+ghost use lib.ListN.{length};
 ghost use Rattle.scope.specs.Choice.{pick};
 ghost use Rattle.scope.specs.Arm.{clash, step, walk, from, idle, Stroke};
 ghost use Rattle.scope.specs.Arm.{Seen as Arm·Seen};
@@ -9,7 +11,7 @@ ghost use Rattle.arm.specs.Views.{pageAs, spaceAs, actAs};
 ghost use Rattle.arm.specs.Codes.{codeOf};
 ghost use Rattle.arm.specs.Holds.{Holds};
 ghost use Rattle.summary.specs.Sums.{Sums};
-ghost use Rattle.arm.specs.Runs.{endsAt};
+ghost use Rattle.arm.specs.Runs.{endsAt, Kept};
 use crate::limits::add;
 use crate::limits::higher;
 use crate::page::Act;
@@ -111,6 +113,23 @@ impl Seen {
             source,
             lost,
             wrong,
+        }
+    }
+
+    // So many operators performed that leave the page as it is, where one of them needs the cursor set or none does.
+    pub fn keep(self, count: u32, cursor: bool) -> Seen
+        ensures { λ r. ⌜ ((w : Arm·Seen) (row : List Stroke) → Holds self w → Kept cursor row → count ≡ min (length row) 1_000_001 → Holds r (walk row w)) ⌝ }
+    {
+        let page = self.page;
+        let count = add(self.count, count);
+        let lost = either(self.lost, lacks(cursor, page.cursor));
+        Seen {
+            page,
+            count,
+            most: self.most,
+            source: self.source,
+            lost,
+            wrong: self.wrong,
         }
     }
 

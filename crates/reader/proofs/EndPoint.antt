@@ -1,4 +1,4 @@
--- A line by its end point with nothing between its items, in a page: how it is read.
+-- A line by its end point with nothing between its items: how it is read where it may come, as in a page and in a motif.
 -- Assumes nothing.
 use Prim.Native.Nat.{ℕ, _+_, _*_, _≤_, _<_}
 use mathlib.Core.Path.{_≡_, refl, sym, ap, _∙_}
@@ -16,7 +16,7 @@ use Rattle.scope.specs.Setting.{Setting}
 use Rattle.scope.specs.Table.{tableOne, tableTwo, table, lineIn, ruleIn}
 use Rattle.scope.specs.Attributes.{has, twoAt, pointIn, typeTaken, inRange, attributeCode, oneByOne, formCode}
 use Rattle.scope.specs.Data.{dueOf}
-use Rattle.scope.specs.Order.{in-page, drawn, mayCome, rowsFit}
+use Rattle.scope.specs.Order.{Phase, in-page, in-motif, drawn, mayCome, rowsFit}
 use Rattle.scope.specs.Reading.{Context, Read, withData, asWhole, withAttributes, withLine, scanned, operatorAt}
 use Rattle.number.proofs.Digits.{one-digit}
 use Rattle.items.proofs.Pairs.{numbers-all, scan-tag, black-item}
@@ -96,43 +96,58 @@ module _ (high : Bool) (s : List ℕ) (at bytes : ℕ) (p : IsPoint (getD s at 0
       ∙ ap (λ x. onward (scanFrom high s) (onPair s [] x)) pair-is
       ∙ scan-tag high s (at + 3 + bytes) (endPoint (getD s at 0) at ∷ []) (omega arith) (drawn-black d) (drawn-tag d)
 
--- a page with so many states saved
-abbrev pub inPage : (set : Setting) (opened : Bool) (saved : ℕ) → Context
-inPage set opened saved = record { set = set; phase = in-page saved; opened = opened; asked = true }
-
--- it breaks no rule of reading
-module _ (high gray opened : Bool) (saved : ℕ) (s : List ℕ) (at op : ℕ) where
-  lined : (class : Class) {point tag bytes : ℕ} → 0 < bytes → Point point bytes → pointIn (twoAt high s point (at + 1)) ≡ true → Drawn tag
-      → withLine (inPage (record { class = class; high = high; gray = gray }) opened saved) s tag op (endPoint point at ∷ []) (lineIn (table class) tag)
+-- it breaks no rule of reading, where it may come
+module _ (high gray opened asked : Bool) (phase : Phase) (s : List ℕ) (at op : ℕ) where
+  lined : (class : Class) {point tag bytes : ℕ} → 0 < bytes → Point point bytes → pointIn (twoAt high s point (at + 1)) ≡ true → Drawn tag → mayCome phase opened tag ≡ true
+      → withLine (record { set = record { class = class; high = high; gray = gray }; phase = phase; opened = opened; asked = asked }) s tag op (endPoint point at ∷ []) (lineIn (table class) tag)
       ≡ Read.operator (lineOf point tag at op)
-  unfolding withLine lineIn tableOne tableTwo table mayCome drawn among withAttributes oneByOne attributeCode ruleIn has twoAt typeTaken inRange asWhole formCode rowsFit withData dueOf
-  lined one h point-ubyte e drawn-path = refl
-  lined one h point-ubyte e drawn-rel = refl
-  lined one h point-uint16 e drawn-path = refl
-  lined one h point-uint16 e drawn-rel = refl
-  lined one h point-sint16 e drawn-path = refl
-  lined one h point-sint16 e drawn-rel = refl
-  lined one h point-real e drawn-path = rw e
-  lined one h point-real e drawn-rel = rw e
-  lined one h point-none e d = absurd (omega arith)
-  lined two h point-ubyte e drawn-path = refl
-  lined two h point-ubyte e drawn-rel = refl
-  lined two h point-uint16 e drawn-path = refl
-  lined two h point-uint16 e drawn-rel = refl
-  lined two h point-sint16 e drawn-path = refl
-  lined two h point-sint16 e drawn-rel = refl
-  lined two h point-real e drawn-path = rw e
-  lined two h point-real e drawn-rel = rw e
-  lined two h point-none e d = absurd (omega arith)
+  unfolding withLine lineIn tableOne tableTwo table among withAttributes oneByOne attributeCode ruleIn has twoAt typeTaken inRange asWhole formCode rowsFit withData dueOf
+  lined one h point-ubyte e drawn-path m = rw m
+  lined one h point-ubyte e drawn-rel m = rw m
+  lined one h point-uint16 e drawn-path m = rw m
+  lined one h point-uint16 e drawn-rel m = rw m
+  lined one h point-sint16 e drawn-path m = rw m
+  lined one h point-sint16 e drawn-rel m = rw m
+  lined one h point-real e drawn-path m = rw (m, e)
+  lined one h point-real e drawn-rel m = rw (m, e)
+  lined one h point-none e d m = absurd (omega arith)
+  lined two h point-ubyte e drawn-path m = rw m
+  lined two h point-ubyte e drawn-rel m = rw m
+  lined two h point-uint16 e drawn-path m = rw m
+  lined two h point-uint16 e drawn-rel m = rw m
+  lined two h point-sint16 e drawn-path m = rw m
+  lined two h point-sint16 e drawn-rel m = rw m
+  lined two h point-real e drawn-path m = rw (m, e)
+  lined two h point-real e drawn-rel m = rw (m, e)
+  lined two h point-none e d m = absurd (omega arith)
 
 -- the operator of such a line
 pub line-drawn : {high : Bool} {s : List ℕ} {at op : ℕ} → Line high s at op → Drawn (getD s op 0)
 line-drawn {high} {s} {at} {op} l = let k = l .is in let same : at + 1 + l .bytes + 2 ≡ op = omega arith in rw same at (l .ends .drawn)
 
-module _ (set : Setting) (opened : Bool) (saved : ℕ) (s : List ℕ) (at op : ℕ) where
-  pub read-line : Line (set .high) s at op → operatorAt (inPage set opened saved) s at ≡ Read.operator (lineOf (getD s at 0) (getD s op 0) at op)
-  unfolding operatorAt scanned
-  read-line l =
-      ap (scanned (inPage set opened saved) s)
-      (scan-is (set .high) s at (l .bytes) (is-point (l .some) (l .point)) (l .ends) ∙ ap (λ x. Scan.tagged (getD s x 0) x (endPoint (getD s at 0) at ∷ [])) (sym (l .is)))
-      ∙ lined (set .high) (set .gray) opened saved s at op (set .class) (l .some) (l .point) (l .numbers) (line-drawn l)
+pub line-read : (c : Context) (s : List ℕ) (at op : ℕ) → Line (c .set .high) s at op → mayCome (c .phase) (c .opened) (getD s op 0) ≡ true
+    → operatorAt c s at ≡ Read.operator (lineOf (getD s at 0) (getD s op 0) at op)
+unfolding operatorAt scanned
+line-read c s at op l m =
+    ap (scanned c s)
+    (scan-is (c .set .high) s at (l .bytes) (is-point (l .some) (l .point)) (l .ends) ∙ ap (λ x. Scan.tagged (getD s x 0) x (endPoint (getD s at 0) at ∷ [])) (sym (l .is)))
+    ∙ lined (c .set .high) (c .set .gray) (c .opened) (c .asked) (c .phase) s at op (c .set .class) (l .some) (l .point) (l .numbers) (line-drawn l) m
+
+-- it may come in a page, and in a motif
+pub line-in-page : (saved : ℕ) (opened : Bool) {tag : ℕ} → Drawn tag → mayCome (in-page saved) opened tag ≡ true
+unfolding mayCome drawn among
+line-in-page saved opened drawn-path = refl
+line-in-page saved opened drawn-rel = refl
+
+pub line-in-motif : (saved : ℕ) {tag : ℕ} → Drawn tag → mayCome (in-motif saved) true tag ≡ true
+unfolding mayCome drawn among
+line-in-motif saved drawn-path = refl
+line-in-motif saved drawn-rel = refl
+
+-- a page with so many states saved
+abbrev pub inPage : (set : Setting) (opened : Bool) (saved : ℕ) → Context
+inPage set opened saved = record { set = set; phase = in-page saved; opened = opened; asked = true }
+
+pub read-line : (set : Setting) (opened : Bool) (saved : ℕ) (s : List ℕ) (at op : ℕ) → Line (set .high) s at op
+    → operatorAt (inPage set opened saved) s at ≡ Read.operator (lineOf (getD s at 0) (getD s op 0) at op)
+read-line set opened saved s at op l = line-read (inPage set opened saved) s at op l (line-in-page saved opened (line-drawn l))

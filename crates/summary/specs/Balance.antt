@@ -4,7 +4,7 @@ use Prim.Native.Nat.{ℕ, zero, suc}
 use mathlib.Core.Path.{_≡_}
 use mathlib.Core.List.{List, [], _∷_}
 use Rattle.scope.specs.Arm.{Effect, push, pop, put, Stroke}
-use Rattle.scope.specs.Motif.{Own, does, calls, Motif}
+use Rattle.scope.specs.Motif.{Own, does, calls}
 
 -- with d saved, the effect takes off nothing that is not there
 abbrev pub mayDo : Effect → ℕ → Type 0
@@ -32,10 +32,5 @@ Balanced l = Level 0 l 0
 -- the same of a motif's own operators, where a call leaves what is saved
 unfoldable pub OwnLevel : ℕ → List Own → ℕ → Type 0
 OwnLevel d [] e = d ≡ e
-OwnLevel d (does at a ∷ os) e = mayDo (a .effect) d × OwnLevel (depthAfter (a .effect) d) os e
-OwnLevel d (calls at n ∷ os) e = OwnLevel d os e
-
--- each held motif's own operators are balanced
-unfoldable pub HeldBalanced : List Motif → Type 0
-HeldBalanced [] = Unit
-HeldBalanced (m ∷ ms) = OwnLevel 0 (m .ops) 0 × HeldBalanced ms
+OwnLevel d (does o a ∷ os) e = mayDo (a .effect) d × OwnLevel (depthAfter (a .effect) d) os e
+OwnLevel d (calls o n ∷ os) e = OwnLevel d os e

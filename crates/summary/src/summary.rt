@@ -23,7 +23,10 @@ pub struct Summary {
     pub b: Ending,
 }
 
-fn bit(b: bool) -> u64
+// The summary of no operator, as one number: from either start the page is as it was.
+pub const EMPTY: usize = 48;
+
+fn bit(b: bool) -> usize
     ensures { λ r. ⌜ r ≡ bitOf b ⌝ }
     ensures { λ r. ⌜ r ≤ 1 ⌝ }
 {
@@ -31,7 +34,7 @@ fn bit(b: bool) -> u64
 }
 
 impl Ending {
-    fn packed(self) -> u64
+    fn packed(self) -> usize
         ensures { λ r. ⌜ r ≡ endingBits self ⌝ }
         ensures { λ r. ⌜ r ≤ 15 ⌝ }
     {
@@ -39,7 +42,7 @@ impl Ending {
     }
 }
 
-fn in_bits(n: u64) -> Ending
+fn in_bits(n: usize) -> Ending
     ensures { λ r. ⌜ r ≡ endingOf n ⌝ }
 {
     Ending {
@@ -52,7 +55,7 @@ fn in_bits(n: u64) -> Ending
 
 impl Summary {
     // The summary as one number.
-    pub fn packed(self) -> u64
+    pub fn packed(self) -> usize
         ensures { λ r. ⌜ ((row : List Stroke) → Sums self row → SumsAs r row) ⌝ }
     {
         let a = self.a;
@@ -60,14 +63,14 @@ impl Summary {
         let high = a.packed();
         let low = b.packed();
         let source = bit(self.source);
-        let count = self.count as u64;
-        let most = (self.most % 32) as u64;
+        let count = self.count as usize;
+        let most = (self.most % 32) as usize;
         count * 16384 + most * 512 + source * 256 + high * 16 + low
     }
 }
 
 // The summary in a number.
-pub fn unpacked(n: u64) -> Summary
+pub fn unpacked(n: usize) -> Summary
     ensures { λ r. ⌜ ((row : List Stroke) → SumsAs n row → Sums r row) ⌝ }
 {
     let a = in_bits(n / 16 % 16);
