@@ -1,3 +1,6 @@
-pub mod Keeping
-pub mod Matches
+pub mod Rowed
+pub mod Stored
 pub mod Within
+pub mod Packs
+pub mod Finding
+pub mod Marked

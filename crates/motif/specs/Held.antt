@@ -1,31 +1,66 @@
--- How the code keeps the held motifs: for each a row of three numbers (place and length of its name in the job, how deep it nests) and its summary, one
--- number in a column of its own. Row 0 is the first motif of the session.
+-- How the code keeps the held motifs: a table of 64 rows of ten numbers, row 0 for the first motif of the session. A row has the motif's name as three numbers
+-- (Keys), where its bytes begin in the store and how many they are, its level, its summary, whom it calls, and whether it names one that is not held (Tables); one
+-- number is spare.
 -- Assumes nothing.
 use Prim.Native.Nat.{ℕ, suc, _+_, _*_, _≤_}
 use mathlib.Core.Path.{_≡_}
-use mathlib.Core.List.{List, [], _∷_}
-use lib.ListN.{length, getD, take, drop}
-use Rattle.scope.specs.Motif.{Motif, heldAs, flat, unfolded}
-use Rattle.scope.specs.Motif.{Held}
-use Rattle.summary.specs.Sums.{SumsAs}
+use mathlib.Core.List.{List, [], _∷_, _++_}
+use lib.ListN.{length, getD}
+use Rattle.scope.specs.Motif.{Motif, Held, heldAs, bytesHeld}
+use Rattle.motif.specs.Keys.{keyOf, IsName}
 use Rattle.motif.specs.declared.held.Where.{Where}
 use Rattle.motif.specs.declared.held.Where.the-variants.{At, Nowhere}
 
--- a name is so many bytes of the job from a place on, and they lie within it
-pub record Named (job : List ℕ) (first count : ℕ) (name : List ℕ) : Type 0 where
-  pub within : first + count ≤ length job
-  pub same : take count (drop first job) ≡ name
+-- a number of a row
+abbrev pub cell : (t : List ℕ) → (row column : ℕ) → ℕ
+cell t i k = getD t (i * 10 + k) 0
 
--- the rows and the column keep n motifs, which stand last one first; each summary is that of the motif's operators, their calls unfolded through the motifs
--- held before it
-pub data Keeps (job rows sums : List ℕ) : ℕ → List Motif → Type 0 where
-  keeps-none : Keeps job rows sums 0 []
-  keeps-more : {n : ℕ} {m : Motif} {ms : List Motif} → Named job (getD rows (n * 3) 0) (getD rows (n * 3 + 1) 0) (m .name)
-      → getD rows (n * 3 + 2) 0 ≡ m .depth → SumsAs (getD sums n 0) (flat (unfolded ms) (m .number) (m .ops)) → Keeps job rows sums n ms
-      → Keeps job rows sums (suc n) (m ∷ ms)
+-- the columns, in their order
+abbrev pub keyIn : List ℕ → ℕ → List ℕ
+keyIn t i = cell t i 0 ∷ cell t i 1 ∷ cell t i 2 ∷ []
+
+abbrev pub startIn : List ℕ → ℕ → ℕ
+startIn t i = cell t i 3
+
+abbrev pub longIn : List ℕ → ℕ → ℕ
+longIn t i = cell t i 4
+
+abbrev pub levelIn : List ℕ → ℕ → ℕ
+levelIn t i = cell t i 5
+
+abbrev pub sumIn : List ℕ → ℕ → ℕ
+sumIn t i = cell t i 6
+
+abbrev pub callsIn : List ℕ → ℕ → ℕ
+callsIn t i = cell t i 7
+
+abbrev pub missingIn : List ℕ → ℕ → ℕ
+missingIn t i = cell t i 8
+
+-- the first n rows keep n motifs, which stand last one first: of each its name, which no other has, and the place of its bytes in the store, behind those of the
+-- motifs before it
+pub data Rows (t : List ℕ) : ℕ → List Motif → Type 0 where
+  rows-none : Rows t 0 []
+  rows-more : {n : ℕ} {m : Motif} {ms : List Motif} → keyIn t n ≡ keyOf (m .name) → IsName (m .name) → startIn t n ≡ bytesHeld ms → longIn t n ≡ length (m .bytes)
+      → m .number ≡ suc n → heldAs (m .name) ms ≡ Held.none → Rows t n ms → Rows t (suc n) (m ∷ ms)
+
+-- the table keeps n motifs by name
+pub record Keeps (t : List ℕ) (n : ℕ) (ms : List Motif) : Type 0 where
+  pub sized : length t ≡ 640
+  pub most : n ≤ 64
+  pub rows : Rows t n ms
+
+-- m is the motif of row i
+pub record InRow (ms : List Motif) (i : ℕ) (m : Motif) : Type 0 where
+  pub held : heldAs (m .name) ms ≡ Held.is m
+  pub row : m .number ≡ suc i
 
 -- what a search by name finds: the row of the motif held under it, or that none is
-pub data Finds (rows sums : List ℕ) (ms : List Motif) (name : List ℕ) : Where → Type 0 where
-  finds-at : {i : ℕ} {m : Motif} → heldAs name ms ≡ Held.is m → getD rows (i * 3 + 2) 0 ≡ m .depth → SumsAs (getD sums i 0) (unfolded ms name)
-      → Finds rows sums ms name (At i)
-  finds-none : heldAs name ms ≡ Held.none → Finds rows sums ms name Nowhere
+pub data Finds (ms : List Motif) (name : List ℕ) : Where → Type 0 where
+  finds-at : {i : ℕ} {m : Motif} → heldAs name ms ≡ Held.is m → InRow ms i m → Finds ms name (At i)
+  finds-none : heldAs name ms ≡ Held.none → Finds ms name Nowhere
+
+-- the bytes of the held motifs, in the order of their numbers
+unfoldable pub storeOf : List Motif → List ℕ
+storeOf [] = []
+storeOf (m ∷ ms) = storeOf ms ++ m .bytes

@@ -1,2 +1,6 @@
+pub mod Keys
+pub mod Views
 pub mod Held
 pub mod Search
+pub mod Tables
+pub mod Stored

@@ -1,7 +1,23 @@
-// The held motifs, by name.
+// The held motifs: their table, and how a name finds its row.
 mod held;
+mod kept;
+mod key;
+mod marks;
 mod part;
 
+pub use held::CALLS;
+pub use held::LENGTH;
+pub use held::LEVEL;
+pub use held::MISSING;
+pub use held::ROW;
+pub use held::START;
+pub use held::SUM;
 pub use held::Where;
 pub use held::find;
+pub use held::in_use;
+pub use kept::Kept;
+pub use key::Key;
+pub use key::key_of;
+pub use marks::has_mark;
+pub use marks::with_mark;
 pub use part::name_in;

@@ -1,1 +1,4 @@
+pub mod Naming
+pub mod Stepping
+pub mod Strips
 pub mod Turning

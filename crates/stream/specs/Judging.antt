@@ -2,50 +2,81 @@
 -- Assumes nothing.
 use Prim.Native.Nat.{ℕ, _+_, _≤_, _<_}
 use mathlib.Core.Path.{_≡_}
-use mathlib.Core.List.{List}
+use mathlib.Core.Bool.{Bool}
+use mathlib.Core.List.{List, [], _∷_, _++_}
 use Rattle.scope.specs.Iterate.{Next, go, stop}
-use Rattle.scope.specs.Attributes.{bytesIn}
+use Rattle.scope.specs.Setting.{Setting}
 use Rattle.scope.specs.Reading.{Operator}
+use Rattle.scope.specs.Arm.{idle, Stroke}
 use Rattle.scope.specs.Motif as scope
+use Rattle.scope.specs.Calls.{flat}
+use Rattle.scope.specs.Reach.{Name}
 use Rattle.summary.specs.Sums.{SumsAs}
 use Rattle.arm.specs.Runs.{Runs}
 use Rattle.summary.specs.Balance.{OwnLevel}
+use Rattle.motif.specs.Tables.{mark, callsRow, lacksOne, SumsUp}
 use Rattle.order.specs.Pictures.{pictureAs}
 use Rattle.stream.specs.declared.judging.Inside.{Inside}
+use Rattle.stream.specs.declared.judging.Made.{Made}
 use Rattle.stream.specs.declared.judging.Judged.{Judged}
 use Rattle.stream.specs.declared.judging.Judged.the-variants.{Valid, Faulty}
 use Rattle.stream.specs.declared.judging.Turn.{Turn}
 use Rattle.stream.specs.declared.judging.Turn.the-variants.{Go, Stop}
 
--- the code stands where the definition stands: the two runs are those of the operators so far, their calls unfolded, whatever the motif's number will be
-pub record Follows (ms : List scope.Motif) (i : Inside) (w : scope.Inside) : Type 0 where
+-- the code stands where the definition stands: the two runs are those of the operators so far, where a call performs besides what the table sums up for its name,
+-- whatever the motif's number will be; and the names called so far are noted
+pub record Follows (t : List ℕ) (ms : List scope.Motif) (i : Inside) (w : scope.Inside) : Type 0 where
   pub at : i .at ≡ w .at
   pub saved : i .saved ≡ w .saved
   pub picture : pictureAs (i .picture) ≡ w .picture
-  pub depth : i .depth ≡ w .depth
-  pub runs : (k : ℕ) → Runs (i .both) (scope.flat (scope.unfolded ms) k (w .ops))
+  pub whom : (j : ℕ) → j < 64 → mark (i .calls) j ≡ callsRow ms (w .ops) j
+  pub lacks : i .missing ≡ lacksOne ms (w .ops)
+  pub runs : (f : Name → List Stroke) → SumsUp t ms f → (k : ℕ) → Runs (i .both) (flat f k (w .ops))
   pub level : OwnLevel 0 (w .ops) (w .saved)
 
--- a motif's judgement: valid with its depth and a number that sums it up, or the code and the place inside it
-pub data Judges (ms : List scope.Motif) : Judged → scope.Judged → Type 0 where
-  judges-valid : {ops : List scope.Own} {d n v : ℕ} → n ≡ d → ((k : ℕ) → SumsAs v (scope.flat (scope.unfolded ms) k ops))
-      → Judges ms (Valid n v) (scope.valid ops d)
-  judges-faulty : {code place : ℕ} → Judges ms (Faulty code place) (scope.faulty code place)
+-- what is noted of a valid motif with these operators, where the table is that of these motifs: whom it calls, whether it names one that is not held, and what it
+-- comes to where a call performs besides what the table sums up for its name
+pub record Makes (t : List ℕ) (ms : List scope.Motif) (made : Made) (ops : List scope.Own) : Type 0 where
+  pub whom : (j : ℕ) → j < 64 → mark (made .calls) j ≡ callsRow ms ops j
+  pub lacks : made .missing ≡ lacksOne ms ops
+  pub summed : (f : Name → List Stroke) → SumsUp t ms f → (k : ℕ) → SumsAs (made .sum) (flat f k ops)
 
-pub data Turns (ms : List scope.Motif) : Turn → Next scope.Inside scope.Judged → Type 0 where
-  turns-go : {i : Inside} {w : scope.Inside} → Follows ms i w → Turns ms (Go i) (go w)
-  turns-stop : {j : Judged} {r : scope.Judged} → Judges ms j r → Turns ms (Stop j) (stop r)
+-- a motif's judgement: valid with what is noted of it, or the code and the place inside it
+pub data Judges (t : List ℕ) (ms : List scope.Motif) : Judged → scope.Judged → Type 0 where
+  judges-valid : {ops : List scope.Own} {made : Made} → Makes t ms made ops → Judges t ms (Valid made) (scope.valid ops)
+  judges-faulty : {code place : ℕ} → Judges t ms (Faulty code place) (scope.faulty code place)
+
+-- after a turn: the code goes on where the definition does, or stops with its judgement
+pub data Turns (t : List ℕ) (ms : List scope.Motif) : Turn → Next scope.Inside scope.Judged → Type 0 where
+  turns-go : {i : Inside} {w : scope.Inside} → Follows t ms i w → Turns t ms (Go i) (go w)
+  turns-stop : {j : Judged} {r : scope.Judged} → Judges t ms j r → Turns t ms (Stop j) (stop r)
 
 -- judging goes on further on and within the bytes, with no more saved than bytes passed
 abbrev pub Ahead : (len at : ℕ) → Turn → Type 0
 Ahead len at (Go i) = (at < i .at) × (i .at ≤ len) × (i .saved ≤ i .at)
 Ahead len at (Stop j) = Unit {0}
 
--- an operator leaves the judging at its end, with at most one state more
-abbrev pub Lands : (next saved : ℕ) → Turn → Type 0
-Lands next saved (Go i) = (i .at ≡ next) × (i .saved ≤ saved + 1)
-Lands next saved (Stop j) = Unit {0}
+-- where the judging of a motif stands after an operator
+unfoldable pub afterIn : Setting → List ℕ → Operator → scope.Inside → scope.Inside
+afterIn set s o w =
+    record {
+      at = o .next;
+      saved = scope.savedAfter (o .tag) (w .saved);
+      picture = scope.pictureAfter (set .high) s o (w .picture);
+      ops = w .ops ++ (scope.ownBy set s o ∷ []);
+    }
 
--- a call of the name that the operator gives
-unfoldable pub called : List scope.Motif → List ℕ → Operator → scope.Inside → Next scope.Inside scope.Judged
-called ms s o w = scope.onCall o (bytesIn s (o .attrs) 139) w (scope.heldAs (bytesIn s (o .attrs) 139) ms)
+-- a call leads to `next` with these notes, and the two runs go on with all that its summary sums up
+pub record Called (old : Inside) (next marks : ℕ) (lacks : Bool) (sum : ℕ) (new : Inside) : Type 0 where
+  pub at : new .at ≡ next
+  pub saved : new .saved ≡ old .saved
+  pub picture : new .picture ≡ old .picture
+  pub calls : new .calls ≡ marks
+  pub missing : new .missing ≡ lacks
+  pub runs : (row called : List Stroke) (x : Stroke) → Runs (old .both) row → x .act ≡ idle → SumsAs sum called → Runs (new .both) (row ++ (x ∷ called))
+
+-- the code stands where the definition comes to from w on
+pub record Comes (t : List ℕ) (ms : List scope.Motif) (set : Setting) (s : List ℕ) (w : scope.Inside) (i : Inside) : Type 0 where
+  pub stands : scope.Inside
+  pub follows : Follows t ms i stands
+  pub judged : scope.judgedInside set s stands ≡ scope.judgedInside set s w

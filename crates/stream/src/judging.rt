@@ -1,32 +1,33 @@
-// A motif judged when EndStream holds it, and what it comes to.
+// A motif judged when EndStream comes, and what is noted of it.
 ghost use mathlib.Core.Path.{_≡_};
 ghost use mathlib.Core.List.{List, []};
 ghost use mathlib.Core.Bool.{true};
-ghost use Prim.Native.Nat.{ℕ, _+_, _^_, _≤_, _<_, max};
+ghost use Prim.Native.Nat.{ℕ, _+_, _^_, _≤_, _<_};
 ghost use lib.ListN.{length};
+ghost use lib.Dec.{eqb};
 ghost use Rattle.items.specs.Rows.{rowsOf, Sized};
+ghost use Rattle.scope.specs.Choice.{pick};
 ghost use Rattle.scope.specs.Setting.{sameClass};
+ghost use Rattle.scope.specs.Setting.{Setting as setting·Setting};
 ghost use Rattle.setting.specs.Views.{classAs, settingAs};
 ghost use Rattle.scope.specs.Motif as scope;
-ghost use Rattle.scope.specs.Motif.{Motif, flat, unfolded, phaseIn, savedAfter, motifStep, onCall, onDeed, onEnd, judgedInside, motifOf};
+ghost use Rattle.scope.specs.Motif.{Motif, phaseIn, savedAfter, motifStep, onEnd, judgedInside, motifOf};
 ghost use Rattle.scope.specs.Order.{rowsFit};
-ghost use Rattle.scope.specs.Choice.{pick};
-ghost use Rattle.summary.specs.Balance.{Balanced, OwnLevel};
-ghost use Rattle.summary.specs.Sums.{SumsAs};
-ghost use Rattle.arm.specs.Runs.{Runs};
-ghost use lib.Dec.{eqb};
 ghost use Rattle.order.specs.Views.{phaseAs};
 ghost use Rattle.reader.specs.Reads.{operatorAs};
 ghost use Rattle.motif.specs.Held.{Keeps};
 ghost use Rattle.order.specs.Pictures.{pictureAs, imageIn};
-ghost use Rattle.stream.specs.Judging.{Follows, Turns, Judges, Ahead, Lands, called};
+ghost use Rattle.stream.specs.Judging.{Follows, Turns, Judges, Ahead, Called, Comes, afterIn};
+use crate::lines::run_from;
 use act::act_of;
 use arm::both::Both;
 use header::Header;
+use motif::ROW;
+use motif::SUM;
 use motif::Where;
 use motif::find;
 use motif::name_in;
-use names::limits::NESTING_MOST;
+use motif::with_mark;
 use names::operators::EXEC_STREAM;
 use names::operators::POP_GS;
 use names::operators::PUSH_GS;
@@ -38,10 +39,19 @@ use reader::Operator;
 use reader::Read;
 use setting::Class;
 use setting::Setting;
+use summary::EMPTY;
 
-// A valid motif, with how deep it nests and its summary; or a code and a place inside it.
+// What is noted of a valid motif: its summary, where a call performs besides what the table sums up for its name; a mark for each row that it calls; and whether it
+// names a motif that is not held.
+pub struct Made {
+    pub sum: usize,
+    pub calls: usize,
+    pub missing: bool,
+}
+
+// A valid motif, with what is noted of it; or a code and a place inside it.
 pub enum Judged {
-    Valid(usize, u64),
+    Valid(Made),
     Faulty(u32, usize),
 }
 
@@ -50,7 +60,8 @@ pub struct Inside {
     pub at: usize,
     pub saved: usize,
     pub picture: Picture,
-    pub depth: usize,
+    pub calls: usize,
+    pub missing: bool,
     pub both: Both,
 }
 
@@ -60,6 +71,7 @@ pub enum Turn {
     Stop(Judged),
 }
 
+// Where an operator of a motif stands: in its image, if one is open.
 fn phase_in(saved: usize, picture: Picture) -> Phase
     ensures { λ r. ⌜ phaseAs r ≡ phaseIn saved (pictureAs picture) ⌝ }
 {
@@ -69,6 +81,7 @@ fn phase_in(saved: usize, picture: Picture) -> Phase
     }
 }
 
+// How many states are saved after an operator.
 fn saved_after(tag: u8, saved: usize) -> usize
     requires { ⌜ saved < 2 ^ 63 ⌝ }
     ensures { λ r. ⌜ r ≡ savedAfter tag saved ⌝ }
@@ -85,63 +98,59 @@ fn saved_after(tag: u8, saved: usize) -> usize
     saved - 1
 }
 
-// The deeper of two.
-fn deeper(a: usize, b: usize) -> usize
-    ensures { λ r. ⌜ r ≡ max a b ⌝ }
+// A call leads past itself and performs what this summary sums up besides; saved states and image stay as they are.
+fn called(inside: Inside, next: usize, calls: usize, missing: bool, sum: usize) -> Inside
+    ensures { λ r. ⌜ Called inside next calls missing sum r ⌝ }
 {
-    if a < b { b } else { a }
-}
-
-// A call of a held motif that nests so deep and has this summary: 22 if it nests 32 deep already.
-fn enter(o: Operator, inside: Inside, depth: usize, sum: u64) -> Turn
-    ensures { λ r. ⌜ Lands (o .next) (inside .saved) r ⌝ }
-    ensures { λ r. ⌜ ((ms : List Motif) (w : scope.Inside) (m : Motif) (name attrs : List ℕ) → Follows ms inside w → depth ≡ m .depth → SumsAs sum (unfolded ms name)
-        → Turns ms r (onCall (operatorAs o attrs) name w (scope.Held.is m))) ⌝ }
-{
-    if NESTING_MOST <= depth {
-        return Turn::Stop(Judged::Faulty(22, o.at));
-    }
     let picture = inside.picture;
     let both = inside.both;
-    let next = both.call(summary::unpacked(sum));
-    Turn::Go(Inside {
-        at: o.next,
+    let after = both.call(summary::unpacked(sum));
+    Inside {
+        at: next,
         saved: inside.saved,
         picture,
-        depth: deeper(inside.depth, depth + 1),
-        both: next,
-    })
+        calls,
+        missing,
+        both: after,
+    }
 }
 
-// A call: only of a motif already held.
+// A call: its name's row is marked, and performs what the table sums up for it; a name that is not held is noted, and performs nothing.
 fn call(
     s: &[u8],
     o: Operator,
     attrs: &[usize; 80],
     inside: Inside,
-    job: &[u8],
-    rows: &[usize; 192],
-    sums: &[u64; 64],
+    motifs: &[usize; 640],
     held: usize,
-) -> Turn
-    ensures { λ r. ⌜ Lands (o .next) (inside .saved) r ⌝ }
-    ensures { λ r. ⌜ ((ms : List Motif) (w : scope.Inside) → Sized (now (attrs .entry)) (o .count) → held ≤ 64 → Keeps (now (job .entry)) (now (rows .entry)) (now (sums .entry)) held ms
-        → Follows ms inside w → Turns ms r (called ms (now (s .entry)) (operatorAs o (now (attrs .entry))) w)) ⌝ }
+) -> Inside
+    ensures { λ r. ⌜ (r .at ≡ o .next) × (r .saved ≤ inside .saved + 1) ⌝ }
+    ensures { λ r. ⌜ ((set : setting·Setting) (ms : List Motif) (w : scope.Inside) → Sized (now (attrs .entry)) (o .count) → Keeps (now (motifs .entry)) held ms
+        → o .tag ≡ 0x5e → Follows (now (motifs .entry)) ms inside w
+        → Follows (now (motifs .entry)) ms r (afterIn set (now (s .entry)) (operatorAs o (now (attrs .entry))) w)) ⌝ }
 {
     let name = name_in(s, attrs, o.count);
-    match find(job, rows, held, s, name.first, name.count) {
-        Where::Nowhere => Turn::Stop(Judged::Faulty(21, o.at)),
-        Where::At(i) => enter(o, inside, rows[i * 3 + 2], sums[i]),
+    let first = name.first;
+    let end = first + name.count;
+    match find(motifs, held, &s[first..end]) {
+        Where::Nowhere => called(inside, o.next, inside.calls, true, EMPTY),
+        Where::At(i) => called(
+            inside,
+            o.next,
+            with_mark(inside.calls, i),
+            inside.missing,
+            motifs[i * ROW + SUM],
+        ),
     }
 }
 
 // An operator that is no call.
-fn deed(s: &[u8], set: Setting, o: Operator, attrs: &[usize; 80], inside: Inside) -> Turn
+fn deed(s: &[u8], set: Setting, o: Operator, attrs: &[usize; 80], inside: Inside) -> Inside
     requires { ⌜ inside .saved < 2 ^ 63 ⌝ }
-    ensures { λ r. ⌜ Lands (o .next) (inside .saved) r ⌝ }
-    ensures { λ r. ⌜ ((ms : List Motif) (w : scope.Inside) → Sized (now (attrs .entry)) (o .count) → Follows ms inside w
+    ensures { λ r. ⌜ (r .at ≡ o .next) × (r .saved ≤ inside .saved + 1) ⌝ }
+    ensures { λ r. ⌜ ((t : List ℕ) (ms : List Motif) (w : scope.Inside) → Sized (now (attrs .entry)) (o .count) → (o .tag ≡ 0x5e → ⊥) → Follows t ms inside w
         → rowsFit (set .high) (now (s .entry)) (imageIn (w .picture)) (o .tag) (rowsOf (now (attrs .entry)) (o .count)) ≡ true → (o .tag ≡ 0x60 → 0 < w .saved)
-        → Turns ms r (onDeed (settingAs set) (now (s .entry)) (operatorAs o (now (attrs .entry))) w)) ⌝ }
+        → Follows t ms r (afterIn (settingAs set) (now (s .entry)) (operatorAs o (now (attrs .entry))) w)) ⌝ }
 {
     let tag = o.tag;
     let picture = inside.picture;
@@ -150,38 +159,42 @@ fn deed(s: &[u8], set: Setting, o: Operator, attrs: &[usize; 80], inside: Inside
     let after = picture_after(s, set.high, tag, attrs, o.count, picture);
     let next = both.step(act);
     let saved = saved_after(tag, inside.saved);
-    Turn::Go(Inside {
+    Inside {
         at: o.next,
         saved,
         picture: after,
-        depth: inside.depth,
+        calls: inside.calls,
+        missing: inside.missing,
         both: next,
+    }
+}
+
+// As many PopGS as PushGS, else 27.
+fn balanced(len: usize, inside: Inside) -> Judged
+    ensures { λ r. ⌜ ((t : List ℕ) (ms : List Motif) (w : scope.Inside) → Follows t ms inside w
+        → Judges t ms r (pick (eqb (w .saved) 0) (scope.valid (w .ops)) (scope.faulty 27 len))) ⌝ }
+{
+    if inside.saved != 0 {
+        return Judged::Faulty(27, len);
+    }
+    let both = inside.both;
+    let summary = both.summary();
+    Judged::Valid(Made {
+        sum: summary.packed(),
+        calls: inside.calls,
+        missing: inside.missing,
     })
 }
 
 // The end: no image open and as many PopGS as PushGS, else 27.
 fn ended(len: usize, inside: Inside) -> Judged
-    ensures { λ r. ⌜ ((ms : List Motif) (w : scope.Inside) (s : List ℕ) → length s ≡ len → ((n : List ℕ) → Balanced (unfolded ms n)) → Follows ms inside w
-        → Judges ms r (onEnd s w (w .picture))) ⌝ }
+    ensures { λ r. ⌜ ((t : List ℕ) (ms : List Motif) (w : scope.Inside) (s : List ℕ) → length s ≡ len → Follows t ms inside w → Judges t ms r (onEnd s w (w .picture))) ⌝ }
 {
     let picture = inside.picture;
-    let both = inside.both;
     match picture {
         Picture::Being(_) => Judged::Faulty(27, len),
-        Picture::Nothing => balanced(len, inside.saved, inside.depth, both),
+        Picture::Nothing => balanced(len, inside),
     }
-}
-
-// As many PopGS as PushGS, else 27.
-fn balanced(len: usize, saved: usize, depth: usize, both: Both) -> Judged
-    ensures { λ r. ⌜ ((ms : List Motif) (ops : List scope.Own) → ((n : List ℕ) → Balanced (unfolded ms n)) → ((k : ℕ) → Runs both (flat (unfolded ms) k ops)) → OwnLevel 0 ops saved
-        → Judges ms r (pick (eqb saved 0) (scope.valid ops depth) (scope.faulty 27 len))) ⌝ }
-{
-    if saved != 0 {
-        return Judged::Faulty(27, len);
-    }
-    let summary = both.summary();
-    Judged::Valid(depth, summary.packed())
 }
 
 // One operator of a motif.
@@ -189,17 +202,15 @@ fn advance(
     s: &[u8],
     set: Setting,
     inside: Inside,
-    job: &[u8],
-    rows: &[usize; 192],
-    sums: &[u64; 64],
+    motifs: &[usize; 640],
     held: usize,
     attrs: &mut [usize; 80],
 ) -> Turn
     requires { ⌜ (inside .at ≤ length (now s)) × (inside .saved ≤ inside .at) ⌝ }
     ensures { λ _. ⌜ length (now (attrs .exit)) ≡ length (now (attrs .entry)) ⌝ }
     ensures { λ r. ⌜ Ahead (length (now (s .entry))) (inside .at) r ⌝ }
-    ensures { λ r. ⌜ ((ms : List Motif) (w : scope.Inside) → length (now (attrs .entry)) ≡ 80 → held ≤ 64 → Keeps (now (job .entry)) (now (rows .entry)) (now (sums .entry)) held ms
-        → Follows ms inside w → Turns ms r (motifStep ms (settingAs set) (now (s .entry)) w)) ⌝ }
+    ensures { λ r. ⌜ ((ms : List Motif) (w : scope.Inside) → length (now (attrs .entry)) ≡ 80 → Keeps (now (motifs .entry)) held ms
+        → Follows (now (motifs .entry)) ms inside w → Turns (now (motifs .entry)) ms r (motifStep (settingAs set) (now (s .entry)) w)) ⌝ }
 {
     let picture = inside.picture;
     let context = Context {
@@ -213,9 +224,34 @@ fn advance(
         Read::Ended => Turn::Stop(ended(s.len(), inside)),
         Read::Operator(o) => {
             if o.tag == EXEC_STREAM {
-                return call(s, o, attrs, inside, job, rows, sums, held);
+                return Turn::Go(call(s, o, attrs, inside, motifs, held));
             }
-            deed(s, set, o, attrs, inside)
+            Turn::Go(deed(s, set, o, attrs, inside))
+        }
+    }
+}
+
+// Past the run of operators that stands next and leaves the page as it is, with no image open.
+fn past_run(s: &[u8], set: Setting, inside: Inside) -> Inside
+    requires { ⌜ (inside .at ≤ length (now s)) × (inside .saved ≤ inside .at) ⌝ }
+    ensures { λ r. ⌜ (inside .at ≤ r .at) × (r .at ≤ length (now (s .entry))) × (r .saved ≤ r .at) ⌝ }
+    ensures { λ r. ⌜ ((t : List ℕ) (ms : List Motif) (w : scope.Inside) → Follows t ms inside w → Comes t ms (settingAs set) (now (s .entry)) w r) ⌝ }
+{
+    let picture = inside.picture;
+    match picture {
+        Picture::Being(_) => inside,
+        Picture::Nothing => {
+            let both = inside.both;
+            let run = run_from(s, set.high, inside.at);
+            let kept = both.keep(run.count, run.drawn);
+            Inside {
+                at: run.at,
+                saved: inside.saved,
+                picture,
+                calls: inside.calls,
+                missing: inside.missing,
+                both: kept,
+            }
         }
     }
 }
@@ -225,26 +261,26 @@ fn operators(
     s: &[u8],
     set: Setting,
     next: usize,
-    job: &[u8],
-    rows: &[usize; 192],
-    sums: &[u64; 64],
+    motifs: &[usize; 640],
     held: usize,
     attrs: &mut [usize; 80],
 ) -> Judged
     requires { ⌜ next ≤ length (now s) ⌝ }
     ensures { λ _. ⌜ length (now (attrs .exit)) ≡ length (now (attrs .entry)) ⌝ }
-    ensures { λ r. ⌜ ((ms : List Motif) → length (now (attrs .entry)) ≡ 80 → held ≤ 64 → Keeps (now (job .entry)) (now (rows .entry)) (now (sums .entry)) held ms
-        → Judges ms r (judgedInside ms (settingAs set) (now (s .entry)) (record { at = next; saved = 0; picture = scope.Picture.none; ops = []; depth = 1 }))) ⌝ }
+    ensures { λ r. ⌜ ((ms : List Motif) → length (now (attrs .entry)) ≡ 80 → Keeps (now (motifs .entry)) held ms
+        → Judges (now (motifs .entry)) ms r (judgedInside (settingAs set) (now (s .entry)) (record { at = next; saved = 0; picture = scope.Picture.none; ops = [] }))) ⌝ }
 {
     let mut inside = Inside {
         at: next,
         saved: 0,
         picture: Picture::Nothing,
-        depth: 1,
+        calls: 0,
+        missing: false,
         both: Both::fresh(),
     };
     loop {
-        match advance(s, set, inside, job, rows, sums, held, attrs) {
+        let from = past_run(s, set, inside);
+        match advance(s, set, from, motifs, held, attrs) {
             Turn::Go(on) => {
                 inside = on;
             }
@@ -271,17 +307,9 @@ fn same_class(a: Class, b: Class) -> bool
     }
 }
 
-// A motif of a job with this setting, where these are held: `rows` and `sums` keep them, and names lie in the job. It has the job's class, else 4.
-pub fn judge_motif(
-    s: &[u8],
-    set: Setting,
-    job: &[u8],
-    rows: &[usize; 192],
-    sums: &[u64; 64],
-    held: usize,
-) -> Judged
-    ensures { λ r. ⌜ ((ms : List Motif) → held ≤ 64 → Keeps (now (job .entry)) (now (rows .entry)) (now (sums .entry)) held ms
-        → Judges ms r (motifOf (settingAs set) ms (now (s .entry)))) ⌝ }
+// A motif of a job with this setting, where the table keeps these. It has the job's class, else 4.
+pub fn judge_motif(s: &[u8], set: Setting, motifs: &[usize; 640], held: usize) -> Judged
+    ensures { λ r. ⌜ ((ms : List Motif) → Keeps (now (motifs .entry)) held ms → Judges (now (motifs .entry)) ms r (motifOf (settingAs set) (now (s .entry)))) ⌝ }
 {
     let mut attrs = [0usize; 80];
     match header::header_of(s) {
@@ -296,7 +324,7 @@ pub fn judge_motif(
                 high,
                 gray: set.gray,
             };
-            operators(s, own, next, job, rows, sums, held, &mut attrs)
+            operators(s, own, next, motifs, held, &mut attrs)
         }
     }
 }

@@ -1,5 +1,7 @@
 // A motif judged when EndStream holds it, and what it comes to, so that its calls are judged without drawing it.
 mod judging;
+mod lines;
 
 pub use judging::Judged;
+pub use judging::Made;
 pub use judging::judge_motif;

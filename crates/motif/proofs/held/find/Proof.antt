@@ -1,50 +1,84 @@
--- `motif::names::find` meets its contract: a name that does not lie within s is not asked for, else it is what the search finds.
+-- `find` meets its contract: the search goes down from the last row in use, and what it finds is what is held.
 -- Assumes nothing.
-use mathlib.Core.Path.{sym, ap, _∙_}
-use borrow.Author.Tests.{not-true, not-false, leb-true, leb-false}
+use Prim.Native.Nat.{_-_, _≤_, _<_}
+use mathlib.Core.Path.{_≡_, sym, ap, _∙_}
 use native.Mathlib.Omega.{arith}
-use Prim.Native.Nat.{_+_, _≤_, _<_}
-use lib.ListN.{length, take, drop}
-use Rattle.motif.specs.Search.{findIn, foundIn}
-use Rattle.motif.proofs.Matches.{found-row}
-use Rattle.motif.proofs.Keeping.{found}
+use Rattle.motif.specs.Keys.{keyOf}
+use Rattle.scope.specs.Choice.{same}
+use Rattle.motif.specs.declared.held.Where.the-variants.{At, Nowhere}
+use Rattle.motif.specs.Held.{keyIn}
+use Rattle.motif.specs.Search.{findIn}
+use Rattle.motif.proofs.Finding.{find-down, find-end, found}
 use borrow.Author.Needs.{needs}
 use Rattle.motif.proofs.held.find.Statement.{statement}
 use Rattle.motif.proofs.held.find.Tie as tie
 
-lies-within-requires : tie.Need-lies-within-requires
-lies-within-requires c κs = search needs
+abbrev Inv-loop : tie.InvT-loop
+Inv-loop motifs held name key i₀ i = (i ≤ i₀) × (findIn motifs (keyOf name) i ≡ findIn motifs (keyOf name) i₀)
 
-returns : tie.Need-returns
-unfolding foundIn
-returns c = let a = c .before .before .before .before .args in
-    let y = sym (c .before .lies-within .ensures) ∙ not-true _ (c .if1 .taken) in
-    let k : length (a .s .now) < a .first + a .count = leb-false (a .first + a .count) (length (a .s .now)) y in
-    (tt, (λ sums ms h o w. absurd (omega arith), rw y))
+abbrev μ-loop : tie.MeasureT-loop
+μ-loop motifs held name key i₀ i = i
 
-in-use-requires : tie.Need-in-use-requires
+key-of-requires : tie.Need-key-of-requires Inv-loop μ-loop
+key-of-requires c κs = search needs
+
+in-use-requires : tie.Need-in-use-requires Inv-loop μ-loop
 in-use-requires c κs = search needs
 
-search-requires : tie.Need-search-requires
-search-requires c κs = let e = c .before in
-    let a = e .before .before .before .before .args in
-    let y = sym (e .before .lies-within .ensures) ∙ not-false _ (e .if1 .left) in
-    let k : a .first + a .count ≤ length (a .s .now) = leb-true (a .first + a .count) (length (a .s .now)) y in
-    (c .in-use .ensures .0, k)
+loop-holds : tie.Need-loop-holds Inv-loop μ-loop
+loop-holds c = search needs
 
-returns-2 : tie.Need-returns-2
-unfolding foundIn
-returns-2 c = let u = c .before .in-use in
-    let a = c .before .before .before .before .before .before .args in
-    let y = sym (c .before .before .before .lies-within .ensures) ∙ not-false _ (c .before .before .if1 .left) in
-    let name = take (a .count) (drop (a .first) (a .s .now)) in (
-      found-row (a .job .now) (a .rows .now) name (u .result) (c .search .result) (c .search .ensures) (u .ensures .0),
-      (
-        λ sums ms h o w. found name (u .result) (a .held) (c .search .result) (c .search .ensures) (u .ensures .1 .0 h) o,
-        rw y (c .search .ensures ∙ ap (findIn (a .job .now) (a .rows .now) name) (u .ensures .1 .1)),
-      ),
-    )
+sub-i : tie.Need-sub-i Inv-loop μ-loop
+sub-i c = search needs
+
+is-name-requires : tie.Need-is-name-requires Inv-loop μ-loop
+is-name-requires c κs = search needs
+
+returns : tie.Need-returns Inv-loop μ-loop
+returns c = let l = c .before .before .before in
+    let u = l .before in
+    let k = u .before in
+    let a = k .before .before .args in
+    let h : 0 < l .loop .i = omega arith in
+    let d = find-down (a .motifs .now) (keyOf (a .name .now)) (l .loop .i) h in
+    let t = sym (ap (λ x. same (keyIn (a .motifs .now) (l .loop .i - 1)) x) (k .key-of .ensures)) ∙ sym (c .before .is-name .ensures) ∙ c .if1 .taken in
+    found (a .motifs .now) (a .name .now) (a .held) (u .in-use .result) (At (l .loop .i - 1)) (λ i. omega (arith, k .before .shared-slice-known .given i))
+    (u .in-use .ensures) (sym (sym (l .loop .inv .1) ∙ d ∙ rw t))
+
+loop-less : tie.Need-loop-less Inv-loop μ-loop
+loop-less c = search needs
+
+loop-again : tie.Need-loop-again Inv-loop μ-loop
+loop-again c = let l = c .before .before .before in
+    let u = l .before in
+    let k = u .before in
+    let a = k .before .before .args in
+    let h : 0 < l .loop .i = omega arith in
+    let d = find-down (a .motifs .now) (keyOf (a .name .now)) (l .loop .i) h in
+    let t = sym (ap (λ x. same (keyIn (a .motifs .now) (l .loop .i - 1)) x) (k .key-of .ensures)) ∙ sym (c .before .is-name .ensures) ∙ c .if1 .left in
+    (omega arith, sym (d ∙ rw t) ∙ l .loop .inv .1)
+
+returns-2 : tie.Need-returns-2 Inv-loop μ-loop
+returns-2 c = let l = c .before in
+    let u = l .before in
+    let k = u .before in
+    let a = k .before .before .args in
+    let z : l .loop .i ≡ 0 = omega arith in
+    found (a .motifs .now) (a .name .now) (a .held) (u .in-use .result) Nowhere (λ i. omega (arith, k .before .shared-slice-known .given i)) (u .in-use .ensures)
+    (sym (find-end (a .motifs .now) (keyOf (a .name .now))) ∙ (rw z at (l .loop .inv .1)))
 
 pub find-spec : {M : Type 1} → statement M
 find-spec =
-    tie.close (tie.spec lies-within-requires returns in-use-requires search-requires returns-2)
+    tie.close
+    (tie.spec
+    Inv-loop
+    μ-loop
+    key-of-requires
+    in-use-requires
+    loop-holds
+    sub-i
+    is-name-requires
+    returns
+    loop-less
+    loop-again
+    returns-2)

@@ -1,43 +1,72 @@
--- `motif::names::is_name` meets its contract: one test after the other.
+-- `is_name` meets its contract: one number after the other.
 -- Assumes nothing.
 use mathlib.Core.Path.{sym, _∙_}
-use borrow.Author.Tests.{not-true, not-false, leb-true}
-use native.Mathlib.Omega.{arith}
-use Prim.Native.Nat.{_+_, _≤_}
-use lib.ListN.{length}
-use Rattle.motif.specs.Search.{isName}
-use Rattle.motif.proofs.Matches.{name-long}
+use borrow.Author.Tests.{eq-eqb, ne-eqb}
+use Rattle.motif.proofs.Finding.{same-row}
 use borrow.Author.Needs.{needs}
 use Rattle.motif.proofs.held.is_name.Statement.{statement}
 use Rattle.motif.proofs.held.is_name.Tie as tie
 
-lies-within-requires : tie.Need-lies-within-requires
-lies-within-requires c κs = search needs
+mul-if1 : tie.Need-mul-if1
+mul-if1 c = search needs
+
+add-if1 : tie.Need-add-if1
+add-if1 c = search needs
+
+mul-if1-2 : tie.Need-mul-if1-2
+mul-if1-2 c = search needs
+
+element-copy-out-if1 : tie.Need-element-copy-out-if1
+element-copy-out-if1 c = search needs
 
 returns : tie.Need-returns
-unfolding isName
-returns c = rw (sym (c .before .lies-within .ensures) ∙ not-true _ (c .if1 .taken))
+returns c = let a = c .before .before .before .args in
+    sym (same-row (a .motifs .now) (a .i) (a .key .first) (a .key .next) (a .key .long) ∙ rw (ne-eqb _ _ (c .if1 .taken)))
+
+mul-if2 : tie.Need-mul-if2
+mul-if2 c = search needs
+
+mul-if2-2 : tie.Need-mul-if2-2
+mul-if2-2 c = search needs
+
+element-copy-out-if2 : tie.Need-element-copy-out-if2
+element-copy-out-if2 c = search needs
 
 returns-2 : tie.Need-returns-2
-unfolding isName
-returns-2 c = let e = c .before in
-    let a = e .before .before .before .before .args in
-    let y = sym (e .before .lies-within .ensures) ∙ not-false _ (e .if1 .left) in
-    let k : a .at + a .long ≤ length (a .job .now) = leb-true (a .at + a .long) (length (a .job .now)) y in
-    rw y (sym (name-long (a .job .now) (a .s .now) (a .at) (a .long) (a .first) (a .count) k (omega arith) (c .if2 .taken)))
+returns-2 c = let a = c .before .before .before .before .before .before .args in
+    sym (same-row (a .motifs .now) (a .i) (a .key .first) (a .key .next) (a .key .long) ∙ rw (eq-eqb _ _ (c .before .before .before .if1 .left), ne-eqb _ _ (c .if2 .taken)))
 
-same-bytes-requires : tie.Need-same-bytes-requires
-same-bytes-requires c κs = let e = c .before in
-    let a = e .before .before .before .before .args in
-    let y = sym (e .before .lies-within .ensures) ∙ not-false _ (e .if1 .left) in
-    let k : a .at + a .long ≤ length (a .job .now) = leb-true (a .at + a .long) (length (a .job .now)) y in
-    (omega arith, omega arith)
+mul-result : tie.Need-mul-result
+mul-result c = search needs
+
+add-result : tie.Need-add-result
+add-result c = search needs
+
+mul-result-2 : tie.Need-mul-result-2
+mul-result-2 c = search needs
+
+element-copy-out-result : tie.Need-element-copy-out-result
+element-copy-out-result c = search needs
 
 returns-3 : tie.Need-returns-3
-unfolding isName
-returns-3 c = let e = c .before .before in
-    rw (sym (e .before .lies-within .ensures) ∙ not-false _ (e .if1 .left), c .before .if2 .left) (c .same-bytes .ensures)
+returns-3 c = let a = c .before .before .before .before .before .before .before .before .args in
+    sym (same-row (a .motifs .now) (a .i) (a .key .first) (a .key .next) (a .key .long) ∙ rw (eq-eqb _ _ (c .before .before .before .before .before .if1 .left), eq-eqb _ _ (c .before .before .if2 .left)))
 
 pub is-name-spec : {M : Type 1} → statement M
 is-name-spec =
-    tie.close (tie.spec lies-within-requires returns returns-2 same-bytes-requires returns-3)
+    tie.close
+    (tie.spec
+    mul-if1
+    add-if1
+    mul-if1-2
+    element-copy-out-if1
+    returns
+    mul-if2
+    mul-if2-2
+    element-copy-out-if2
+    returns-2
+    mul-result
+    add-result
+    mul-result-2
+    element-copy-out-result
+    returns-3)

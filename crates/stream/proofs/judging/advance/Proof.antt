@@ -5,25 +5,24 @@ use mathlib.Core.List.{List}
 use mathlib.Core.Path.{refl, sym, _∙_, _≡_}
 use native.Mathlib.Omega.{arith}
 use Rattle.setting.specs.Views.{settingAs}
-use Rattle.motif.proofs.Keeping.{keeps-balanced}
 use Rattle.scope.specs.Reading.{operatorAt}
 use Rattle.scope.specs.Motif as scope
 use Rattle.scope.specs.Motif.{Motif, contextIn}
 use Rattle.order.specs.Views.{phaseAs}
 use Rattle.reader.specs.Reads.{readAs}
 use Rattle.stream.specs.Judging.{Follows}
-use Rattle.stream.proofs.Turning.{context-is, rows-read, pop-read, step-no, step-ended, step-call, step-deed, ahead-lands}
+use Rattle.stream.proofs.Stepping.{context-is, rows-read, pop-read, step-no, step-ended, step-on, ahead}
 use borrow.Author.Needs.{needs}
 use Rattle.stream.proofs.judging.advance.Statement.{statement}
 use Rattle.stream.proofs.judging.advance.Tie as tie
 
 -- what was read is what the definition reads where it stands
-read-is : (c : tie.After-operator-at) (ms : List Motif) (w : scope.Inside) → length (c .before .before .before .before .before .args .attrs .now) ≡ 80
-    → Follows ms (c .before .before .before .before .before .args .inside) w
-    → operatorAt (contextIn (settingAs (c .before .before .before .before .before .args .set)) w) (c .before .before .before .before .before .args .s .now) (w .at) ≡ readAs (c .operator-at .result) (c .operator-at .last .1 .1 .1 .0)
+read-is : (c : tie.After-operator-at) (ms : List Motif) (w : scope.Inside) → length (c .before .before .before .before .args .attrs .now) ≡ 80
+    → Follows (c .before .before .before .before .args .motifs .now) ms (c .before .before .before .before .args .inside) w
+    → operatorAt (contextIn (settingAs (c .before .before .before .before .args .set)) w) (c .before .before .before .before .args .s .now) (w .at) ≡ readAs (c .operator-at .result) (c .operator-at .last .1 .1 .1 .0)
 read-is c ms w l g =
-    let a = c .before .before .before .before .before .args in
-    sym (context-is ms (settingAs (a .set)) (a .s .now) (a .inside) w (phaseAs (c .before .before .phase-in .result)) g (c .before .before .phase-in .ensures)) ∙ sym (c .operator-at .ensures .1 .0 l)
+    let a = c .before .before .before .before .args in
+    sym (context-is (a .motifs .now) ms (settingAs (a .set)) (a .s .now) (a .inside) w (phaseAs (c .before .before .phase-in .result)) g (c .before .before .phase-in .ensures)) ∙ sym (c .operator-at .ensures .1 .0 l)
 
 phase-in-requires : tie.Need-phase-in-requires
 phase-in-requires c κs = search needs
@@ -49,16 +48,16 @@ call-requires c κs = search needs
 returns : tie.Need-returns
 returns c =
     let f = c .before .before .before .before .before .before .before in
-    let st = f .before .before .before .before .before in
+    let st = f .before .before .before .before in
     let a = st .args in
     let e = c .before .before .before .before .before .o .given .1 in
     let o = c .before .before .before .before .before .o .given .0 .0 in
     let v = rw e at (f .operator-at .ensures .1 .1) in (
       f .operator-at .ensures .0,
       (
-        ahead-lands (length (a .s .now)) (a .inside .at) (o .next) (a .inside .saved) (c .call .result) (omega arith) (v .2) (st .pre .1) (c .call .ensures .0),
-        λ ms w l h k g. step-call ms (settingAs (a .set)) (a .s .now) w _ _ (read-is f ms w l g ∙ rw e) (c .before .before .if1 .taken)
-            (c .call .ensures .1 ms w (record { long = f .operator-at .ensures .0 ∙ l; few = v .4 }) h k g),
+        ahead (length (a .s .now)) (a .inside .at) (o .next) (a .inside .saved) (c .call .result) (omega arith) (v .2) (st .pre .1) (c .call .ensures .0),
+        λ ms w l k g. step-on (a .motifs .now) ms (settingAs (a .set)) (a .s .now) w _ _ (read-is f ms w l g ∙ rw e)
+            (c .call .ensures .1 (settingAs (a .set)) ms w (record { long = f .operator-at .ensures .0 ∙ l; few = v .4 }) k (c .before .before .if1 .taken) g),
       ),
     )
 
@@ -68,36 +67,36 @@ deed-requires c κs = search needs
 returns-2 : tie.Need-returns-2
 returns-2 c =
     let f = c .before .before .before in
-    let a = f .before .before .before .before .before .args in
-    (f .operator-at .ensures .0, (tt, λ ms w l h k g. step-no ms (settingAs (a .set)) (a .s .now) w _ _ (read-is f ms w l g ∙ rw (c .before .code .given .1))))
+    let a = f .before .before .before .before .args in
+    (f .operator-at .ensures .0, (tt, λ ms w l k g. step-no (a .motifs .now) ms (settingAs (a .set)) (a .s .now) w _ _ (read-is f ms w l g ∙ rw (c .before .code .given .1))))
 
 returns-3 : tie.Need-returns-3
 returns-3 c =
     let f = c .before .before .before in
-    let a = f .before .before .before .before .before .args in (
+    let a = f .before .before .before .before .args in (
       f .operator-at .ensures .0,
       (
         tt,
-        λ ms w l h k g. step-ended ms (settingAs (a .set)) (a .s .now) w _ (read-is f ms w l g ∙ rw (c .before .enum-told .given .1))
-            (c .ended .ensures ms w (a .s .now) refl (keeps-balanced k) g),
+        λ ms w l k g. step-ended (a .motifs .now) ms (settingAs (a .set)) (a .s .now) w _ (read-is f ms w l g ∙ rw (c .before .enum-told .given .1))
+            (c .ended .ensures (a .motifs .now) ms w (a .s .now) refl g),
       ),
     )
 
 returns-4 : tie.Need-returns-4
 returns-4 c =
     let f = c .before .before .before .before .before .before .before in
-    let st = f .before .before .before .before .before in
+    let st = f .before .before .before .before in
     let a = st .args in
     let e = c .before .before .before .before .before .o .given .1 in
     let o = c .before .before .before .before .before .o .given .0 .0 in
     let v = rw e at (f .operator-at .ensures .1 .1) in (
       f .operator-at .ensures .0,
       (
-        ahead-lands (length (a .s .now)) (a .inside .at) (o .next) (a .inside .saved) (c .deed .result) (omega arith) (v .2) (st .pre .1) (c .deed .ensures .0),
-        λ ms w l h k g.
+        ahead (length (a .s .now)) (a .inside .at) (o .next) (a .inside .saved) (c .deed .result) (omega arith) (v .2) (st .pre .1) (c .deed .ensures .0),
+        λ ms w l k g.
             let q = rw e at (read-is f ms w l g) in
-            step-deed ms (settingAs (a .set)) (a .s .now) w _ _ q (c .before .before .if1 .left)
-            (c .deed .ensures .1 ms w (record { long = f .operator-at .ensures .0 ∙ l; few = v .4 }) g
+            step-on (a .motifs .now) ms (settingAs (a .set)) (a .s .now) w _ _ q
+            (c .deed .ensures .1 (a .motifs .now) ms w (record { long = f .operator-at .ensures .0 ∙ l; few = v .4 }) (c .before .before .if1 .left) g
             (rows-read (settingAs (a .set)) (a .s .now) w _ q) (pop-read (settingAs (a .set)) (a .s .now) w _ q)),
       ),
     )

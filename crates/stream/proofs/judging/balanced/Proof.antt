@@ -1,5 +1,6 @@
 -- `balanced` meets its contract.
 -- Assumes nothing.
+use mathlib.Core.Path.{_≡_, sym, _∙_}
 use borrow.Author.Tests.{eq-eqb, ne-eqb}
 use Rattle.stream.proofs.Turning.{ended-even}
 use Rattle.stream.specs.Judging.{judges-faulty}
@@ -8,7 +9,7 @@ use Rattle.stream.proofs.judging.balanced.Statement.{statement}
 use Rattle.stream.proofs.judging.balanced.Tie as tie
 
 returns : tie.Need-returns
-returns c = λ ms ops b r l. rw (ne-eqb _ 0 (c .if1 .taken)) judges-faulty
+returns c = λ t ms w f. rw (ne-eqb (w .saved) 0 (λ e. c .if1 .taken (f .saved ∙ e))) judges-faulty
 
 summary-requires : tie.Need-summary-requires
 summary-requires c κs = search needs
@@ -18,10 +19,12 @@ packed-requires c κs = search needs
 
 returns-2 : tie.Need-returns-2
 returns-2 c =
-    let a = c .before .before .before .args in
-    λ ms ops b r l. rw (eq-eqb _ 0 (c .before .before .if1 .left))
-    (ended-even ms ops _ (a .depth) b (rw (c .before .before .if1 .left) at l)
-    (λ row e k q. c .packed .ensures row (c .before .summary .ensures row (rw q (r k)) e)))
+    let e = c .before .before .before in
+    let a = e .before .before .args in
+    λ t ms w f.
+    let z : w .saved ≡ 0 = sym (f .saved) ∙ e .if1 .left in
+    rw (eq-eqb (w .saved) 0 z)
+    (ended-even t ms (a .inside) w _ f z (λ row r b. c .packed .ensures row (c .before .summary .ensures row r b)))
 
 pub balanced-spec : {M : Type 1} → statement M
 balanced-spec = tie.close (tie.spec returns summary-requires packed-requires returns-2)

@@ -32,12 +32,12 @@ returns c =
     let b = p .before .before in
     let a = b .before .before .args in (
       (refl, saved-most (a .o .tag) (a .inside .saved) _ (c .saved-after .ensures)),
-      λ ms w z f fit pop.
+      λ t ms w z n f fit pop.
           let o = operatorAs (a .o) (a .attrs .now) in
           let g = subst⁻¹ (λ i. rowsFit (a .set .high) (a .s .now) (imageIn i) (o .tag) (o .attrs) ≡ true) (f .picture) fit in
           let v = p .picture-after .ensures z g ∙ ap (λ i. pictureFor (a .set .high) (a .s .now) (o .tag) (o .attrs) i) (f .picture) ∙ picture-is (a .set .high) (a .s .now) o (w .picture) in
-          deed-on ms (settingAs (a .set)) (a .s .now) o w (a .inside) _ f refl (c .saved-after .ensures) v refl
-          (λ row x r i. c .before .step .ensures row x r (i ∙ sym (act-is (settingAs (a .set)) (a .s .now) o) ∙ sym (p .before .act-of .ensures z))) pop,
+          deed-on t ms (settingAs (a .set)) (a .s .now) o w (a .inside) _ f refl (c .saved-after .ensures) v refl refl
+          (λ row x r i. c .before .step .ensures row x r (i ∙ sym (act-is (settingAs (a .set)) (a .s .now) o) ∙ sym (p .before .act-of .ensures z))) n pop,
     )
 
 pub deed-spec : {M : Type 1} → statement M

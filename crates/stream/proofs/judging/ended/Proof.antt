@@ -18,13 +18,13 @@ balanced-requires c κs = search needs
 
 returns : tie.Need-returns
 returns c =
-    let a = c .before .before .before .args in
-    λ ms w s e b f. ended-open ms s w (a .len) e (imageAs (c .enum-told .given .0 .0)) (sym (f .picture) ∙ rw (c .enum-told .given .1))
+    let a = c .before .before .args in
+    λ t ms w s e f. ended-open t ms s w (a .len) e (imageAs (c .enum-told .given .0 .0)) (sym (f .picture) ∙ rw (c .enum-told .given .1))
 
 returns-2 : tie.Need-returns-2
 returns-2 c =
-    let a = c .before .before .before .before .args in
-    λ ms w s e b f. ended-closed ms s w (a .len) e _ (sym (f .picture) ∙ rw (c .before .enum-told2 .given .1)) (f .saved) (f .depth) (c .balanced .ensures ms (w .ops) b (f .runs) (rw (f .saved) (f .level)))
+    let a = c .before .before .before .args in
+    λ t ms w s e f. ended-closed t ms s w (a .len) e _ (sym (f .picture) ∙ rw (c .before .enum-told2 .given .1)) (c .balanced .ensures t ms w f)
 
 pub ended-spec : {M : Type 1} → statement M
 ended-spec = tie.close (tie.spec enum-told enum-told-2 balanced-requires returns returns-2)

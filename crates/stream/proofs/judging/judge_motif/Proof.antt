@@ -25,7 +25,7 @@ unfolding motifOf motifFrom
 returns c =
     let k = c .before .before .before in
     let h = rw (k .class .given .1) at (k .before .before .header-of .ensures .0) in
-    λ ms l q. rw (← h, sym (c .before .same-class .ensures) ∙ not-true _ (c .if1 .taken)) judges-faulty
+    λ ms q. rw (← h, sym (c .before .same-class .ensures) ∙ not-true _ (c .if1 .taken)) judges-faulty
 
 operators-requires : tie.Need-operators-requires
 operators-requires c κs =
@@ -36,7 +36,7 @@ returns-2 : tie.Need-returns-2
 unfolding motifOf motifFrom
 returns-2 c =
     let h = rw (c .before .code .given .1) at (c .before .before .before .header-of .ensures .0) in
-    λ ms k q. rw (← h) judges-faulty
+    λ ms q. rw (← h) judges-faulty
 
 returns-3 : tie.Need-returns-3
 unfolding motifOf motifFrom
@@ -44,7 +44,7 @@ returns-3 c =
     let e = c .before .before in
     let k = e .before .before .before in
     let h = rw (k .class .given .1) at (k .before .before .header-of .ensures .0) in
-    λ ms l q. rw (← h, sym (e .before .same-class .ensures) ∙ not-false _ (e .if1 .left)) (c .operators .ensures .1 ms refl l q)
+    λ ms q. rw (← h, sym (e .before .same-class .ensures) ∙ not-false _ (e .if1 .left)) (c .operators .ensures .1 ms refl q)
 
 pub judge-motif-spec : {M : Type 1} → statement M
 judge-motif-spec =

@@ -10,52 +10,61 @@ use Rattle.scope.specs.Motif as scope
 use Rattle.scope.specs.Motif.{Motif, judgedInside}
 use Rattle.motif.specs.Held.{Keeps}
 use Rattle.stream.specs.Judging.{Follows}
-use Rattle.stream.proofs.Turning.{starting, starts, turned-go, turned-stop}
+use Rattle.stream.proofs.Turning.{starting, starts}
+use Rattle.stream.proofs.Stepping.{turned-go, turned-stop}
 use borrow.Author.Needs.{needs}
 use Rattle.stream.proofs.judging.operators.Statement.{statement}
 use Rattle.stream.proofs.judging.operators.Tie as tie
 
 abbrev Inv-loop : tie.InvT-loop
-Inv-loop s set next job rows sums held attrs₀ inside₀ attrs inside =
+Inv-loop s set next motifs held attrs₀ inside₀ attrs inside =
     (length attrs ≡ length attrs₀) × (inside .at ≤ length s) × (inside .saved ≤ inside .at)
-    × ((ms : List Motif) → length attrs₀ ≡ 80 → held ≤ 64 → Keeps job rows sums held ms
-    → (w : scope.Inside) × (Follows ms inside w × (judgedInside ms (settingAs set) s w ≡ judgedInside ms (settingAs set) s (starting next))))
+    × ((ms : List Motif) → length attrs₀ ≡ 80 → Keeps motifs held ms
+    → (w : scope.Inside) × (Follows motifs ms inside w × (judgedInside (settingAs set) s w ≡ judgedInside (settingAs set) s (starting next))))
 
 abbrev μ-loop : tie.MeasureT-loop
-μ-loop s set next job rows sums held attrs₀ inside₀ attrs inside = length s - inside .at
+μ-loop s set next motifs held attrs₀ inside₀ attrs inside = length s - inside .at
 
 fresh-requires : tie.Need-fresh-requires Inv-loop μ-loop
 fresh-requires c κs = search needs
 
 loop-holds : tie.Need-loop-holds Inv-loop μ-loop
 loop-holds c =
-    (refl, c .before .before .before .pre, omega arith, λ ms l h k. (starting _, (starts ms _ refl refl refl (c .fresh .ensures), refl)))
+    (refl, c .before .before .pre, omega arith, λ ms l k. (starting _, (starts _ ms _ refl refl refl refl (c .fresh .ensures), refl)))
+
+past-run-requires : tie.Need-past-run-requires Inv-loop μ-loop
+past-run-requires c κs = (c .loop .inv .1, c .loop .inv .2)
 
 advance-requires : tie.Need-advance-requires Inv-loop μ-loop
 advance-requires c κs =
-    (c .before .loop .inv .1, c .before .loop .inv .2)
+    let q = c .before .past-run .ensures .0 in
+    (q .1, q .2)
 
 enum-known-on : tie.Need-enum-known-on Inv-loop μ-loop
 enum-known-on c = search needs
 
 loop-less : tie.Need-loop-less Inv-loop μ-loop
 loop-less c =
-    let p = rw (c .before .on .given .1) at (c .before .before .before .advance .ensures .1 .0) in
-    omega (arith, p)
+    let d = c .before .before .before in
+    let q = d .before .before .past-run .ensures .0 in
+    let p = rw (c .before .on .given .1) at (d .advance .ensures .1 .0) in
+    omega (arith, p .0, p .1, q .0)
 
 loop-again : tie.Need-loop-again Inv-loop μ-loop
 loop-again c =
     let d = c .before .before .before in
-    let l = d .before .before .loop in
-    let a = d .before .before .before .before .before .before .args in
+    let r = d .before .before in
+    let l = r .before .loop in
+    let a = r .before .before .before .before .args in
     let e = c .before .on .given .1 in
     let p = rw e at (d .advance .ensures .1 .0) in (
       d .advance .ensures .0 ∙ l .inv .0,
       p .1,
       p .2,
-      λ ms z h k.
-          let v = l .inv .3 ms z h k in
-          turned-go ms (settingAs (a .set)) (a .s .now) _ _ (v .0) (v .1 .1) (rw e at (d .advance .ensures .1 .1 ms (v .0) (l .inv .0 ∙ z) h k (v .1 .0))),
+      λ ms z k.
+          let w = l .inv .3 ms z k in
+          let v = r .past-run .ensures .1 (a .motifs .now) ms (w .0) (w .1 .0) in
+          turned-go (a .motifs .now) ms (settingAs (a .set)) (a .s .now) _ _ (v .stands) (v .judged ∙ w .1 .1) (rw e at (d .advance .ensures .1 .1 ms (v .stands) (l .inv .0 ∙ z) k (v .follows))),
     )
 
 enum-known-judged : tie.Need-enum-known-judged Inv-loop μ-loop
@@ -64,13 +73,15 @@ enum-known-judged c = search needs
 returns : tie.Need-returns Inv-loop μ-loop
 returns c =
     let d = c .before .before .before in
-    let l = d .before .before .loop in
-    let a = d .before .before .before .before .before .before .args in
+    let r = d .before .before in
+    let l = r .before .loop in
+    let a = r .before .before .before .before .args in
     let e = c .before .judged .given .1 in (
       d .advance .ensures .0 ∙ l .inv .0,
-      λ ms z h k.
-          let v = l .inv .3 ms z h k in
-          turned-stop ms (settingAs (a .set)) (a .s .now) _ _ (v .0) (v .1 .1) (rw e at (d .advance .ensures .1 .1 ms (v .0) (l .inv .0 ∙ z) h k (v .1 .0))),
+      λ ms z k.
+          let w = l .inv .3 ms z k in
+          let v = r .past-run .ensures .1 (a .motifs .now) ms (w .0) (w .1 .0) in
+          turned-stop (a .motifs .now) ms (settingAs (a .set)) (a .s .now) _ _ (v .stands) (v .judged ∙ w .1 .1) (rw e at (d .advance .ensures .1 .1 ms (v .stands) (l .inv .0 ∙ z) k (v .follows))),
     )
 
 pub operators-spec : {M : Type 1} → statement M
@@ -81,6 +92,7 @@ operators-spec =
     μ-loop
     fresh-requires
     loop-holds
+    past-run-requires
     advance-requires
     enum-known-on
     loop-less
