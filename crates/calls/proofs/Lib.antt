@@ -1,0 +1,4 @@
+pub mod Marking
+pub mod Rounding
+pub mod Ringing
+pub mod Refusing

@@ -1,0 +1,40 @@
+// What a call of a name comes to.
+ghost use mathlib.Core.List.{List};
+ghost use Prim.Native.Nat.{_<_};
+ghost use Rattle.scope.specs.Motif.{Motif};
+ghost use Rattle.motif.specs.Held.{InRow};
+ghost use Rattle.motif.specs.Tables.{Tables};
+ghost use Rattle.calls.specs.Judged.{Calls};
+use crate::why::why_not;
+use motif::LEVEL;
+use motif::ROW;
+use motif::SUM;
+use motif::Where;
+use motif::find;
+
+// Its motif's summary; or a code: 21, 32 or 22.
+pub enum Called {
+    Sum(usize),
+    No(u32),
+}
+
+// A call of the motif of row i: its summary, if it has a level; else why it is refused.
+fn of_row(motifs: &[usize; 640], held: usize, i: usize) -> Called
+    requires { ⌜ i < 64 ⌝ }
+    ensures { λ r. ⌜ ((ms : List Motif) (m : Motif) → Tables (now (motifs .entry)) held ms → InRow ms i m → Calls ms (m .name) r) ⌝ }
+{
+    if motifs[i * ROW + LEVEL] != 0 {
+        return Called::Sum(motifs[i * ROW + SUM]);
+    }
+    Called::No(why_not(motifs, held, i))
+}
+
+// A call of a name: 21 if it or one that it unfolds to is not held, 32 if a motif calls itself, 22 if calls nest over 32.
+pub fn call_of(motifs: &[usize; 640], held: usize, name: &[u8]) -> Called
+    ensures { λ r. ⌜ ((ms : List Motif) → Tables (now (motifs .entry)) held ms → Calls ms (now (name .entry)) r) ⌝ }
+{
+    match find(motifs, held, name) {
+        Where::At(i) => of_row(motifs, held, i),
+        Where::Nowhere => Called::No(21),
+    }
+}

@@ -1,0 +1,6 @@
+// A call judged from the table of held motifs alone: no motif's bytes, and rounds over the rows.
+mod calls;
+mod why;
+
+pub use calls::Called;
+pub use calls::call_of;

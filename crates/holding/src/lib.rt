@@ -1,0 +1,6 @@
+// EndStream: a valid motif becomes held, or replaces the one that its name holds.
+mod adding;
+mod holding;
+mod replacing;
+
+pub use holding::hold;

@@ -1,0 +1,4 @@
+// The table's marks, levels and summaries made anew, from the bytes of the motifs.
+mod settling;
+
+pub use settling::remake;
