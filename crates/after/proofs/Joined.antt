@@ -12,7 +12,7 @@ use borrow.Author.Tests.{le-leb, leb-true, leb-false}
 use Rattle.scope.proofs.Ends.{pick-all}
 use Rattle.buffer.specs.Over.{over, joinedAt}
 use Rattle.buffer.proofs.Parts.{length-over, drop-over, take-under, part-over}
-use Rattle.after.specs.Kept.{blockJoined}
+use Rattle.after.specs.Block.{blockJoined}
 
 -- a part in the middle is the end of a part from the start
 mid : (w : List ℕ) (u j : ℕ) → u ≤ length w → take j (drop u w) ≡ drop u (take (u + j) w)
@@ -98,11 +98,22 @@ module _ (s w W : List ℕ) (first count used joined k : ℕ) (t : Bool) (e : k 
   unfolding blockJoined
   work-is = rw (j, r, part-length, e, le-leb (first + count) (length s) hw, le-leb (used + joined + count) 16384 hl)
 
-  pub work-joined : 16384 ≤ length w → take (joined + count) (drop used W) ≡ take joined (drop used w) ++ take count (drop first s)
-  work-joined h =
+  work-over : 16384 ≤ length w → W ≡ over w (used + joined) (take k (drop first s))
+  work-over h =
       let b : List ℕ = take k (drop first s) in
       let f : used + joined + count ≤ length w = omega arith in
       let g : used + joined + length b ≤ length w = rw part-length f in
       let y : t ≡ true = r ∙ le-leb (used + joined + length b) (length w) g in
-      let z : W ≡ over w (used + joined) b = j ∙ ap (λ (x : Bool). joinedAt x w (used + joined) b) y in
-      rw (z, ← e) (join-over w b used joined k (part-length ∙ sym e) (rw e f))
+      j ∙ ap (λ (x : Bool). joinedAt x w (used + joined) b) y
+
+  pub work-joined : 16384 ≤ length w → take (joined + count) (drop used W) ≡ take joined (drop used w) ++ take count (drop first s)
+  work-joined h =
+      let f : used + joined + count ≤ length w = omega arith in
+      rw (work-over h, ← e) (join-over w (take k (drop first s)) used joined k (part-length ∙ sym e) (rw e f))
+
+  -- the bytes held are as they were
+  pub work-held : 16384 ≤ length w → take used W ≡ take used w
+  work-held h =
+      let l : used ≤ used + joined = omega arith in
+      let m : used + joined ≤ length w = omega arith in
+      rw (work-over h) (take-under w (used + joined) (take k (drop first s)) used l m)

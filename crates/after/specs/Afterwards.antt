@@ -1,6 +1,6 @@
 -- Where the code stands after an operator, and where the definitions stand.
 -- Assumes nothing.
-use Prim.Native.Nat.{ℕ, _+_, _≤_, _<_}
+use Prim.Native.Nat.{ℕ, _+_, _≤_}
 use mathlib.Core.Path.{_≡_}
 use mathlib.Core.Bool.{Bool, true, false}
 use mathlib.Core.List.{List, [], _++_}
@@ -25,6 +25,8 @@ use Rattle.arm.specs.Holds.{PageHolds}
 use Rattle.arm.specs.declared.page.Page.{Page}
 use Rattle.order.specs.Pictures.{pictureAs, pictureFor, imageIn}
 use Rattle.order.specs.declared.picture.Picture.{Picture}
+use Rattle.motif.specs.Stored.{full}
+use Rattle.motif.specs.declared.kept.Kept.{Kept}
 use Rattle.place.specs.Places.{BusyHolds, PlaceHolds}
 use Rattle.early.specs.Earlier.{Earlies, Passes}
 use Rattle.early.specs.declared.early.Early.{Early}
@@ -40,44 +42,53 @@ unfoldable pub restingAfter : Bool → List ℕ → ℕ → List Attribute → s
 restingAfter gray s tag l =
     pick (eqb tag BeginPage) (scope.drawing (blank gray) motif.Picture.none) (pick (eqb tag BeginStream) (scope.reading (bytesIn s l StreamName) []) scope.resting)
 
--- r is what a session at rest is at after the operator
+-- r is what a session at rest is at after the operator; a name that it gives is short, and there is a row for it
 abbrev pub Begins : (job attrs : List ℕ) (gray : Bool) (o : Operator) → Busy → Type 0
 Begins job attrs gray o r =
-    (work : List ℕ) (n used : ℕ) → Sized attrs (o .count) → used ≤ 16384 → (o .tag ≡ BeginStream → n < 64)
-    → BusyHolds job work n used r (restingAfter gray job (o .tag) (rowsOf attrs (o .count)))
+    (work : List ℕ) (kept : Kept) (ms : List motif.Motif) → Sized attrs (o .count) → kept .used ≤ 16384
+    → (o .tag ≡ BeginStream → (length (bytesIn job (rowsOf attrs (o .count)) StreamName) ≤ 16) × (full ms (bytesIn job (rowsOf attrs (o .count)) StreamName) ≡ false))
+    → BusyHolds job work kept ms r (restingAfter gray job (o .tag) (rowsOf attrs (o .count)))
 
 -- r is what a session in a page, perhaps with an image open, is at after the operator, which leaves the page so
 abbrev pub Draws : (job attrs : List ℕ) (high : Bool) (o : Operator) → Page → Picture → Busy → Type 0
 Draws job attrs high o page picture r =
-    (work : List ℕ) (n used : ℕ) (q : arm.Page) → Sized attrs (o .count) → PageHolds page q
+    (work : List ℕ) (kept : Kept) (ms : List motif.Motif) (q : arm.Page) → Sized attrs (o .count) → PageHolds page q
     → rowsFit high job (imageIn (pictureAs picture)) (o .tag) (rowsOf attrs (o .count)) ≡ true
-    → BusyHolds job work n used r
+    → BusyHolds job work kept ms r
     (pick (eqb (o .tag) EndPage) scope.resting (scope.drawing q (pictureFor high job (o .tag) (rowsOf attrs (o .count)) (pictureAs picture))))
 
--- the data of the operator stands in the work buffer behind the bytes joined before, and r bytes are joined then
+-- the data of the operator stands in the work buffer behind the bytes joined before, of which there are r then; the bytes held are as they were
+pub record Joined (job : List ℕ) (o : Operator) (used joined : ℕ) (work work₁ : List ℕ) (r : ℕ) : Type 0 where
+  pub more : r ≡ joined + o .length
+  pub bytes : take r (drop used work₁) ≡ take joined (drop used work) ++ take (o .length) (drop (o .first) job)
+  pub held : take used work₁ ≡ take used work
+
+-- so it is if the data lies in the job and there is room for it
 abbrev pub Joins : (job : List ℕ) (o : Operator) (used joined : ℕ) (work work₁ : List ℕ) → ℕ → Type 0
 Joins job o used joined work work₁ r =
-    16384 ≤ length work → o .first + o .length ≤ length job → used + joined + o .length ≤ 16384
-    → (r ≡ joined + o .length) × (take r (drop used work₁) ≡ take joined (drop used work) ++ take (o .length) (drop (o .first) job))
+    16384 ≤ length work → o .first + o .length ≤ length job → used + joined + o .length ≤ 16384 → Joined job o used joined work work₁ r
+
+-- what an operator leaves as it is: the lengths of work buffer and table, and the work buffer from byte 16,384 on
+pub record Stays (work t work₁ t₁ : List ℕ) : Type 0 where
+  pub work-long : length work₁ ≡ length work
+  pub table-long : length t₁ ≡ length t
+  pub rest : drop 16384 work₁ ≡ drop 16384 work
 
 -- an operator that was read and is not refused by these rules, where the code's place keeps q and the code's page is the one after it
-pub record Comes (job attrs : List ℕ) (set : Setting) (o : Operator) (early : Early) (page : Page) (rows sums work : List ℕ) (place : Place)
-    (q : scope.Place) (st : State) : Type 0 where
-  pub holds : PlaceHolds job rows sums work place q
+pub record Comes (job attrs : List ℕ) (set : Setting) (o : Operator) (early : Early) (page : Page) (work t : List ℕ) (place : Place) (q : scope.Place) (st : State) : Type 0 where
+  pub holds : PlaceHolds set job work t place q
   pub sized : Sized attrs (o .count)
-  pub long-rows : length rows ≡ 192
-  pub long-sums : length sums ≡ 64
+  pub table-long : length t ≡ 640
   pub room : 16384 ≤ length work
   pub within : o .first + o .length ≤ length job
   pub may : mayCome (phaseOf q) (sessionOf q .opened) (o .tag) ≡ true
   pub fits : rowsFit (set .high) job (imageOf (phaseOf q)) (o .tag) (rowsOf attrs (o .count)) ≡ true
+  pub short : o .tag ≡ BeginStream → length (bytesIn job (rowsOf attrs (o .count)) StreamName) ≤ 16
   pub passes : Passes early
-  pub earlier : Earlies (caseOf set job st (sessionOf q) (operatorAs o attrs)) early
+  pub earlier : Earlies t (caseOf set job st (sessionOf q) (operatorAs o attrs)) early
   pub drawn : PageHolds page (caseOf set job st (sessionOf q) (operatorAs o attrs) .seen .page)
 
--- the code's place r, with these rows, sums and work buffer, keeps the definitions' place after the operator
-pub record After (job attrs : List ℕ) (set : Setting) (o : Operator) (early : Early) (page : Page) (rows sums work : List ℕ) (place : Place)
-    (rows₁ sums₁ work₁ : List ℕ) (r : Place) : Type 0 where
-  pub keeps : (q : scope.Place) (st : State) → Comes job attrs set o early page rows sums work place q st
-      → PlaceHolds job rows₁ sums₁ work₁ r
-      (placeAfter set job (operatorAs o attrs) (caseOf set job st (sessionOf q) (operatorAs o attrs) .seen .page) q)
+-- the code's place r, with this work buffer and table, keeps the definitions' place after the operator
+pub record After (job attrs : List ℕ) (set : Setting) (o : Operator) (early : Early) (page : Page) (work t : List ℕ) (place : Place) (work₁ t₁ : List ℕ) (r : Place) : Type 0 where
+  pub keeps : (q : scope.Place) (st : State) → Comes job attrs set o early page work t place q st
+      → PlaceHolds set job work₁ t₁ r (placeAfter set job (operatorAs o attrs) (caseOf set job st (sessionOf q) (operatorAs o attrs) .seen .page) q)

@@ -1,2 +1,2 @@
 pub mod Afterwards
-pub mod Kept
+pub mod Block

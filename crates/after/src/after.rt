@@ -3,17 +3,15 @@ ghost use mathlib.Core.Path.{_≡_};
 ghost use mathlib.Core.Bool.{true};
 ghost use mathlib.Core.List.{List};
 ghost use Prim.Native.Nat.{ℕ, _+_, _≤_};
-ghost use lib.ListN.{length, drop};
-ghost use Rattle.scope.specs.Setting.{Setting as Setting·of};
+ghost use lib.ListN.{length, take, drop};
 ghost use Rattle.setting.specs.Views.{settingAs};
-ghost use Rattle.after.specs.Afterwards.{openedAfter, Begins, Draws, Joins, After};
-ghost use Rattle.after.specs.Kept.{blockJoined, workAfter, rowsEnded, rowsAfter, sumsEnded, sumsAfter};
-ghost use Rattle.early.specs.declared.early.Early.the-variants as early-is;
+ghost use Rattle.after.specs.Afterwards.{openedAfter, Begins, Draws, Joins, Stays, After};
+ghost use Rattle.after.specs.Block.{blockJoined};
 ghost use Rattle.place.specs.declared.place.Busy.the-variants as busy-is;
 ghost use Rattle.place.specs.declared.place.Place.the-variants as place-is;
 use arm::page::Page;
 use early::Early;
-use names::limits::MOTIFS_MOST;
+use motif::Kept;
 use names::limits::STORE_MOST;
 use names::operators::BEGIN_IMAGE;
 use names::operators::BEGIN_PAGE;
@@ -28,6 +26,13 @@ use place::Busy;
 use place::Place;
 use reader::Operator;
 use setting::Setting;
+
+// A motif that is being read: place and length of its name in the job, and how many bytes are joined.
+struct Stream {
+    first: usize,
+    count: usize,
+    joined: usize,
+}
 
 // OpenDataSource opens the source, CloseDataSource closes it.
 fn opened_after(tag: u8, opened: bool) -> bool
@@ -64,22 +69,16 @@ fn resting_after(
     o: Operator,
     attrs: &[usize; 80],
     opened: bool,
-    held: usize,
-    used: usize,
+    kept: Kept,
 ) -> Place
-    ensures { λ r. ⌜ ((early : Early) (page : Page) (rows sums work : List ℕ)
-        → After (now (job .entry)) (now (attrs .entry)) (settingAs set) o early page rows sums work (place-is.Inside opened held used busy-is.Resting) rows sums work r) ⌝ }
+    ensures { λ r. ⌜ ((early : Early) (page : Page) (work t : List ℕ)
+        → After (now (job .entry)) (now (attrs .entry)) (settingAs set) o early page work t (place-is.Inside opened kept busy-is.Resting) work t r) ⌝ }
 {
     let tag = o.tag;
     if tag == END_SESSION {
         return Place::Outside(true);
     }
-    Place::Inside(
-        opened_after(tag, opened),
-        held,
-        used,
-        begun(job, set, o, attrs),
-    )
+    Place::Inside(opened_after(tag, opened), kept, begun(job, set, o, attrs))
 }
 
 // EndPage ends a page; another operator leaves it as given, and perhaps an image open. Few are of an image, so that is asked first.
@@ -106,15 +105,23 @@ fn drawn_on(
     )
 }
 
+// So many bytes from a place on lie within a length.
+fn lies(len: usize, first: usize, count: usize) -> bool
+    ensures { λ r. ⌜ (r ≡ true → first + count ≤ len) ⌝ }
+    ensures { λ r. ⌜ (first + count ≤ len → r ≡ true) ⌝ }
+{
+    if len < first {
+        return false;
+    }
+    count <= len - first
+}
+
 // Whether so many bytes of a job from a place on lie within its length, and there is room for them behind those held and those joined.
 fn fits(len: usize, first: usize, count: usize, used: usize, joined: usize) -> bool
     ensures { λ r. ⌜ (r ≡ true → (first + count ≤ len) × (used + joined + count ≤ 16384)) ⌝ }
     ensures { λ r. ⌜ (first + count ≤ len → used + joined + count ≤ 16384 → r ≡ true) ⌝ }
 {
-    if len < first {
-        return false;
-    }
-    if len - first < count {
+    if !lies(len, first, count) {
         return false;
     }
     if STORE_MOST < used {
@@ -140,152 +147,71 @@ fn join_block(job: &[u8], o: Operator, work: &mut [u8], used: usize, joined: usi
     joined + count
 }
 
-// A valid motif becomes held: a row of the place and length of its name and how deep it nests, and its summary.
-fn hold(
-    opened: bool,
-    held: usize,
-    used: usize,
-    first: usize,
-    count: usize,
-    joined: usize,
-    depth: usize,
-    sum: u64,
-    rows: &mut [usize; 192],
-    sums: &mut [u64; 64],
-) -> Place
-    ensures { λ _. ⌜ now (rows .exit) ≡ rowsEnded (early-is.Held depth sum) held used first count joined (now (rows .entry)) ⌝ }
-    ensures { λ _. ⌜ now (sums .exit) ≡ sumsEnded (early-is.Held depth sum) held used joined (now (sums .entry)) ⌝ }
-    ensures { λ r. ⌜ ((job attrs work : List ℕ) (by : Setting·of) (o : Operator) (page : Page) → (o .tag ≡ 0x5c → ⊥)
-        → After job attrs by o (early-is.Held depth sum) page (now (rows .entry)) (now (sums .entry)) work (place-is.Inside opened held used (busy-is.Reading first count joined))
-        (now (rows .exit)) (now (sums .exit)) work r) ⌝ }
-{
-    if MOTIFS_MOST <= held {
-        return Place::Outside(false);
-    }
-    if STORE_MOST < used {
-        return Place::Outside(false);
-    }
-    if STORE_MOST < joined {
-        return Place::Outside(false);
-    }
-    rows[held * 3] = first;
-    rows[held * 3 + 1] = count;
-    rows[held * 3 + 2] = depth;
-    sums[held] = sum;
-    Place::Inside(opened, held + 1, used + joined, Busy::Resting)
-}
-
-// EndStream: nothing but a valid motif comes here.
+// EndStream: a valid motif becomes held under its name, or replaces the one held there; nothing else comes here.
 fn ended(
+    set: Setting,
+    name: &[u8],
     early: Early,
     opened: bool,
-    held: usize,
-    used: usize,
-    first: usize,
-    count: usize,
+    kept: Kept,
     joined: usize,
-    rows: &mut [usize; 192],
-    sums: &mut [u64; 64],
+    work: &mut [u8],
+    motifs: &mut [usize; 640],
 ) -> Place
-    ensures { λ _. ⌜ now (rows .exit) ≡ rowsEnded early held used first count joined (now (rows .entry)) ⌝ }
-    ensures { λ _. ⌜ now (sums .exit) ≡ sumsEnded early held used joined (now (sums .entry)) ⌝ }
-    ensures { λ r. ⌜ ((job attrs work : List ℕ) (by : Setting·of) (o : Operator) (page : Page) → (o .tag ≡ 0x5c → ⊥)
-        → After job attrs by o early page (now (rows .entry)) (now (sums .entry)) work (place-is.Inside opened held used (busy-is.Reading first count joined))
-        (now (rows .exit)) (now (sums .exit)) work r) ⌝ }
+    ensures { λ _. ⌜ Stays (now (work .entry)) (now (motifs .entry)) (now (work .exit)) (now (motifs .exit)) ⌝ }
+    ensures { λ r. ⌜ ((job attrs : List ℕ) (o : Operator) (page : Page) (first count : ℕ) → take count (drop first job) ≡ now (name .entry) → (o .tag ≡ 0x5c → ⊥)
+        → After job attrs (settingAs set) o early page (now (work .entry)) (now (motifs .entry)) (place-is.Inside opened kept (busy-is.Reading first count joined))
+        (now (work .exit)) (now (motifs .exit)) r) ⌝ }
 {
     match early {
         Early::Fine => Place::Outside(false),
         Early::Call(_) => Place::Outside(false),
-        Early::Held(depth, sum) => hold(
+        Early::Held(made) => Place::Inside(
             opened,
-            held,
-            used,
-            first,
-            count,
-            joined,
-            depth,
-            sum,
-            rows,
-            sums,
+            holding::hold(work, motifs, set, name, kept, joined, made),
+            Busy::Resting,
         ),
         Early::No(_, _) => Place::Outside(false),
     }
 }
 
-// While a motif is read.
+// While a motif is read. Its name lies in the job.
 fn reading_after(
-    job: &[u8],
-    o: Operator,
-    early: Early,
-    opened: bool,
-    held: usize,
-    used: usize,
-    first: usize,
-    count: usize,
-    joined: usize,
-    work: &mut [u8],
-    rows: &mut [usize; 192],
-    sums: &mut [u64; 64],
-) -> Place
-    ensures { λ _. ⌜ now (work .exit) ≡ workAfter (now (job .entry)) o (place-is.Inside opened held used (busy-is.Reading first count joined)) (now (work .entry)) ⌝ }
-    ensures { λ _. ⌜ now (rows .exit) ≡ rowsAfter o early (place-is.Inside opened held used (busy-is.Reading first count joined)) (now (rows .entry)) ⌝ }
-    ensures { λ _. ⌜ now (sums .exit) ≡ sumsAfter o early (place-is.Inside opened held used (busy-is.Reading first count joined)) (now (sums .entry)) ⌝ }
-    ensures { λ r. ⌜ ((attrs : List ℕ) (by : Setting·of) (page : Page)
-        → After (now (job .entry)) attrs by o early page (now (rows .entry)) (now (sums .entry)) (now (work .entry))
-        (place-is.Inside opened held used (busy-is.Reading first count joined)) (now (rows .exit)) (now (sums .exit)) (now (work .exit)) r) ⌝ }
-{
-    if o.tag == READ_STREAM {
-        let more = join_block(job, o, work, used, joined);
-        return Place::Inside(opened, held, used, Busy::Reading(first, count, more));
-    }
-    ended(early, opened, held, used, first, count, joined, rows, sums)
-}
-
-// In a session.
-fn inside_after(
     job: &[u8],
     set: Setting,
     o: Operator,
-    attrs: &[usize; 80],
     early: Early,
-    page: Page,
     opened: bool,
-    held: usize,
-    used: usize,
-    busy: Busy,
+    kept: Kept,
+    stream: Stream,
     work: &mut [u8],
-    rows: &mut [usize; 192],
-    sums: &mut [u64; 64],
+    motifs: &mut [usize; 640],
 ) -> Place
-    ensures { λ _. ⌜ now (work .exit) ≡ workAfter (now (job .entry)) o (place-is.Inside opened held used busy) (now (work .entry)) ⌝ }
-    ensures { λ _. ⌜ now (rows .exit) ≡ rowsAfter o early (place-is.Inside opened held used busy) (now (rows .entry)) ⌝ }
-    ensures { λ _. ⌜ now (sums .exit) ≡ sumsAfter o early (place-is.Inside opened held used busy) (now (sums .entry)) ⌝ }
-    ensures { λ r. ⌜ After (now (job .entry)) (now (attrs .entry)) (settingAs set) o early page (now (rows .entry)) (now (sums .entry)) (now (work .entry))
-        (place-is.Inside opened held used busy) (now (rows .exit)) (now (sums .exit)) (now (work .exit)) r ⌝ }
+    ensures { λ _. ⌜ Stays (now (work .entry)) (now (motifs .entry)) (now (work .exit)) (now (motifs .exit)) ⌝ }
+    ensures { λ r. ⌜ ((attrs : List ℕ) (page : Page)
+        → After (now (job .entry)) attrs (settingAs set) o early page (now (work .entry)) (now (motifs .entry))
+        (place-is.Inside opened kept (busy-is.Reading (stream .first) (stream .count) (stream .joined))) (now (work .exit)) (now (motifs .exit)) r) ⌝ }
 {
-    match busy {
-        Busy::Resting => resting_after(job, set, o, attrs, opened, held, used),
-        Busy::Reading(first, count, joined) => reading_after(
-            job,
-            o,
-            early,
-            opened,
-            held,
-            used,
-            first,
-            count,
-            joined,
-            work,
-            rows,
-            sums,
-        ),
-        Busy::Drawing(_, picture) => Place::Inside(
-            opened,
-            held,
-            used,
-            drawn_on(job, set.high, o, attrs, page, picture),
-        ),
+    let first = stream.first;
+    let count = stream.count;
+    let joined = stream.joined;
+    if o.tag == READ_STREAM {
+        let more = join_block(job, o, work, kept.used, joined);
+        return Place::Inside(opened, kept, Busy::Reading(first, count, more));
     }
+    if !lies(job.len(), first, count) {
+        return Place::Outside(false);
+    }
+    ended(
+        set,
+        &job[first..first + count],
+        early,
+        opened,
+        kept,
+        joined,
+        work,
+        motifs,
+    )
 }
 
 // After an operator that no rule refuses, which leaves `page`. BeginSession begins a session.
@@ -298,35 +224,38 @@ pub fn place_after(
     page: Page,
     place: Place,
     work: &mut [u8],
-    rows: &mut [usize; 192],
-    sums: &mut [u64; 64],
+    motifs: &mut [usize; 640],
 ) -> Place
     ensures { λ _. ⌜ length (now (work .exit)) ≡ length (now (work .entry)) ⌝ }
-    ensures { λ _. ⌜ length (now (rows .exit)) ≡ length (now (rows .entry)) ⌝ }
-    ensures { λ _. ⌜ length (now (sums .exit)) ≡ length (now (sums .entry)) ⌝ }
+    ensures { λ _. ⌜ length (now (motifs .exit)) ≡ length (now (motifs .entry)) ⌝ }
     ensures { λ _. ⌜ drop 16384 (now (work .exit)) ≡ drop 16384 (now (work .entry)) ⌝ }
-    ensures { λ r. ⌜ After (now (job .entry)) (now (attrs .entry)) (settingAs set) o early page (now (rows .entry)) (now (sums .entry)) (now (work .entry)) place
-        (now (rows .exit)) (now (sums .exit)) (now (work .exit)) r ⌝ }
-    ensures { λ _. ⌜ now (work .exit) ≡ workAfter (now (job .entry)) o place (now (work .entry)) ⌝ }
-    ensures { λ _. ⌜ now (rows .exit) ≡ rowsAfter o early place (now (rows .entry)) ⌝ }
-    ensures { λ _. ⌜ now (sums .exit) ≡ sumsAfter o early place (now (sums .entry)) ⌝ }
+    ensures { λ r. ⌜ After (now (job .entry)) (now (attrs .entry)) (settingAs set) o early page (now (work .entry)) (now (motifs .entry)) place
+        (now (work .exit)) (now (motifs .exit)) r ⌝ }
 {
     match place {
-        Place::Outside(_) => Place::Inside(false, 0, 0, Busy::Resting),
-        Place::Inside(opened, held, used, busy) => inside_after(
-            job,
-            set,
-            o,
-            attrs,
-            early,
-            page,
-            opened,
-            held,
-            used,
-            busy,
-            work,
-            rows,
-            sums,
-        ),
+        Place::Outside(_) => Place::Inside(false, Kept { held: 0, used: 0 }, Busy::Resting),
+        Place::Inside(opened, kept, busy) => match busy {
+            Busy::Resting => resting_after(job, set, o, attrs, opened, kept),
+            Busy::Reading(first, count, joined) => reading_after(
+                job,
+                set,
+                o,
+                early,
+                opened,
+                kept,
+                Stream {
+                    first,
+                    count,
+                    joined,
+                },
+                work,
+                motifs,
+            ),
+            Busy::Drawing(_, picture) => Place::Inside(
+                opened,
+                kept,
+                drawn_on(job, set.high, o, attrs, page, picture),
+            ),
+        },
     }
 }

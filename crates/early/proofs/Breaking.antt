@@ -1,29 +1,35 @@
--- The rules of codes 19 to 21 and of a motif at EndStream, by the operator's tag.
+-- The rules of motifs and their names, by the operator's tag.
 -- Assumes nothing.
 use Prim.Native.Nat.{ℕ, _+_, _≤_, _<_}
-use mathlib.Core.Path.{_≡_, refl, sym, _∙_}
-use mathlib.Core.Bool.{Bool, true, false, not, _&&_, _||_}
+use mathlib.Core.Path.{_≡_, refl, sym, ap, _∙_}
+use mathlib.Core.Bool.{Bool, true, false, _&&_, _||_}
 use mathlib.Core.List.{List, []}
 use native.Mathlib.Omega.{arith}
-use lib.ListN.{length, getD}
+use lib.ListN.{length}
 use lib.Dec.{eqb, leb, ltb}
-use borrow.Author.Tests.{eq-eqb, ne-eqb, le-leb, lt-leb, leb-false, lt-ltb, le-ltb, ltb-false}
+use borrow.Author.Tests.{eq-eqb, ne-eqb, le-leb, lt-leb, lt-ltb, le-ltb, ltb-false}
 use Rattle.scope.specs.Setting.{Setting}
 use Rattle.scope.specs.Motif as scope-motif
-use Rattle.scope.specs.Motif.{Motif, heldAs, isHeld, bytesHeld, unfolded, Judged, valid, faulty, motifOf}
+use Rattle.scope.specs.Motif.{Motif, Own, heldAs, isHeld, bytesHeld, Judged, valid, faulty, motifOf}
+use Rattle.scope.specs.Calls.{unfolded, Met, nothing, met}
 use Rattle.scope.specs.Order.{mayCome}
 use Rattle.scope.specs.Session as scope
 use Rattle.scope.specs.Session.{Session, sessionOf, phaseBusy, phaseOf, joinedOf}
-use Rattle.scope.specs.Judge.{State, Case, caseOf, judgedAt, Rule, Refusal, firstBroken, ownOr, outer, tooMuch, nameHeld, nameMissing}
+use Rattle.scope.specs.Judge.{State, Case, caseOf, judgedAt, metAt, Rule, Refusal, firstBroken, ownOr, outer, tooMuch, nameMissing, callsItself, tooDeep, early}
 use Rattle.scope.specs.Attributes.{bytesIn}
 use Rattle.items.specs.Rows.{rowsOf, Sized}
 use Rattle.reader.specs.Reads.{operatorAs}
 use Rattle.reader.specs.declared.reading.Operator.{Operator}
-use Rattle.motif.specs.Held.{Keeps, Finds, finds-at, finds-none}
+use Rattle.motif.specs.Held.{Finds, finds-at, finds-none}
+use Rattle.motif.specs.Stored.{Stored, full}
 use Rattle.motif.specs.declared.held.Where.the-variants.{At, Nowhere}
+use Rattle.motif.specs.declared.kept.Kept.{Kept}
 use Rattle.scope.specs.Verdict.{every}
 use Rattle.scope.proofs.Placed.{motif-placed}
+use Rattle.calls.specs.Judged.{Calls, calls-sum, calls-missing, calls-again, calls-deep}
+use Rattle.calls.specs.declared.calls.Called.the-variants as Called-is
 use Rattle.stream.specs.Judging.{Judges, judges-valid, judges-faulty}
+use Rattle.stream.specs.declared.judging.Made.{Made}
 use Rattle.stream.specs.declared.judging.Judged.the-variants.{Valid, Faulty}
 use Rattle.place.specs.Places.{BusyHolds, PlaceHolds, outside-holds, inside-holds}
 use Rattle.place.specs.declared.place.Busy.{Busy}
@@ -36,262 +42,233 @@ use Rattle.summary.specs.Sums.{SumsAs}
 
 -- where none of these rules is broken, the first broken is the first of the others
 pub unbroken-first : {c : Case} → Unbroken c → (rest : List Rule) → firstBroken every c (before rest) ≡ firstBroken every c rest
-unfolding firstBroken
-unbroken-first u rest = rw (u .room, u .new, u .known) (u .sound _)
+unfolding firstBroken early nameMissing callsItself tooDeep
+unbroken-first u rest = rw (u .room) (u .sound _ ∙ rw (u .met))
 
 -- what passes is not broken
-pub passes-unbroken : {c : Case} {e : Early} → Earlies c e → Passes e → Unbroken c
+pub passes-unbroken : {t : List ℕ} {c : Case} {e : Early} → Earlies t c e → Passes e → Unbroken c
 passes-unbroken (early-fine a b u) p = u
 passes-unbroken (early-call a b u) p = u
-passes-unbroken (early-held a b u) p = u
+passes-unbroken (early-held a m k u) p = u
 passes-unbroken (early-no f l) p = absurd p
 
 first-not : (t : Bool) → t || false ≡ false → t ≡ false
 first-not true e = e
 first-not false e = refl
 
-module _ (c : Case) where
-  no-19 : tooMuch c ≡ true → Earlies c (No 19 outer)
-  unfolding firstBroken
+-- there is a row for one more, the name is held, or neither
+pub few-full : (ms : List Motif) (name : List ℕ) → length ms < 64 → full ms name ≡ false
+unfolding full
+few-full ms name h = rw (lt-leb 64 (length ms) h)
+
+held-full : (ms : List Motif) (name : List ℕ) {m : Motif} → heldAs name ms ≡ scope-motif.Held.is m → full ms name ≡ false
+unfolding full isHeld
+held-full ms name e = rw e (last (leb 64 (length ms)))
+  where
+    last : (b : Bool) → b && false ≡ false
+    last true = refl
+    last false = refl
+
+new-full : (ms : List Motif) (name : List ℕ) → 64 ≤ length ms → heldAs name ms ≡ scope-motif.Held.none → full ms name ≡ true
+unfolding full isHeld
+new-full ms name h e = rw (le-leb 64 (length ms) h, e)
+
+module _ (t : List ℕ) (c : Case) where
+  no-19 : tooMuch c ≡ true → Earlies t c (No 19 outer)
+  unfolding firstBroken early
   no-19 e = early-no {code = 19} {inner = outer} (λ rest. rw e) (omega arith)
 
-  no-20 : tooMuch c ≡ false → nameHeld c ≡ true → Earlies c (No 20 outer)
-  unfolding firstBroken
-  no-20 a e = early-no {code = 20} {inner = outer} (λ rest. rw (a, e)) (omega arith)
+  no-own : {code inner : ℕ} → tooMuch c ≡ false → c .made ≡ faulty code inner → inner < 4_294_967_296 → Earlies t c (No code inner)
+  unfolding firstBroken early
+  no-own {code} {inner} a e l = early-no {code = code} {inner = inner} (λ rest. rw (a, e)) l
 
-  no-21 : tooMuch c ≡ false → nameHeld c ≡ false → nameMissing c ≡ true → Earlies c (No 21 outer)
-  unfolding firstBroken
-  no-21 a b e = early-no {code = 21} {inner = outer} (λ rest. rw (a, b, e)) (omega arith)
+  -- a call that is refused
+  module _ (a : tooMuch c ≡ false) (s : (r : Refusal) → ownOr (c .made) r ≡ r) where
+    no-21 : c .met .missing ≡ true → Earlies t c (No 21 outer)
+    unfolding firstBroken early nameMissing
+    no-21 e = early-no {code = 21} {inner = outer} (λ rest. rw a (s _ ∙ rw e)) (omega arith)
 
-  no-own : {code inner : ℕ} → tooMuch c ≡ false → nameHeld c ≡ false → nameMissing c ≡ false → c .made ≡ faulty code inner → inner < 4_294_967_296 → Earlies c (No code inner)
-  unfolding firstBroken
-  no-own {code} {inner} a b d e l = early-no {code = code} {inner = inner} (λ rest. rw (a, b, d, e)) l
+    no-32 : c .met .missing ≡ false → c .met .again ≡ true → Earlies t c (No 32 outer)
+    unfolding firstBroken early nameMissing callsItself
+    no-32 m e = early-no {code = 32} {inner = outer} (λ rest. rw a (s _ ∙ rw (m, e))) (omega arith)
 
-  much : (k : Bool) (l : Bool) → eqb (c .op .tag) 0x5b ≡ k → eqb (c .op .tag) 0x5c ≡ l
-      → tooMuch c ≡ (k && leb 64 (length (c .session .held))) || (l && ltb 16384 (bytesHeld (c .session .held) + (length (joinedOf (c .session .busy)) + c .op .length)))
-  unfolding tooMuch
+    no-22 : c .met .missing ≡ false → c .met .again ≡ false → c .met .deep ≡ true → Earlies t c (No 22 outer)
+    unfolding firstBroken early nameMissing callsItself tooDeep
+    no-22 m g e = early-no {code = 22} {inner = outer} (λ rest. rw a (s _ ∙ rw (m, g, e))) (omega arith)
+
+  much : (k l : Bool) → eqb (c .op .tag) 0x5b ≡ k → eqb (c .op .tag) 0x5c ≡ l
+      → tooMuch c
+      ≡ (k && full (c .session .held) (c .name)) || (l && ltb 16384 (bytesHeld (c .session .held) + (length (joinedOf (c .session .busy)) + c .op .length)))
+  unfolding tooMuch full
   much k l e f = rw (e, f)
 
-  known : (k : Bool) (h : scope-motif.Held) → eqb (c .op .tag) 0x5b ≡ k → heldAs (c .name) (c .session .held) ≡ h → nameHeld c ≡ (k && isHeld h)
-  unfolding nameHeld
-  known k h e f = rw (e, f)
-
-  missing : (k : Bool) (h : scope-motif.Held) → eqb (c .op .tag) 0x5e ≡ k → heldAs (c .name) (c .session .held) ≡ h → nameMissing c ≡ (k && not (isHeld h))
-  unfolding nameMissing
-  missing k h e f = rw (e, f)
-
-  not-known : eqb (c .op .tag) 0x5b ≡ false → nameHeld c ≡ false
-  not-known e = known false (heldAs (c .name) (c .session .held)) e refl
-
-  not-missing : eqb (c .op .tag) 0x5e ≡ false → nameMissing c ≡ false
-  not-missing e = missing false (heldAs (c .name) (c .session .held)) e refl
-
-  pub sound-valid : c .made ≡ valid [] 1 → (r : Refusal) → ownOr (c .made) r ≡ r
+  pub sound-valid : {ops : List Own} → c .made ≡ valid ops → (r : Refusal) → ownOr (c .made) r ≡ r
   sound-valid e r = rw e
 
   -- an operator that these rules do not speak of
-  pub other-fine : (c .op .tag ≡ 0x5b → ⊥) → (c .op .tag ≡ 0x5c → ⊥) → (c .op .tag ≡ 0x5d → ⊥) → (c .op .tag ≡ 0x5e → ⊥) → c .made ≡ valid [] 1
-      → Earlies c Fine
-  other-fine b r d e m =
-      let tb = ne-eqb (c .op .tag) 0x5b b in
-      let te = ne-eqb (c .op .tag) 0x5e e in
-      early-fine te (ne-eqb (c .op .tag) 0x5d d)
-      (record { room = much false false tb (ne-eqb (c .op .tag) 0x5c r); new = not-known tb; known = not-missing te; sound = sound-valid m })
+  other-fine : (c .op .tag ≡ 0x5b → ⊥) → (c .op .tag ≡ 0x5c → ⊥) → (c .op .tag ≡ 0x5d → ⊥) → (c .op .tag ≡ 0x5e → ⊥) → c .made ≡ valid [] → c .met ≡ nothing
+      → Earlies t c Fine
+  other-fine b r d e m n =
+      early-fine (ne-eqb (c .op .tag) 0x5e e) (ne-eqb (c .op .tag) 0x5d d)
+      (record { room = much false false (ne-eqb (c .op .tag) 0x5b b) (ne-eqb (c .op .tag) 0x5c r); sound = sound-valid m; met = n })
 
 -- the same of an operator with these attributes in a session
-module _ (set : Setting) (job attrs : List ℕ) (x : Session) (o : Operator) where
+module _ (set : Setting) (t job attrs : List ℕ) (x : Session) (o : Operator) where
   abbrev of-it : State → Case
   of-it st = caseOf set job st x (operatorAs o attrs)
 
-  -- nothing is judged but at EndStream
-  made-other : (st : State) → (o .tag ≡ 0x5d → ⊥) → of-it st .made ≡ valid [] 1
+  -- the name that it gives
+  abbrev named : List ℕ
+  named = bytesIn job (rowsOf attrs (o .count)) 139
+
+  -- nothing is judged but at EndStream, nothing is met but by a call
+  made-other : (st : State) → (o .tag ≡ 0x5d → ⊥) → of-it st .made ≡ valid []
   unfolding caseOf judgedAt
   made-other st h = rw (ne-eqb (o .tag) 0x5d h)
 
-  pub fine-in : (o .tag ≡ 0x5b → ⊥) → (o .tag ≡ 0x5c → ⊥) → (o .tag ≡ 0x5d → ⊥) → (o .tag ≡ 0x5e → ⊥) → EarliesIn set job attrs x o Fine
+  met-other : (st : State) → (o .tag ≡ 0x5e → ⊥) → of-it st .met ≡ nothing
+  unfolding caseOf metAt
+  met-other st h = rw (ne-eqb (o .tag) 0x5e h)
+
+  pub fine-in : (o .tag ≡ 0x5b → ⊥) → (o .tag ≡ 0x5c → ⊥) → (o .tag ≡ 0x5d → ⊥) → (o .tag ≡ 0x5e → ⊥) → EarliesIn set t job attrs x o Fine
   unfolding EarliesIn caseOf
-  fine-in b r d e = λ st. other-fine (of-it st) b r d e (made-other st d)
+  fine-in b r d e = λ st. other-fine t (of-it st) b r d e (made-other st d) (met-other st e)
+
+  -- an operator of which but 19 is to be judged
+  room-fine : (o .tag ≡ 0x5d → ⊥) → (o .tag ≡ 0x5e → ⊥) → ((st : State) → tooMuch (of-it st) ≡ false) → EarliesIn set t job attrs x o Fine
+  unfolding EarliesIn caseOf
+  room-fine d e f = λ st.
+      early-fine (ne-eqb (o .tag) 0x5e e) (ne-eqb (o .tag) 0x5d d) (record { room = f st; sound = sound-valid t (of-it st) (made-other st d); met = met-other st e })
 
   module _ (b : o .tag ≡ 0x5b) where
-    pub begin-much : {n : ℕ} → length (x .held) ≡ n → 64 ≤ n → EarliesIn set job attrs x o (No 19 outer)
-    unfolding EarliesIn caseOf
-    begin-much l h =
-        let k : 64 ≤ length (x .held) = rw l h in
-        let nr : o .tag ≡ 0x5c → ⊥ = λ y. omega arith in
-        λ st. no-19 (of-it st)
-        (much (of-it st) true false (eq-eqb (o .tag) 0x5b b) (ne-eqb (o .tag) 0x5c nr) ∙ rw (le-leb 64 (length (x .held)) k))
-
-    begin-room : (st : State) → length (x .held) < 64 → tooMuch (of-it st) ≡ false
+    much-begin : (st : State) → tooMuch (of-it st) ≡ full (x .held) named || false
     unfolding caseOf
-    begin-room st h =
+    much-begin st =
         let nr : o .tag ≡ 0x5c → ⊥ = λ y. omega arith in
-        much (of-it st) true false (eq-eqb (o .tag) 0x5b b) (ne-eqb (o .tag) 0x5c nr) ∙ rw (lt-leb 64 (length (x .held)) h)
+        much t (of-it st) true false (eq-eqb (o .tag) 0x5b b) (ne-eqb (o .tag) 0x5c nr)
 
-    begin-held : (m : Motif) → length (x .held) < 64 → heldAs (bytesIn job (rowsOf attrs (o .count)) 139) (x .held) ≡ scope-motif.Held.is m → EarliesIn set job attrs x o (No 20 outer)
-    unfolding EarliesIn caseOf isHeld
-    begin-held m h e = λ st. no-20 (of-it st) (begin-room st h)
-        (known (of-it st) true (scope-motif.Held.is m) (eq-eqb (o .tag) 0x5b b) e)
-
-    begin-new : length (x .held) < 64 → heldAs (bytesIn job (rowsOf attrs (o .count)) 139) (x .held) ≡ scope-motif.Held.none → EarliesIn set job attrs x o Fine
-    unfolding EarliesIn caseOf isHeld
-    begin-new h e =
+    begin-fine : full (x .held) named ≡ false → EarliesIn set t job attrs x o Fine
+    begin-fine f =
         let ne : o .tag ≡ 0x5e → ⊥ = λ y. omega arith in
         let nd : o .tag ≡ 0x5d → ⊥ = λ y. omega arith in
-        λ st. early-fine (ne-eqb (o .tag) 0x5e ne) (ne-eqb (o .tag) 0x5d nd)
-        (record {
-          room = begin-room st h;
-          new = known (of-it st) true scope-motif.Held.none (eq-eqb (o .tag) 0x5b b) e;
-          known = not-missing (of-it st) (ne-eqb (o .tag) 0x5e ne);
-          sound = sound-valid (of-it st) (made-other st nd);
-        })
+        room-fine nd ne (λ st. much-begin st ∙ rw f)
 
     -- BeginStream that is not refused by 19
-    pub begin-few : (st : State) → tooMuch (of-it st) ≡ false → length (x .held) < 64
-    unfolding caseOf
-    begin-few st f =
-        let nr : o .tag ≡ 0x5c → ⊥ = λ y. omega arith in
-        leb-false 64 (length (x .held))
-        (first-not _ (sym (much (of-it st) true false (eq-eqb (o .tag) 0x5b b) (ne-eqb (o .tag) 0x5c nr)) ∙ f))
+    pub begin-room : (st : State) → tooMuch (of-it st) ≡ false → full (x .held) named ≡ false
+    begin-room st f = first-not _ (sym (much-begin st) ∙ f)
 
-    -- BeginStream by what a search for its name finds
-    pub begin-at : {rows sums name : List ℕ} {n i : ℕ} → length (x .held) ≡ n → n < 64 → name ≡ bytesIn job (rowsOf attrs (o .count)) 139
-        → Finds rows sums (x .held) name (At i) → EarliesIn set job attrs x o (No 20 outer)
-    begin-at l h e (finds-at {m = m} f d s) = begin-held m (rw l h) (rw e at f)
+    -- BeginStream with a row left, and by what a search for its name finds
+    pub begin-few : {n : ℕ} → length (x .held) ≡ n → n < 64 → EarliesIn set t job attrs x o Fine
+    begin-few l h = begin-fine (few-full (x .held) named (rw l h))
 
-    pub begin-nowhere : {rows sums name : List ℕ} {n : ℕ} → length (x .held) ≡ n → n < 64 → name ≡ bytesIn job (rowsOf attrs (o .count)) 139
-        → Finds rows sums (x .held) name Nowhere → EarliesIn set job attrs x o Fine
-    begin-nowhere l h e (finds-none f) = begin-new (rw l h) (rw e at f)
+    pub begin-at : {name : List ℕ} {i : ℕ} → name ≡ named → Finds (x .held) name (At i) → EarliesIn set t job attrs x o Fine
+    begin-at e (finds-at f r) = begin-fine (held-full (x .held) named (rw e at f))
+
+    pub begin-nowhere : {name : List ℕ} {n : ℕ} → length (x .held) ≡ n → 64 ≤ n → name ≡ named → Finds (x .held) name Nowhere → EarliesIn set t job attrs x o (No 19 outer)
+    unfolding EarliesIn
+    begin-nowhere l h e (finds-none f) =
+        let w : full (x .held) named ≡ true = new-full (x .held) named (rw l h) (rw e at f) in
+        λ st. no-19 t (of-it st) (much-begin st ∙ rw w)
 
   module _ (b : o .tag ≡ 0x5c) where
-    much-read : (st : State) → tooMuch (of-it st)
-        ≡ ltb 16384 (bytesHeld (x .held) + (length (joinedOf (x .busy)) + o .length))
+    much-read : (st : State) → tooMuch (of-it st) ≡ ltb 16384 (bytesHeld (x .held) + (length (joinedOf (x .busy)) + o .length))
     unfolding caseOf
     much-read st =
         let nb : o .tag ≡ 0x5b → ⊥ = λ y. omega arith in
-        much (of-it st) false true (ne-eqb (o .tag) 0x5b nb) (eq-eqb (o .tag) 0x5c b)
+        much t (of-it st) false true (ne-eqb (o .tag) 0x5b nb) (eq-eqb (o .tag) 0x5c b)
 
     -- ReadStream that is not refused by 19
-    pub read-few : (st : State) → tooMuch (of-it st) ≡ false
-        → bytesHeld (x .held) + (length (joinedOf (x .busy)) + o .length) ≤ 16384
+    pub read-few : (st : State) → tooMuch (of-it st) ≡ false → bytesHeld (x .held) + (length (joinedOf (x .busy)) + o .length) ≤ 16384
     read-few st f = ltb-false _ _ (sym (much-read st) ∙ f)
 
     -- ReadStream
-    pub read-past : 16384 < bytesHeld (x .held) + (length (joinedOf (x .busy)) + o .length) → EarliesIn set job attrs x o (No 19 outer)
+    pub read-past : 16384 < bytesHeld (x .held) + (length (joinedOf (x .busy)) + o .length) → EarliesIn set t job attrs x o (No 19 outer)
     unfolding EarliesIn
-    read-past h = λ st. no-19 (of-it st) (much-read st ∙ lt-ltb _ _ h)
+    read-past h = λ st. no-19 t (of-it st) (much-read st ∙ lt-ltb _ _ h)
 
-    pub read-room : bytesHeld (x .held) + (length (joinedOf (x .busy)) + o .length) ≤ 16384 → EarliesIn set job attrs x o Fine
-    unfolding EarliesIn caseOf
+    pub read-room : bytesHeld (x .held) + (length (joinedOf (x .busy)) + o .length) ≤ 16384 → EarliesIn set t job attrs x o Fine
     read-room h =
-        let nb : o .tag ≡ 0x5b → ⊥ = λ y. omega arith in
         let ne : o .tag ≡ 0x5e → ⊥ = λ y. omega arith in
         let nd : o .tag ≡ 0x5d → ⊥ = λ y. omega arith in
-        λ st. early-fine (ne-eqb (o .tag) 0x5e ne) (ne-eqb (o .tag) 0x5d nd)
-        (record {
-          room = much-read st ∙ le-ltb _ _ h;
-          new = not-known (of-it st) (ne-eqb (o .tag) 0x5b nb);
-          known = not-missing (of-it st) (ne-eqb (o .tag) 0x5e ne);
-          sound = sound-valid (of-it st) (made-other st nd);
-        })
+        room-fine nd ne (λ st. much-read st ∙ le-ltb _ _ h)
 
-  module _ (b : o .tag ≡ 0x5e) where
+  module _ (nb : o .tag ≡ 0x5b → ⊥) (nr : o .tag ≡ 0x5c → ⊥) where
     not-much : (st : State) → tooMuch (of-it st) ≡ false
     unfolding caseOf
-    not-much st =
-        let nb : o .tag ≡ 0x5b → ⊥ = λ y. omega arith in
-        let nr : o .tag ≡ 0x5c → ⊥ = λ y. omega arith in
-        much (of-it st) false false (ne-eqb (o .tag) 0x5b nb) (ne-eqb (o .tag) 0x5c nr)
+    not-much st = much t (of-it st) false false (ne-eqb (o .tag) 0x5b nb) (ne-eqb (o .tag) 0x5c nr)
 
-    not-new : (st : State) → nameHeld (of-it st) ≡ false
-    unfolding caseOf
-    not-new st =
-        let nb : o .tag ≡ 0x5b → ⊥ = λ y. omega arith in
-        not-known (of-it st) (ne-eqb (o .tag) 0x5b nb)
+  module _ (b : o .tag ≡ 0x5e) where
+    exec-much : (st : State) → tooMuch (of-it st) ≡ false
+    exec-much = not-much (λ y. omega arith) (λ y. omega arith)
 
-    exec-held : (m : Motif) (v : ℕ) → heldAs (bytesIn job (rowsOf attrs (o .count)) 139) (x .held) ≡ scope-motif.Held.is m
-        → SumsAs v (unfolded (x .held) (bytesIn job (rowsOf attrs (o .count)) 139)) → EarliesIn set job attrs x o (Call v)
-    unfolding EarliesIn caseOf isHeld
-    exec-held m v e s =
-        let nd : o .tag ≡ 0x5d → ⊥ = λ y. omega arith in
-        λ st. early-call (eq-eqb (o .tag) 0x5e b) s
-        (record {
-          room = not-much st;
-          new = not-new st;
-          known = missing (of-it st) true (scope-motif.Held.is m) (eq-eqb (o .tag) 0x5e b) e;
-          sound = sound-valid (of-it st) (made-other st nd);
-        })
+    exec-sound : (st : State) (r : Refusal) → ownOr (of-it st .made) r ≡ r
+    exec-sound st = sound-valid t (of-it st) (made-other st (λ y. omega arith))
 
-    exec-not : heldAs (bytesIn job (rowsOf attrs (o .count)) 139) (x .held) ≡ scope-motif.Held.none → EarliesIn set job attrs x o (No 21 outer)
-    unfolding EarliesIn caseOf isHeld
-    exec-not e = λ st. no-21 (of-it st) (not-much st) (not-new st)
-        (missing (of-it st) true scope-motif.Held.none (eq-eqb (o .tag) 0x5e b) e)
+    met-call : (st : State) → of-it st .met ≡ met (x .held) 32 [] named
+    unfolding caseOf metAt
+    met-call st = rw (eq-eqb (o .tag) 0x5e b)
 
-    -- ExecStream by what a search for its name finds
-    pub exec-at : {rows sums name : List ℕ} {i : ℕ} → name ≡ bytesIn job (rowsOf attrs (o .count)) 139
-        → Finds rows sums (x .held) name (At i) → EarliesIn set job attrs x o (Call (getD sums i 0))
-    exec-at {sums = sums} {i = i} e (finds-at {m = m} f d s) = exec-held m (getD sums i 0) (rw e at f) (rw e at s)
+    -- ExecStream by what a call comes to
+    pub exec-sum : {name : List ℕ} {v : ℕ} → name ≡ named → Calls (x .held) name (Called-is.Sum v) → EarliesIn set t job attrs x o (Call v)
+    unfolding EarliesIn caseOf
+    exec-sum {v = v} e (calls-sum m s) =
+        let n : met (x .held) 32 [] named ≡ nothing = rw e at m in
+        let k : SumsAs v (unfolded (x .held) 32 [] named) = rw e at s in
+        λ st. early-call (eq-eqb (o .tag) 0x5e b) k (record { room = exec-much st; sound = exec-sound st; met = met-call st ∙ n })
 
-    pub exec-nowhere : {rows sums name : List ℕ} → name ≡ bytesIn job (rowsOf attrs (o .count)) 139
-        → Finds rows sums (x .held) name Nowhere → EarliesIn set job attrs x o (No 21 outer)
-    exec-nowhere e (finds-none f) = exec-not (rw e at f)
+    pub exec-no : {name : List ℕ} {code : ℕ} → name ≡ named → Calls (x .held) name (Called-is.No code) → EarliesIn set t job attrs x o (No code outer)
+    unfolding EarliesIn
+    exec-no e (calls-missing m) = λ st. no-21 t (of-it st) (exec-much st) (exec-sound st) (ap (λ (y : Met). y .missing) (met-call st) ∙ (rw e at m))
+    exec-no e (calls-again m g) =
+        λ st. no-32 t (of-it st) (exec-much st) (exec-sound st) (ap (λ (y : Met). y .missing) (met-call st) ∙ (rw e at m)) (ap (λ (y : Met). y .again) (met-call st) ∙ (rw e at g))
+    exec-no e (calls-deep m g d) =
+        λ st. no-22 t (of-it st) (exec-much st) (exec-sound st) (ap (λ (y : Met). y .missing) (met-call st) ∙ (rw e at m)) (ap (λ (y : Met). y .again) (met-call st) ∙ (rw e at g))
+        (ap (λ (y : Met). y .deep) (met-call st) ∙ (rw e at d))
 
   module _ (b : o .tag ≡ 0x5d) where
     ends-free : (st : State) → tooMuch (of-it st) ≡ false
-    unfolding caseOf
-    ends-free st =
-        let nb : o .tag ≡ 0x5b → ⊥ = λ y. omega arith in
-        let nr : o .tag ≡ 0x5c → ⊥ = λ y. omega arith in
-        much (of-it st) false false (ne-eqb (o .tag) 0x5b nb) (ne-eqb (o .tag) 0x5c nr)
+    ends-free = not-much (λ y. omega arith) (λ y. omega arith)
 
-    ends-new : (st : State) → nameHeld (of-it st) ≡ false
-    unfolding caseOf
-    ends-new st = let nb : o .tag ≡ 0x5b → ⊥ = λ y. omega arith in not-known (of-it st) (ne-eqb (o .tag) 0x5b nb)
-
-    ends-known : (st : State) → nameMissing (of-it st) ≡ false
-    unfolding caseOf
-    ends-known st = let ne : o .tag ≡ 0x5e → ⊥ = λ y. omega arith in not-missing (of-it st) (ne-eqb (o .tag) 0x5e ne)
-
-    made-end : (st : State) → of-it st .made ≡ motifOf set (x .held) (joinedOf (x .busy))
+    made-end : (st : State) → of-it st .made ≡ motifOf set (joinedOf (x .busy))
     unfolding caseOf judgedAt
     made-end st = rw (eq-eqb (o .tag) 0x5d b)
 
-    valid-sound : {ms : List Motif} {d v : ℕ} {m : Judged} → Judges ms (Valid d v) m → (r : Refusal) → ownOr m r ≡ r
-    valid-sound (judges-valid e s) r = refl
+    -- EndStream of a valid motif
+    valid-held : {made : Made} (m : Judged) → motifOf set (joinedOf (x .busy)) ≡ m → Judges t (x .held) (Valid made) m → EarliesIn set t job attrs x o (Held made)
+    unfolding EarliesIn caseOf
+    valid-held m e (judges-valid k) =
+        let ne : o .tag ≡ 0x5e → ⊥ = λ y. omega arith in
+        λ st. early-held (eq-eqb (o .tag) 0x5d b) (made-end st ∙ e) k
+        (record { room = ends-free st; sound = sound-valid t (of-it st) (made-end st ∙ e); met = met-other st ne })
 
-    faulty-is : {ms : List Motif} {code place : ℕ} {m : Judged} → Judges ms (Faulty code place) m → m ≡ faulty code place
+    pub end-valid : {s : List ℕ} {made : Made} → s ≡ joinedOf (x .busy) → Judges t (x .held) (Valid made) (motifOf set s) → EarliesIn set t job attrs x o (Held made)
+    end-valid e h = valid-held _ refl (rw e at h)
+
+    faulty-is : {ms : List Motif} {code place : ℕ} {m : Judged} → Judges t ms (Faulty code place) m → m ≡ faulty code place
     faulty-is judges-faulty = refl
 
-    -- EndStream of a valid motif
-    pub end-valid : {s : List ℕ} {d v : ℕ} → s ≡ joinedOf (x .busy) → Judges (x .held) (Valid d v) (motifOf set (x .held) s) → EarliesIn set job attrs x o (Held d v)
-    unfolding EarliesIn caseOf
-    end-valid {d = d} {v = v} e h =
-        let h₂ : Judges (x .held) (Valid d v) (motifOf set (x .held) (joinedOf (x .busy))) = rw e at h in
-        λ st. let j : Judges (x .held) (Valid d v) (of-it st .made) = rw (made-end st) h₂ in
-        early-held (eq-eqb (o .tag) 0x5d b) j
-        (record { room = ends-free st; new = ends-new st; known = ends-known st; sound = valid-sound j })
-
     -- EndStream of a faulty one: its place lies within it
-    pub end-faulty : {s : List ℕ} {code place : ℕ} → s ≡ joinedOf (x .busy) → length s ≤ 16384 → Judges (x .held) (Faulty code place) (motifOf set (x .held) s)
-        → EarliesIn set job attrs x o (No code place)
+    pub end-faulty : {s : List ℕ} {code place : ℕ} → s ≡ joinedOf (x .busy) → length s ≤ 16384 → Judges t (x .held) (Faulty code place) (motifOf set s)
+        → EarliesIn set t job attrs x o (No code place)
     unfolding EarliesIn
     end-faulty {s} {code} {place} e l h =
-        let f : motifOf set (x .held) s ≡ faulty code place = faulty-is h in
-        let k : place ≤ length s = motif-placed set (x .held) s code place f in
-        let g : motifOf set (x .held) (joinedOf (x .busy)) ≡ faulty code place = rw e at f in
-        λ st. no-own (of-it st) (ends-free st) (ends-new st) (ends-known st) (made-end st ∙ g) (omega arith)
+        let f : motifOf set s ≡ faulty code place = faulty-is h in
+        let k : place ≤ length s = motif-placed set s code place f in
+        let g : motifOf set (joinedOf (x .busy)) ≡ faulty code place = rw e at f in
+        λ st. no-own t (of-it st) (ends-free st) (made-end st ∙ g) (omega arith)
 
 -- an operator between sessions
-pub outer-fine : (set : Setting) {job rows sums work : List ℕ} {b : Bool} (attrs : List ℕ) (q : scope.Place) (o : Operator) (st : State) → PlaceHolds job rows sums work (Outside b) q
-    → mayCome (phaseOf q) (sessionOf q .opened) (o .tag) ≡ true → Earlies (caseOf set job st (sessionOf q) (operatorAs o attrs)) Fine
+pub outer-fine : (set : Setting) {job work t : List ℕ} {b : Bool} (attrs : List ℕ) (q : scope.Place) (o : Operator) (st : State) → PlaceHolds set job work t (Outside b) q
+    → mayCome (phaseOf q) (sessionOf q .opened) (o .tag) ≡ true → Earlies t (caseOf set job st (sessionOf q) (operatorAs o attrs)) Fine
 unfolding phaseOf EarliesIn
-outer-fine set {job} attrs q o st outside-holds m =
-    fine-in set job attrs scope.opening o (tags.first-not false (o .tag) 0x5b refl m) (tags.first-not false (o .tag) 0x5c refl m) (tags.first-not false (o .tag) 0x5d refl m) (tags.first-not false (o .tag) 0x5e refl m) st
+outer-fine set {job} {t = t} attrs q o st outside-holds m =
+    fine-in set t job attrs scope.opening o (tags.first-not false (o .tag) 0x5b refl m) (tags.first-not false (o .tag) 0x5c refl m) (tags.first-not false (o .tag) 0x5d refl m) (tags.first-not false (o .tag) 0x5e refl m) st
 
 -- an operator in a session
-pub inner-early : (set : Setting) {job rows sums work attrs : List ℕ} {i : Bool} {n u : ℕ} {y : Busy} (q : scope.Place) (o : Operator) (st : State) (r : Early)
-    → ((x : Session) → n ≤ 64 → u ≡ bytesHeld (x .held) → Keeps job rows sums n (x .held) → BusyHolds job work n u y (x .busy) → Sized attrs (o .count)
-    → 16384 ≤ length work → mayCome (phaseBusy (x .busy)) (x .opened) (o .tag) ≡ true → EarliesIn set job attrs x o r)
-    → PlaceHolds job rows sums work (Inside i n u y) q → Sized attrs (o .count) → 16384 ≤ length work
-    → mayCome (phaseOf q) (sessionOf q .opened) (o .tag) ≡ true → Earlies (caseOf set job st (sessionOf q) (operatorAs o attrs)) r
+pub inner-early : (set : Setting) {job work t attrs : List ℕ} {i : Bool} {kept : Kept} {y : Busy} (q : scope.Place) (o : Operator) (st : State) (r : Early)
+    → ((x : Session) → Stored set work t kept (x .held) → BusyHolds job work kept (x .held) y (x .busy) → Sized attrs (o .count)
+    → 16384 ≤ length work → mayCome (phaseBusy (x .busy)) (x .opened) (o .tag) ≡ true → EarliesIn set t job attrs x o r)
+    → PlaceHolds set job work t (Inside i kept y) q → Sized attrs (o .count) → 16384 ≤ length work
+    → mayCome (phaseOf q) (sessionOf q .opened) (o .tag) ≡ true → Earlies t (caseOf set job st (sessionOf q) (operatorAs o attrs)) r
 unfolding phaseOf EarliesIn
-inner-early set q o st r f (inside-holds {x = x} e h hu w k y) z l m = f x h w k y z l m st
+inner-early set q o st r f (inside-holds {x = x} e u k y) z l m = f x k y z l m st

@@ -1,4 +1,4 @@
-// The rules of codes 19 to 21, and those of a motif that EndStream holds.
+// The rules of motifs and their names: 19, those of a motif that EndStream holds, 21, 32 and 22.
 mod early;
 
 pub use early::Early;

@@ -7,6 +7,8 @@ use mathlib.Core.List.{List}
 use lib.ListN.{length, take, drop}
 use Rattle.scope.specs.Order as order
 use Rattle.scope.specs.Arm.{blank}
+use Rattle.scope.specs.Setting.{Setting}
+use Rattle.scope.specs.Motif.{Motif}
 use Rattle.scope.specs.Session as scope
 use Rattle.scope.specs.Session.{phaseDrawing, phaseBusy, phaseOf, pageOf, joinedOf, sessionOf}
 use Rattle.order.specs.Views.{phaseAs, imageAs}
@@ -17,70 +19,71 @@ use Rattle.arm.specs.declared.page.Page.{Page}
 use Rattle.arm.proofs.Stacks.{depth-saved}
 use Rattle.order.specs.declared.picture.Picture.the-variants.{Nothing, Being}
 use Rattle.order.specs.declared.picture.Picture.{Picture}
+use Rattle.motif.specs.declared.kept.Kept.{Kept}
 use Rattle.place.specs.Places.{Drawn, drawn-so, BusyHolds, resting-holds, reading-holds, drawing-holds, PlaceHolds, outside-holds, inside-holds}
 use Rattle.place.specs.declared.place.Busy.{Busy}
 use Rattle.place.specs.declared.place.Busy.the-variants.{Resting, Reading, Drawing}
 use Rattle.place.specs.declared.place.Place.the-variants.{Outside, Inside}
 
-module _ {job work : List ℕ} {n used : ℕ} where
-  pub page-phase : {p : Page} {q : scope.Busy} → BusyHolds job work n used (Drawing p Nothing) q → order.in-page (p .depth) ≡ phaseBusy q
+module _ {job work : List ℕ} {kept : Kept} {ms : List Motif} where
+  pub page-phase : {p : Page} {q : scope.Busy} → BusyHolds job work kept ms (Drawing p Nothing) q → order.in-page (p .depth) ≡ phaseBusy q
   unfolding phaseBusy phaseDrawing
   page-phase {p} (drawing-holds {q = q} {v = v} h e) = rw (← e) (ap order.in-page (depth-saved p q (h .same)))
 
-  pub image-phase : {p : Page} {i : Image} {q : scope.Busy} → BusyHolds job work n used (Drawing p (Being i)) q → order.in-image (imageAs i) ≡ phaseBusy q
+  pub image-phase : {p : Page} {i : Image} {q : scope.Busy} → BusyHolds job work kept ms (Drawing p (Being i)) q → order.in-image (imageAs i) ≡ phaseBusy q
   unfolding phaseBusy phaseDrawing
   image-phase (drawing-holds h e) = rw (← e)
 
-  pub rest-phase : {q : scope.Busy} → BusyHolds job work n used Resting q → order.in-session ≡ phaseBusy q
+  pub rest-phase : {q : scope.Busy} → BusyHolds job work kept ms Resting q → order.in-session ≡ phaseBusy q
   unfolding phaseBusy
   rest-phase resting-holds = refl
 
-  pub stream-phase : {a l j : ℕ} {q : scope.Busy} → BusyHolds job work n used (Reading a l j) q → order.in-stream ≡ phaseBusy q
+  pub stream-phase : {a l j : ℕ} {q : scope.Busy} → BusyHolds job work kept ms (Reading a l j) q → order.in-stream ≡ phaseBusy q
   unfolding phaseBusy
-  stream-phase (reading-holds m j t u r) = refl
+  stream-phase (reading-holds m n j t u r) = refl
 
   -- the bytes of the motif that is being read
-  pub read-long : {a l j : ℕ} {q : scope.Busy} → BusyHolds job work n used (Reading a l j) q → j ≡ length (joinedOf q)
-  read-long (reading-holds m j t u r) = j
+  pub read-long : {a l j : ℕ} {q : scope.Busy} → BusyHolds job work kept ms (Reading a l j) q → j ≡ length (joinedOf q)
+  read-long (reading-holds m n j t u r) = j
 
-  pub read-bytes : {a l j : ℕ} {q : scope.Busy} → BusyHolds job work n used (Reading a l j) q → take j (drop used work) ≡ joinedOf q
-  read-bytes (reading-holds m j t u r) = t
+  pub read-bytes : {a l j : ℕ} {q : scope.Busy} → BusyHolds job work kept ms (Reading a l j) q → take j (drop (kept .used) work) ≡ joinedOf q
+  read-bytes (reading-holds m n j t u r) = t
 
-  pub read-within : {a l j : ℕ} {q : scope.Busy} → BusyHolds job work n used (Reading a l j) q → used + j ≤ 16384
-  read-within (reading-holds m j t u r) = u
+  pub read-within : {a l j : ℕ} {q : scope.Busy} → BusyHolds job work kept ms (Reading a l j) q → kept .used + j ≤ 16384
+  read-within (reading-holds m n j t u r) = u
 
-  pub is-drawn : {p : Page} {i : Picture} {q : scope.Busy} → BusyHolds job work n used (Drawing p i) q → Drawn q
+  pub is-drawn : {p : Page} {i : Picture} {q : scope.Busy} → BusyHolds job work kept ms (Drawing p i) q → Drawn q
   is-drawn (drawing-holds h e) = drawn-so
 
-  pub rest-page : {p : Page} {q : scope.Busy} → PageHolds p (blank false) → BusyHolds job work n used Resting q → PageHolds p (pageOf q)
+  pub rest-page : {p : Page} {q : scope.Busy} → PageHolds p (blank false) → BusyHolds job work kept ms Resting q → PageHolds p (pageOf q)
   rest-page h resting-holds = h
 
-  pub stream-page : {p : Page} {a l j : ℕ} {q : scope.Busy} → PageHolds p (blank false) → BusyHolds job work n used (Reading a l j) q → PageHolds p (pageOf q)
-  stream-page h (reading-holds m j t u r) = h
+  pub stream-page : {p : Page} {a l j : ℕ} {q : scope.Busy} → PageHolds p (blank false) → BusyHolds job work kept ms (Reading a l j) q → PageHolds p (pageOf q)
+  stream-page h (reading-holds m n j t u r) = h
 
-  pub drawn-page : {p : Page} {i : Picture} {q : scope.Busy} → BusyHolds job work n used (Drawing p i) q → PageHolds p (pageOf q)
+  pub drawn-page : {p : Page} {i : Picture} {q : scope.Busy} → BusyHolds job work kept ms (Drawing p i) q → PageHolds p (pageOf q)
   drawn-page (drawing-holds h e) = h
 
-module _ {job rows sums work : List ℕ} where
-  pub outer-phase : {b : Bool} {q : scope.Place} → PlaceHolds job rows sums work (Outside b) q → order.between-sessions ≡ phaseOf q
+module _ {set : Setting} {job work t : List ℕ} where
+  pub outer-phase : {b : Bool} {q : scope.Place} → PlaceHolds set job work t (Outside b) q → order.between-sessions ≡ phaseOf q
   unfolding phaseOf
   outer-phase outside-holds = refl
 
-  pub outer-opened : {b : Bool} {q : scope.Place} → PlaceHolds job rows sums work (Outside b) q → false ≡ sessionOf q .opened
+  pub outer-opened : {b : Bool} {q : scope.Place} → PlaceHolds set job work t (Outside b) q → false ≡ sessionOf q .opened
   outer-opened outside-holds = refl
 
-  pub outer-page : {p : Page} {b : Bool} {q : scope.Place} → PageHolds p (blank false) → PlaceHolds job rows sums work (Outside b) q → PageHolds p (pageOf (sessionOf q .busy))
+  pub outer-page : {p : Page} {b : Bool} {q : scope.Place} → PageHolds p (blank false) → PlaceHolds set job work t (Outside b) q → PageHolds p (pageOf (sessionOf q .busy))
   outer-page h outside-holds = h
 
-  module _ {o : Bool} {n used : ℕ} {b : Busy} where
-    pub inner-phase : {q : scope.Place} (r : Phase) → ((x : scope.Busy) (job work : List ℕ) (n used : ℕ) → BusyHolds job work n used b x → phaseAs r ≡ phaseBusy x)
-        → PlaceHolds job rows sums work (Inside o n used b) q → phaseAs r ≡ phaseOf q
+  module _ {o : Bool} {kept : Kept} {b : Busy} where
+    pub inner-phase : {q : scope.Place} (r : Phase) → ((x : scope.Busy) (job work : List ℕ) (kept : Kept) (ms : List Motif) → BusyHolds job work kept ms b x → phaseAs r ≡ phaseBusy x)
+        → PlaceHolds set job work t (Inside o kept b) q → phaseAs r ≡ phaseOf q
     unfolding phaseOf
-    inner-phase r f (inside-holds {x = x} e h u w k y) = f (x .busy) job work n used y
+    inner-phase r f (inside-holds {x = x} e u s y) = f (x .busy) job work kept (x .held) y
 
-    pub inner-opened : {q : scope.Place} → PlaceHolds job rows sums work (Inside o n used b) q → o ≡ sessionOf q .opened
-    inner-opened (inside-holds e h u w k y) = e
+    pub inner-opened : {q : scope.Place} → PlaceHolds set job work t (Inside o kept b) q → o ≡ sessionOf q .opened
+    inner-opened (inside-holds e u s y) = e
 
-    pub inner-page : {q : scope.Place} (r : Page) → ((x : scope.Busy) (job work : List ℕ) (n used : ℕ) → BusyHolds job work n used b x → PageHolds r (pageOf x))
-        → PlaceHolds job rows sums work (Inside o n used b) q → PageHolds r (pageOf (sessionOf q .busy))
-    inner-page r f (inside-holds {x = x} e h u w k y) = f (x .busy) job work n used y
+    pub inner-page : {q : scope.Place} (r : Page) → ((x : scope.Busy) (job work : List ℕ) (kept : Kept) (ms : List Motif) → BusyHolds job work kept ms b x → PageHolds r (pageOf x))
+        → PlaceHolds set job work t (Inside o kept b) q → PageHolds r (pageOf (sessionOf q .busy))
+    inner-page r f (inside-holds {x = x} e u s y) = f (x .busy) job work kept (x .held) y

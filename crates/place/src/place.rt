@@ -2,6 +2,8 @@
 ghost use mathlib.Core.Path.{_≡_};
 ghost use mathlib.Core.List.{List};
 ghost use Prim.Native.Nat.{ℕ};
+ghost use Rattle.scope.specs.Setting.{Setting};
+ghost use Rattle.scope.specs.Motif.{Motif};
 ghost use Rattle.scope.specs.Session as scope;
 ghost use Rattle.scope.specs.Session.{phaseBusy, phaseOf, sessionOf, pageOf};
 ghost use Rattle.order.specs.Views.{phaseAs};
@@ -9,6 +11,7 @@ ghost use Rattle.arm.specs.Holds.{PageHolds};
 ghost use Rattle.place.specs.Places.{BusyHolds, PlaceHolds};
 ghost use Rattle.place.specs.declared.place.Busy.the-variants.{Drawing};
 use arm::page::Page;
+use motif::Kept;
 use order::Phase;
 use order::Picture;
 
@@ -19,14 +22,14 @@ pub enum Busy {
     Drawing(Page, Picture),
 }
 
-// Outside a session, after one or before the first; or inside one: source open or not, motifs held, bytes of them, what it is at.
+// Outside a session, after one or before the first; or inside one: source open or not, what it keeps of its motifs, what it is at.
 pub enum Place {
     Outside(bool),
-    Inside(bool, usize, usize, Busy),
+    Inside(bool, Kept, Busy),
 }
 
 fn phase_drawing(page: Page, picture: Picture) -> Phase
-    ensures { λ r. ⌜ ((q : scope.Busy) (job work : List ℕ) (n used : ℕ) → BusyHolds job work n used (Drawing page picture) q → phaseAs r ≡ phaseBusy q) ⌝ }
+    ensures { λ r. ⌜ ((q : scope.Busy) (job work : List ℕ) (kept : Kept) (ms : List Motif) → BusyHolds job work kept ms (Drawing page picture) q → phaseAs r ≡ phaseBusy q) ⌝ }
 {
     match picture {
         Picture::Nothing => Phase::InPage(page.depth as usize),
@@ -35,7 +38,7 @@ fn phase_drawing(page: Page, picture: Picture) -> Phase
 }
 
 fn phase_busy(busy: Busy) -> Phase
-    ensures { λ r. ⌜ ((q : scope.Busy) (job work : List ℕ) (n used : ℕ) → BusyHolds job work n used busy q → phaseAs r ≡ phaseBusy q) ⌝ }
+    ensures { λ r. ⌜ ((q : scope.Busy) (job work : List ℕ) (kept : Kept) (ms : List Motif) → BusyHolds job work kept ms busy q → phaseAs r ≡ phaseBusy q) ⌝ }
 {
     match busy {
         Busy::Resting => Phase::InSession,
@@ -46,26 +49,26 @@ fn phase_busy(busy: Busy) -> Phase
 
 // The phase that reading has to know.
 pub fn phase_of(place: Place) -> Phase
-    ensures { λ r. ⌜ ((q : scope.Place) (job rows sums work : List ℕ) → PlaceHolds job rows sums work place q → phaseAs r ≡ phaseOf q) ⌝ }
+    ensures { λ r. ⌜ ((q : scope.Place) (set : Setting) (job work t : List ℕ) → PlaceHolds set job work t place q → phaseAs r ≡ phaseOf q) ⌝ }
 {
     match place {
         Place::Outside(_) => Phase::BetweenSessions,
-        Place::Inside(_, _, _, busy) => phase_busy(busy),
+        Place::Inside(_, _, busy) => phase_busy(busy),
     }
 }
 
 // The data source is open.
 pub fn opened_in(place: Place) -> bool
-    ensures { λ r. ⌜ ((q : scope.Place) (job rows sums work : List ℕ) → PlaceHolds job rows sums work place q → r ≡ sessionOf q .opened) ⌝ }
+    ensures { λ r. ⌜ ((q : scope.Place) (set : Setting) (job work t : List ℕ) → PlaceHolds set job work t place q → r ≡ sessionOf q .opened) ⌝ }
 {
     match place {
         Place::Outside(_) => false,
-        Place::Inside(opened, _, _, _) => opened,
+        Place::Inside(opened, _, _) => opened,
     }
 }
 
 fn page_busy(busy: Busy) -> Page
-    ensures { λ r. ⌜ ((q : scope.Busy) (job work : List ℕ) (n used : ℕ) → BusyHolds job work n used busy q → PageHolds r (pageOf q)) ⌝ }
+    ensures { λ r. ⌜ ((q : scope.Busy) (job work : List ℕ) (kept : Kept) (ms : List Motif) → BusyHolds job work kept ms busy q → PageHolds r (pageOf q)) ⌝ }
 {
     match busy {
         Busy::Resting => arm::page::blank(false),
@@ -76,10 +79,10 @@ fn page_busy(busy: Busy) -> Page
 
 // The page that is being drawn; outside a page one on which nothing was done.
 pub fn page_in(place: Place) -> Page
-    ensures { λ r. ⌜ ((q : scope.Place) (job rows sums work : List ℕ) → PlaceHolds job rows sums work place q → PageHolds r (pageOf (sessionOf q .busy))) ⌝ }
+    ensures { λ r. ⌜ ((q : scope.Place) (set : Setting) (job work t : List ℕ) → PlaceHolds set job work t place q → PageHolds r (pageOf (sessionOf q .busy))) ⌝ }
 {
     match place {
         Place::Outside(_) => arm::page::blank(false),
-        Place::Inside(_, _, _, busy) => page_busy(busy),
+        Place::Inside(_, _, busy) => page_busy(busy),
     }
 }

@@ -19,14 +19,14 @@ abbrev IsTrue : Bool → Type 0
 IsTrue true = Unit {0}
 IsTrue false = ⊥
 
-untrue : {X : Type 0} → false ≡ true → X
+pub untrue : {X : Type 0} → false ≡ true → X
 untrue e = absurd (subst (λ b. IsTrue b) (sym e) tt)
 
 abbrev IsFine : Fault → Type 0
 IsFine fine = Unit {0}
 IsFine (bad code place) = ⊥
 
-unfine : {X : Type 0} {c p : ℕ} → bad c p ≡ fine → X
+pub unfine : {X : Type 0} {c p : ℕ} → bad c p ≡ fine → X
 unfine e = absurd (subst (λ f. IsFine f) (sym e) tt)
 
 -- a tag that is equal to a byte

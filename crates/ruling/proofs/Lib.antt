@@ -1,3 +1,4 @@
 pub mod Bytes
 pub mod Ruling
+pub mod Short
 pub mod Turns

@@ -3,7 +3,7 @@
 use Prim.Native.Nat.{ℕ}
 use mathlib.Core.Path.{_≡_, refl, sym, ap, _∙_, subst}
 use mathlib.Core.Bool.{Bool, true, false}
-use mathlib.Core.List.{List, [], _∷_}
+use mathlib.Core.List.{List, [], _∷_, _++_}
 use borrow.Author.Tests.{eqb-true, eq-eqb, ne-eqb}
 use lib.Dec.{eqb}
 use Rattle.scope.specs.Setting.{Setting}
@@ -11,9 +11,9 @@ use Rattle.scope.specs.Choice.{pick}
 use Rattle.scope.specs.Attributes.{bytesIn}
 use Rattle.scope.specs.Reading.{Operator}
 use Rattle.scope.specs.Arm.{idle, actOf, walk, from, Stroke, Seen}
-use Rattle.scope.specs.Motif.{unfolded}
+use Rattle.scope.specs.Calls.{unfolded}
 use Rattle.scope.specs.Session.{Session, pageOf, rowFor}
-use Rattle.scope.specs.Judge.{State, Case, caseOf, Rule, rule, Refusal, refused, outer, firstBroken, rules, roomOver, sourceClosed, savedOver, cursorUnset, spaceWrong, countOver}
+use Rattle.scope.specs.Judge.{State, Case, caseOf, Rule, rule, Refusal, refused, outer, firstBroken, rules, roomOver, armed, limits}
 use Rattle.scope.specs.Verdict.{every}
 use Rattle.arm.specs.Codes.{codeOf}
 use Rattle.summary.specs.Sums.{SumsAs}
@@ -25,24 +25,24 @@ use Rattle.arm.specs.declared.moved.Moved.the-variants.{No}
 use Rattle.early.specs.Earlier.{Earlies, Unbroken, early-fine, early-call, early-held, early-no}
 use Rattle.early.proofs.Breaking.{unbroken-first}
 use Rattle.early.specs.declared.early.Early.the-variants as Early-is
+use Rattle.stream.specs.declared.judging.Made.{Made}
 use Rattle.ruling.specs.Judged.{Judgement, judged-to, judged-no}
 
 -- the row of an operator that is no call, and of a call
 module _ (set : Setting) (s : List ℕ) (st : State) (x : Session) (o : Operator) where
   pub seen-plain : eqb (o .tag) 0x5e ≡ false
-      → walk (record { motif = 0; at = o .at; act = actOf set s o } ∷ []) (from (pageOf (x .busy)) (st .performed)) ≡ caseOf set s st x o .seen
+      → walk (record { motif = 0; op = o; act = actOf set s o } ∷ []) (from (pageOf (x .busy)) (st .performed)) ≡ caseOf set s st x o .seen
   unfolding caseOf rowFor
   seen-plain e = rw e
 
   pub seen-call : eqb (o .tag) 0x5e ≡ true
-      → walk (record { motif = 0; at = o .at; act = idle } ∷ unfolded (x .held) (bytesIn s (o .attrs) 139)) (from (pageOf (x .busy)) (st .performed)) ≡ caseOf set s st x o .seen
+      → walk (record { motif = 0; op = o; act = idle } ∷ unfolded (x .held) 32 [] (bytesIn s (o .attrs) 139)) (from (pageOf (x .busy)) (st .performed)) ≡ caseOf set s st x o .seen
   unfolding caseOf rowFor
   seen-call e = rw e
 
 -- the rules of the state, and behind them that of the room
 abbrev later : ℕ → List Rule
-later room =
-    rule 17 sourceClosed ∷ rule 23 savedOver ∷ rule 24 cursorUnset ∷ rule 25 spaceWrong ∷ rule 26 countOver ∷ rule 28 (roomOver room) ∷ []
+later room = armed ++ limits room
 
 last-rule : (room : ℕ) (c : Case) → firstBroken every c (rule 28 (roomOver room) ∷ []) ≡ pick (roomOver room c) (refused 28 outer) Refusal.none
 unfolding firstBroken
@@ -51,7 +51,7 @@ last-rule room c = refl
 module _ (c : Case) (u : Unbroken c) where
   by-code : (room : ℕ) → firstBroken every c (rules room)
       ≡ pick (eqb (codeOf (c .session .opened) (c .seen)) 0) (firstBroken every c (rule 28 (roomOver room) ∷ [])) (refused (codeOf (c .session .opened) (c .seen)) outer)
-  unfolding rules
+  unfolding rules armed limits
   by-code room = unbroken-first u (later room) ∙ rules-code c (rule 28 (roomOver room) ∷ [])
 
   -- what the arm answers is what these rules come to
@@ -66,25 +66,25 @@ module _ (c : Case) (u : Unbroken c) where
           judged-no {code = k} (λ room. by-code room ∙ rw (ne-eqb (codeOf (c .session .opened) (c .seen)) 0 (λ z. n (e ∙ z))) (ap (λ x. refused x outer) (sym e)))
 
 -- one of the earlier rules is broken
-pub early-judged : (c : Case) {code inner : ℕ} → Earlies c (Early-is.No code inner) → Judgement c inner (No code)
+pub early-judged : (t : List ℕ) (c : Case) {code inner : ℕ} → Earlies t c (Early-is.No code inner) → Judgement c inner (No code)
 unfolding rules
-early-judged c (early-no f l) = judged-no (λ room. f (later room))
+early-judged t c (early-no f l) = judged-no (λ room. f (later room))
 
 held-call : (tag : ℕ) → eqb tag 0x5d ≡ true → eqb tag 0x5e ≡ false
 held-call tag e = rw (eqb-true tag 0x5d e) refl
 
 -- what the earlier rules tell of an operator that they let pass
-pub fine-call : (c : Case) → Earlies c Early-is.Fine → eqb (c .op .tag) 0x5e ≡ false
-fine-call c (early-fine a b u) = a
+pub fine-call : (t : List ℕ) (c : Case) → Earlies t c Early-is.Fine → eqb (c .op .tag) 0x5e ≡ false
+fine-call t c (early-fine a b u) = a
 
-pub fine-unbroken : (c : Case) → Earlies c Early-is.Fine → Unbroken c
-fine-unbroken c (early-fine a b u) = u
+pub fine-unbroken : (t : List ℕ) (c : Case) → Earlies t c Early-is.Fine → Unbroken c
+fine-unbroken t c (early-fine a b u) = u
 
-pub held-no-call : (c : Case) {n v : ℕ} → Earlies c (Early-is.Held n v) → eqb (c .op .tag) 0x5e ≡ false
-held-no-call c (early-held a b u) = held-call (c .op .tag) a
+pub held-no-call : (t : List ℕ) (c : Case) {made : Made} → Earlies t c (Early-is.Held made) → eqb (c .op .tag) 0x5e ≡ false
+held-no-call t c (early-held a b m u) = held-call (c .op .tag) a
 
-pub held-unbroken : (c : Case) {n v : ℕ} → Earlies c (Early-is.Held n v) → Unbroken c
-held-unbroken c (early-held a b u) = u
+pub held-unbroken : (t : List ℕ) (c : Case) {made : Made} → Earlies t c (Early-is.Held made) → Unbroken c
+held-unbroken t c (early-held a b m u) = u
 
 -- what the arm answers to an operator in the page where the session stands
 module _ (set : Setting) (s : List ℕ) (st : State) (x : Session) (o : Operator) (b : Bool) (n : ℕ) (m : Moved) (opened : b ≡ x .opened) (performed : n ≡ st .performed) where
@@ -92,17 +92,17 @@ module _ (set : Setting) (s : List ℕ) (st : State) (x : Session) (o : Operator
   there w h = subst (λ k. Moves (x .opened) m (w k)) performed (subst (λ t. Moves t m (w n)) opened h)
 
   pub plain-judged : Unbroken (caseOf set s st x o) → eqb (o .tag) 0x5e ≡ false
-      → Moves b m (walk (record { motif = 0; at = o .at; act = actOf set s o } ∷ []) (from (pageOf (x .busy)) n)) → Judgement (caseOf set s st x o) outer m
+      → Moves b m (walk (record { motif = 0; op = o; act = actOf set s o } ∷ []) (from (pageOf (x .busy)) n)) → Judgement (caseOf set s st x o) outer m
   unfolding caseOf
   plain-judged u e h =
       moved-judged (caseOf set s st x o) u (seen-plain set s st x o e)
-      (there (λ k. walk (record { motif = 0; at = o .at; act = actOf set s o } ∷ []) (from (pageOf (x .busy)) k)) h)
+      (there (λ k. walk (record { motif = 0; op = o; act = actOf set s o } ∷ []) (from (pageOf (x .busy)) k)) h)
 
-  pub call-judged : (v : ℕ) → Earlies (caseOf set s st x o) (Early-is.Call v)
-      → ((row : List Stroke) → SumsAs v row → Moves b m (walk (record { motif = 0; at = o .at; act = idle } ∷ row) (from (pageOf (x .busy)) n)))
+  pub call-judged : (t : List ℕ) (v : ℕ) → Earlies t (caseOf set s st x o) (Early-is.Call v)
+      → ((row : List Stroke) → SumsAs v row → Moves b m (walk (record { motif = 0; op = o; act = idle } ∷ row) (from (pageOf (x .busy)) n)))
       → Judgement (caseOf set s st x o) outer m
   unfolding caseOf
-  call-judged v (early-call e k u) h =
+  call-judged t v (early-call e k u) h =
       moved-judged (caseOf set s st x o) u (seen-call set s st x o e)
-      (there (λ k. walk (record { motif = 0; at = o .at; act = idle } ∷ unfolded (x .held) (bytesIn s (o .attrs) 139)) (from (pageOf (x .busy)) k))
-      (h (unfolded (x .held) (bytesIn s (o .attrs) 139)) k))
+      (there (λ k. walk (record { motif = 0; op = o; act = idle } ∷ unfolded (x .held) 32 [] (bytesIn s (o .attrs) 139)) (from (pageOf (x .busy)) k))
+      (h (unfolded (x .held) 32 [] (bytesIn s (o .attrs) 139)) k))

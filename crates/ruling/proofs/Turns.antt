@@ -24,6 +24,7 @@ use Rattle.place.specs.declared.place.Busy.{Busy}
 use Rattle.scope.specs.Choice.{pick}
 use Rattle.scope.specs.Iterate.{Next, go, stop, onward}
 use Rattle.scope.specs.Order.{Phase, mayCome, rowsFit, imageOf}
+use Rattle.scope.specs.Attributes.{bytesIn}
 use Rattle.scope.specs.Reading.{Context, Operator, Read, operatorAt}
 use Rattle.scope.specs.Session as session
 use Rattle.scope.specs.Setting.{Setting}
@@ -37,6 +38,7 @@ use Rattle.scope.proofs.Falls.{judged-step}
 use Rattle.buffer.specs.Over.{over}
 use Rattle.buffer.specs.Listed.{BytesIn, recordsFor}
 use Rattle.buffer.proofs.Listed.{listed-more, recordsBefore-more, length-recordsFor}
+use Rattle.motif.specs.declared.kept.Kept.{Kept}
 use Rattle.place.specs.Places.{PlaceHolds, outside-holds, inside-holds}
 use Rattle.place.specs.declared.place.Place.the-variants as Place-is
 use Rattle.state.specs.Views.{verdictAs}
@@ -46,6 +48,7 @@ use Rattle.state.specs.declared.state.State as Code
 use Rattle.state.specs.declared.state.Step.{Step}
 use Rattle.state.specs.declared.state.Step.the-variants.{Go, Stop}
 use Rattle.ruling.proofs.Bytes.{bytes-taken}
+use Rattle.ruling.proofs.Short.{short-taken}
 
 -- what is known of an operator that was read
 module _ (c : Context) (s : List ℕ) (at : ℕ) (o : Operator) (e : operatorAt c s at ≡ Read.operator o) where
@@ -60,6 +63,9 @@ module _ (c : Context) (s : List ℕ) (at : ℕ) (o : Operator) (e : operatorAt 
 
   pub read-rows : rowsFit (c .set .high) s (imageOf (c .phase)) (o .tag) (o .attrs) ≡ true
   read-rows = rows-read (subst (λ r. Taken c s r) e (read-taken c s at))
+
+  pub read-short : o .tag ≡ 0x5b → length (bytesIn s (o .attrs) 139) ≤ 16
+  read-short = short-taken (subst (λ r. Taken c s r) e (read-taken c s at))
 
   pub read-bytes : BytesIn (o .attrs)
   read-bytes = bytes-taken (subst (λ r. Taken c s r) e (read-taken c s at))
@@ -93,10 +99,10 @@ module _ (set : Setting) (s : List ℕ) (room : ℕ) (d : State) (o : Operator) 
       step-on (e ∙ ap (λ b. pick b (refused 28 outer) Refusal.none) (le-ltb room ((d .records + suc (length (o .attrs))) * 16) h))
 
 -- a stop, where the code stands
-pub stopped : {job list₀ : List ℕ} {l : Lent} {st : Code.State} {d : State} (v : Verdict) (n : Next State Outcome) (code position inner : ℕ)
-    → Stands job list₀ l st d → n ≡ stop (refusedAt code position inner d) → verdictAs v ≡ verdict.told (refusedAt code position inner d) → Steps job list₀ l (Stop v) n
-stopped {job} {list₀} {l} {st} {d} v n code position inner h e f =
-    subst⁻¹ (λ x. Steps job list₀ l (Stop v) x) e (steps-stop {e = refusedAt code position inner d} f (h .listed))
+pub stopped : {set : Setting} {job list₀ : List ℕ} {l : Lent} {st : Code.State} {d : State} (v : Verdict) (n : Next State Outcome) (code position inner : ℕ)
+    → Stands set job list₀ l st d → n ≡ stop (refusedAt code position inner d) → verdictAs v ≡ verdict.told (refusedAt code position inner d) → Steps set job list₀ l (Stop v) n
+stopped {set} {job} {list₀} {l} {st} {d} v n code position inner h e f =
+    subst⁻¹ (λ x. Steps set job list₀ l (Stop v) x) e (steps-stop {e = refusedAt code position inner d} f (h .listed))
 
 -- the list with one operator more
 module _ (list₀ list : List ℕ) (past : List Operator) (n : ℕ) (o : Operator) (h : Listed list₀ past list) (k : length (verdict.recordsBefore past []) ≡ n * 16) where
@@ -116,19 +122,19 @@ module _ (list₀ list : List ℕ) (past : List Operator) (n : ℕ) (o : Operato
       }
 
 -- a step that goes on
-pub gone : {job list₀ : List ℕ} {l l₁ : Lent} {st t : Code.State} {d : State} (set : Setting) (o : Operator) (n : Next State Outcome) → Stands job list₀ l st d
+pub gone : {job list₀ : List ℕ} {l l₁ : Lent} {st t : Code.State} {d : State} (set : Setting) (o : Operator) (n : Next State Outcome) → Stands set job list₀ l st d
     → n ≡ go (after set job d (caseOf set job d (sessionOf (d .place)) o)) → t .at ≡ o .next
-    → PlaceHolds job (l₁ .rows) (l₁ .sums) (l₁ .work) (t .place)
+    → PlaceHolds set job (l₁ .work) (l₁ .table) (t .place)
     (placeAfter set job o (caseOf set job d (sessionOf (d .place)) o .seen .page) (d .place))
     → t .performed ≡ caseOf set job d (sessionOf (d .place)) o .seen .count → t .records ≡ st .records + length (o .attrs) + 1
     → l₁ .list ≡ over (l .list) (st .records * 16) (recordsFor (o .tag) (o .at) (o .length) (o .first) (o .attrs))
-    → length (l₁ .rows) ≡ length (l .rows) → length (l₁ .sums) ≡ length (l .sums) → Steps job list₀ l₁ (Go t) n
+    → length (l₁ .table) ≡ length (l .table) → Steps set job list₀ l₁ (Go t) n
 unfolding after caseOf
-gone {job} {list₀} {l} {l₁} {st} {t} {d} set o n h e a p c r w x y =
+gone {job} {list₀} {l} {l₁} {st} {t} {d} set o n h e a p c r w x =
     let q : t .records ≡ d .records + suc (length (o .attrs)) = let z = h .records in omega arith in
     let v : l₁ .list ≡ over (l .list) (d .records * 16) (recordsFor (o .tag) (o .at) (o .length) (o .first) (o .attrs)) =
     w ∙ ap (λ k. over (l .list) (k * 16) (recordsFor (o .tag) (o .at) (o .length) (o .first) (o .attrs))) (h .records) in
-    subst⁻¹ (λ z. Steps job list₀ l₁ (Go t) z) e
+    subst⁻¹ (λ z. Steps set job list₀ l₁ (Go t) z) e
     (steps-go
     (record {
       at = a;
@@ -137,8 +143,7 @@ gone {job} {list₀} {l} {l₁} {st} {t} {d} set o n h e a p c r w x y =
       records = q;
       counted = counted-more list₀ (l .list) (d .past) (d .records) o (h .listed) (h .counted);
       listed = listed-on list₀ (l .list) (d .past) (d .records) o (h .listed) (h .counted) (l₁ .list) v;
-      rows-long = x ∙ h .rows-long;
-      sums-long = y ∙ h .sums-long;
+      table-long = x ∙ h .table-long;
     }))
 
 -- what reading knows where the definition stands
@@ -170,7 +175,7 @@ module _ (set : Setting) (s : List ℕ) (room : ℕ) (d : State) where
   step-operator o e = rw e
 
 -- the code at the end
-pub end-outside : {job rows sums work : List ℕ} {b : Bool} {q : session.Place} → PlaceHolds job rows sums work (Place-is.Outside b) q → endCode q ≡ pick b 0 27
+pub end-outside : {set : Setting} {job work t : List ℕ} {b : Bool} {q : session.Place} → PlaceHolds set job work t (Place-is.Outside b) q → endCode q ≡ pick b 0 27
 end-outside (outside-holds {b = true}) = refl
 end-outside (outside-holds {b = false}) = refl
 
@@ -179,30 +184,30 @@ module _ (job list₀ : List ℕ) (set : Setting) (end : Outcome) where
   abbrev J : State → Outcome
   J = judgedFrom every set job (length list₀)
 
-  goes : (l : Lent) (t : Code.State) (n : Next State Outcome) → Steps job list₀ l (Go t) n → onward J n ≡ end → (d : State) × (Stands job list₀ l t d × (J d ≡ end))
+  goes : (l : Lent) (t : Code.State) (n : Next State Outcome) → Steps set job list₀ l (Go t) n → onward J n ≡ end → (d : State) × (Stands set job list₀ l t d × (J d ≡ end))
   goes l t (go d) (steps-go h) e = (d, (h, e))
 
-  stops : (l : Lent) (v : Verdict) (n : Next State Outcome) → Steps job list₀ l (Stop v) n → onward J n ≡ end
+  stops : (l : Lent) (v : Verdict) (n : Next State Outcome) → Steps set job list₀ l (Stop v) n → onward J n ≡ end
       → (verdictAs v ≡ verdict.told end) × Listed list₀ (end .state .past) (l .list)
   stops l v (stop r) (steps-stop h k) e = (h ∙ ap verdict.told e, subst (λ x. Listed list₀ (x .state .past) (l .list)) e k)
 
-  pub turned-go : (l : Lent) (t : Code.State) (d : State) → J d ≡ end → Steps job list₀ l (Go t) (jobStep every set job (length list₀) d)
-      → (d′ : State) × (Stands job list₀ l t d′ × (J d′ ≡ end))
+  pub turned-go : (l : Lent) (t : Code.State) (d : State) → J d ≡ end → Steps set job list₀ l (Go t) (jobStep every set job (length list₀) d)
+      → (d′ : State) × (Stands set job list₀ l t d′ × (J d′ ≡ end))
   turned-go l t d e h = goes l t (jobStep every set job (length list₀) d) h (sym (judged-step every set job (length list₀) d) ∙ e)
 
-  pub turned-stop : (l : Lent) (v : Verdict) (d : State) → J d ≡ end → Steps job list₀ l (Stop v) (jobStep every set job (length list₀) d)
+  pub turned-stop : (l : Lent) (v : Verdict) (d : State) → J d ≡ end → Steps set job list₀ l (Stop v) (jobStep every set job (length list₀) d)
       → (verdictAs v ≡ verdict.told end) × Listed list₀ (end .state .past) (l .list)
   turned-stop l v d e h = stops l v (jobStep every set job (length list₀) d) h (sym (judged-step every set job (length list₀) d) ∙ e)
 
 -- before the first item
-pub starts : (job list₀ : List ℕ) (l : Lent) (st : Code.State) (next : ℕ) → st .at ≡ next → PlaceHolds job (l .rows) (l .sums) (l .work) (st .place) (session.outside false)
-    → st .performed ≡ 0 → st .records ≡ 0 → l .list ≡ list₀ → length (l .rows) ≡ 192 → length (l .sums) ≡ 64 → Stands job list₀ l st (starting next)
+pub starts : (set : Setting) (job list₀ : List ℕ) (l : Lent) (st : Code.State) (next : ℕ) → st .at ≡ next → PlaceHolds set job (l .work) (l .table) (st .place) (session.outside false)
+    → st .performed ≡ 0 → st .records ≡ 0 → l .list ≡ list₀ → length (l .table) ≡ 640 → Stands set job list₀ l st (starting next)
 unfolding verdict.recordsBefore
-starts job list₀ l st next a p b c e x y =
-    record { at = a; place = p; performed = b; records = c; counted = refl; listed = record { is = e }; rows-long = x; sums-long = y }
+starts set job list₀ l st next a p b c e x =
+    record { at = a; place = p; performed = b; records = c; counted = refl; listed = record { is = e }; table-long = x }
 
 -- an operator whose records do not fit, and one whose do
-module _ (job list₀ : List ℕ) (l : Lent) (st : Code.State) (d : State) (set : Setting) (o : Operator) (n : ℕ) (h : Stands job list₀ l st d) (many : n ≡ length (o .attrs))
+module _ (job list₀ : List ℕ) (l : Lent) (st : Code.State) (d : State) (set : Setting) (o : Operator) (n : ℕ) (h : Stands set job list₀ l st d) (many : n ≡ length (o .attrs))
     (same : length list₀ ≡ length (l .list))
     (ruled : firstBroken every (caseOf set job d (sessionOf (d .place)) o) (rules (length list₀))
     ≡ pick (roomOver (length list₀) (caseOf set job d (sessionOf (d .place)) o)) (refused 28 outer) Refusal.none) where
@@ -211,46 +216,46 @@ module _ (job list₀ : List ℕ) (l : Lent) (st : Code.State) (d : State) (set 
 
   pub listed-no : (list₁ : List ℕ) (v : Verdict) → list₁ ≡ l .list → false ≡ leb ((st .records + suc n) * 16) (length (l .list))
       → verdictAs v ≡ verdict.told (refusedAt 28 (o .at) outer d)
-      → Steps job list₀ (record { rows = l .rows; sums = l .sums; work = l .work; list = list₁ }) (Stop v) (onRead every set job (length list₀) d (Read.operator o))
+      → Steps set job list₀ (record { table = l .table; work = l .work; list = list₁ }) (Stop v) (onRead every set job (length list₀) d (Read.operator o))
   listed-no list₁ v e r f =
-      subst⁻¹ (λ x. Steps job list₀ (record { rows = l .rows; sums = l .sums; work = l .work; list = x }) (Stop v) (onRead every set job (length list₀) d (Read.operator o))) e
+      subst⁻¹ (λ x. Steps set job list₀ (record { table = l .table; work = l .work; list = x }) (Stop v) (onRead every set job (length list₀) d (Read.operator o))) e
       (stopped v (onRead every set job (length list₀) d (Read.operator o)) 28 (o .at) outer h (step-room set job (length list₀) d o ruled (room-is false r)) f)
 
   pub listed-go : (l₁ : Lent) (t : Code.State) → true ≡ leb ((st .records + suc n) * 16) (length (l .list)) → t .at ≡ o .next
-      → PlaceHolds job (l₁ .rows) (l₁ .sums) (l₁ .work) (t .place)
+      → PlaceHolds set job (l₁ .work) (l₁ .table) (t .place)
       (placeAfter set job o (caseOf set job d (sessionOf (d .place)) o .seen .page) (d .place))
       → t .performed ≡ caseOf set job d (sessionOf (d .place)) o .seen .count → t .records ≡ st .records + n + 1
       → l₁ .list ≡ over (l .list) (st .records * 16) (recordsFor (o .tag) (o .at) (o .length) (o .first) (o .attrs))
-      → length (l₁ .rows) ≡ length (l .rows) → length (l₁ .sums) ≡ length (l .sums) → Steps job list₀ l₁ (Go t) (onRead every set job (length list₀) d (Read.operator o))
-  listed-go l₁ t r a p c k w x y =
+      → length (l₁ .table) ≡ length (l .table) → Steps set job list₀ l₁ (Go t) (onRead every set job (length list₀) d (Read.operator o))
+  listed-go l₁ t r a p c k w x =
       gone {l = l} {l₁ = l₁} {st = st} {t = t} set o (onRead every set job (length list₀) d (Read.operator o)) h (step-fits set job (length list₀) d o ruled (room-is true r)) a p c
-      (k ∙ ap (λ z. st .records + z + 1) many) w x y
+      (k ∙ ap (λ z. st .records + z + 1) many) w x
 
 -- what the session knows of an operator that was read
-pub comes-in : (job attrs rows sums work list₀ : List ℕ) (set : Setting) (d : State) (o : Reader.Operator) (early : Early) (page : Page) (n : ℕ) (place : Place)
-    → PlaceHolds job rows sums work place (d .place) → Sized attrs (o .count) → length rows ≡ 192 → length sums ≡ 64 → 16384 ≤ length work → o .first + o .length ≤ length job
-    → Comes job list₀ set d (operatorAs o attrs) early page n → Afterwards.Comes job attrs set o early page rows sums work place (d .place) d
+pub comes-in : (job attrs work t list₀ : List ℕ) (set : Setting) (d : State) (o : Reader.Operator) (early : Early) (page : Page) (n : ℕ) (place : Place)
+    → PlaceHolds set job work t place (d .place) → Sized attrs (o .count) → length t ≡ 640 → 16384 ≤ length work → o .first + o .length ≤ length job
+    → Comes t job list₀ set d (operatorAs o attrs) early page n → Afterwards.Comes job attrs set o early page work t place (d .place) d
 unfolding contextOf
-comes-in job attrs rows sums work list₀ set d o early page n place h z x y w i m =
+comes-in job attrs work t list₀ set d o early page n place h z x w i m =
     record {
       holds = h;
       sized = z;
-      long-rows = x;
-      long-sums = y;
+      table-long = x;
       room = w;
       within = i;
       may = read-may (contextOf every set (d .place)) job (d .at) (operatorAs o attrs) (m .read);
       fits = read-rows (contextOf every set (d .place)) job (d .at) (operatorAs o attrs) (m .read);
+      short = read-short (contextOf every set (d .place)) job (d .at) (operatorAs o attrs) (m .read);
       passes = m .passes;
       earlier = m .earlier;
       drawn = m .drawn;
     }
 
-pub comes-bytes : (job list₀ : List ℕ) (set : Setting) (d : State) (o : Operator) (early : Early) (page : Page) (n : ℕ) → Comes job list₀ set d o early page n → BytesIn (o .attrs)
-comes-bytes job list₀ set d o early page n m = read-bytes (contextOf every set (d .place)) job (d .at) o (m .read)
+pub comes-bytes : (t job list₀ : List ℕ) (set : Setting) (d : State) (o : Operator) (early : Early) (page : Page) (n : ℕ) → Comes t job list₀ set d o early page n → BytesIn (o .attrs)
+comes-bytes t job list₀ set d o early page n m = read-bytes (contextOf every set (d .place)) job (d .at) o (m .read)
 
-pub end-inside : {job rows sums work : List ℕ} {o : Bool} {n used : ℕ} {b : Busy} {q : session.Place} → PlaceHolds job rows sums work (Place-is.Inside o n used b) q → endCode q ≡ 27
-end-inside (inside-holds a b c d e f) = refl
+pub end-inside : {set : Setting} {job work t : List ℕ} {o : Bool} {k : Kept} {b : Busy} {q : session.Place} → PlaceHolds set job work t (Place-is.Inside o k b) q → endCode q ≡ 27
+end-inside (inside-holds a b c d) = refl
 
 -- what a judgement says
 pub judged-refused : {c : Case} {inner code : ℕ} → Judgement c inner (Moved-is.No code) → (room : ℕ) → firstBroken every c (rules room) ≡ refused code inner
@@ -279,14 +284,14 @@ unfolding roomOver
 enough c = let h : c .records * 16 ≤ c .records * 16 = omega arith in rw (le-ltb (c .records * 16) (c .records * 16) h)
 
 -- what is judged to go on was not refused before
-pub judged-passes : {c : Case} {inner n : ℕ} {p : Page} (early : Early) → Judgement c inner (Moved-is.To p n) → Earlies c early → Passes early
+pub judged-passes : {t : List ℕ} {c : Case} {inner n : ℕ} {p : Page} (early : Early) → Judgement c inner (Moved-is.To p n) → Earlies t c early → Passes early
 unfolding rules
 judged-passes Early-is.Fine j e = tt
 judged-passes (Early-is.Call v) j e = tt
-judged-passes (Early-is.Held n v) j e = tt
-judged-passes {c} (Early-is.No code inner) (judged-to f a b k) (early-no g l) = unrefused (sym (g _) ∙ f (c .records * 16) ∙ enough c)
+judged-passes (Early-is.Held made) j e = tt
+judged-passes {c = c} (Early-is.No code inner) (judged-to f a b k) (early-no g l) = unrefused (sym (g _) ∙ f (c .records * 16) ∙ enough c)
 
 -- a step over an operator that was read
 pub steps-read : {job list₀ : List ℕ} {l : Lent} {t : Step} (set : Setting) (d : State) (o : Operator) → operatorAt (contextOf every set (d .place)) job (d .at) ≡ Read.operator o
-    → Steps job list₀ l t (onRead every set job (length list₀) d (Read.operator o)) → Steps job list₀ l t (jobStep every set job (length list₀) d)
-steps-read {job} {list₀} {l} {t} set d o e h = subst⁻¹ (λ n. Steps job list₀ l t n) (step-operator set job (length list₀) d o e) h
+    → Steps set job list₀ l t (onRead every set job (length list₀) d (Read.operator o)) → Steps set job list₀ l t (jobStep every set job (length list₀) d)
+steps-read {job} {list₀} {l} {t} set d o e h = subst⁻¹ (λ n. Steps set job list₀ l t n) (step-operator set job (length list₀) d o e) h

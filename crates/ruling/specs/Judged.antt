@@ -16,7 +16,7 @@ use Rattle.early.specs.declared.early.Early.the-variants as Early-is
 abbrev pub innerOf : Early → ℕ
 innerOf Early-is.Fine = outer
 innerOf (Early-is.Call v) = outer
-innerOf (Early-is.Held n v) = outer
+innerOf (Early-is.Held made) = outer
 innerOf (Early-is.No code inner) = inner
 
 -- no rule but that of the room can be broken, and the page and the number performed are those after the operator; or the first rule broken has this code

@@ -1,4 +1,4 @@
-// The rules after reading but for the list: 19 to 21, a motif's own, 17, 23 to 26.
+// The rules after reading but for the list: 19, a motif's own, 21, 32, 22, 17, 23 to 26.
 ghost use mathlib.Core.Path.{_≡_};
 ghost use mathlib.Core.Bool.{false};
 ghost use mathlib.Core.List.{List};
@@ -25,12 +25,12 @@ use state::OUTER;
 
 // The inner position of a refusal.
 pub fn inner_of(early: Early) -> u32
-    ensures { λ r. ⌜ ((c : Case) → Earlies c early → r ≡ innerOf early) ⌝ }
+    ensures { λ r. ⌜ ((t : List ℕ) (c : Case) → Earlies t c early → r ≡ innerOf early) ⌝ }
 {
     match early {
         Early::Fine => OUTER,
         Early::Call(_) => OUTER,
-        Early::Held(_, _) => OUTER,
+        Early::Held(_) => OUTER,
         Early::No(_, inner) => (inner % 4_294_967_296) as u32,
     }
 }
@@ -44,7 +44,7 @@ fn perform(
     o: Operator,
     performed: u32,
 ) -> Moved
-    ensures { λ r. ⌜ ((q : scope.Place) (st : State) (rows sums work : List ℕ) → PlaceHolds (now (job .entry)) rows sums work place q → Sized (now (attrs .entry)) (o .count)
+    ensures { λ r. ⌜ ((q : scope.Place) (st : State) (work t : List ℕ) → PlaceHolds (settingAs set) (now (job .entry)) work t place q → Sized (now (attrs .entry)) (o .count)
         → performed ≡ st .performed → eqb (o .tag) 0x5e ≡ false → Unbroken (caseOf (settingAs set) (now (job .entry)) st (sessionOf q) (operatorAs o (now (attrs .entry))))
         → Judgement (caseOf (settingAs set) (now (job .entry)) st (sessionOf q) (operatorAs o (now (attrs .entry)))) outer r) ⌝ }
 {
@@ -58,9 +58,9 @@ fn perform(
 }
 
 // A call, from its motif's summary.
-fn call(sum: u64, place: Place, performed: u32) -> Moved
-    ensures { λ r. ⌜ ((q : scope.Place) (st : State) (job rows sums work : List ℕ) (by : Setting·of) (o : reading.Operator) → PlaceHolds job rows sums work place q
-        → performed ≡ st .performed → Earlies (caseOf by job st (sessionOf q) o) (early-is.Call sum) → Judgement (caseOf by job st (sessionOf q) o) outer r) ⌝ }
+fn call(sum: usize, place: Place, performed: u32) -> Moved
+    ensures { λ r. ⌜ ((q : scope.Place) (st : State) (by : Setting·of) (job work t : List ℕ) (o : reading.Operator) → PlaceHolds by job work t place q
+        → performed ≡ st .performed → Earlies t (caseOf by job st (sessionOf q) o) (early-is.Call sum) → Judgement (caseOf by job st (sessionOf q) o) outer r) ⌝ }
 {
     let page = place::page_in(place);
     let opened = place::opened_in(place);
@@ -77,8 +77,8 @@ pub fn judge(
     o: Operator,
     performed: u32,
 ) -> Moved
-    ensures { λ r. ⌜ ((q : scope.Place) (st : State) (rows sums work : List ℕ) → PlaceHolds (now (job .entry)) rows sums work place q → Sized (now (attrs .entry)) (o .count)
-        → performed ≡ st .performed → Earlies (caseOf (settingAs set) (now (job .entry)) st (sessionOf q) (operatorAs o (now (attrs .entry)))) early
+    ensures { λ r. ⌜ ((q : scope.Place) (st : State) (work t : List ℕ) → PlaceHolds (settingAs set) (now (job .entry)) work t place q → Sized (now (attrs .entry)) (o .count)
+        → performed ≡ st .performed → Earlies t (caseOf (settingAs set) (now (job .entry)) st (sessionOf q) (operatorAs o (now (attrs .entry)))) early
         → Judgement (caseOf (settingAs set) (now (job .entry)) st (sessionOf q) (operatorAs o (now (attrs .entry)))) (innerOf early) r) ⌝ }
 {
     match early {

@@ -19,9 +19,10 @@ use Rattle.scope.specs.Order.{in-page, drawn, mayCome, rowsFit}
 use Rattle.scope.specs.Reading.{Context, Operator, Read, withData, asWhole, withAttributes, withLine, scanned, operatorAt}
 use Rattle.scope.specs.Arm.{Page, needsCursor, needsSpace, effectOf, actOf, risen, Seen, step, walk, from}
 use Rattle.scope.specs.Motif.{Motif, Picture, pictureAfter}
+use Rattle.scope.specs.Calls.{nothing}
 use Rattle.scope.specs.Setting.{Setting}
 use Rattle.scope.specs.Session.{Session, drawing, inside, pageOf, sessionAfter, placeAfter}
-use Rattle.scope.specs.Judge.{State, caseOf, judgedAt, tooMuch, nameHeld, nameMissing, ownOr, outer}
+use Rattle.scope.specs.Judge.{State, caseOf, judgedAt, metAt, tooMuch, ownOr, outer}
 use Rattle.items.proofs.Pairs.{scan-tag}
 use Rattle.arm.specs.Alone.{Alone, alone-close, alone-new, alone-paint, alone-push, alone-pop}
 use Rattle.arm.specs.Codes.{codeOf}
@@ -81,21 +82,20 @@ module _ (set : Setting) (opened : Bool) (s : List ℕ) (at : ℕ) {tag : ℕ} {
   read-alone h e =
       ap (scanned c s) (scan-tag (set .high) s at [] h (rw e (black a)) (rw e (tagged a)) ∙ ap (λ t. Scan.tagged t at []) e) ∙ lined (set .class)
 
--- the rules of codes 19 to 21 and of a motif say nothing of it
+-- the rules of motifs and their names say nothing of it
 unbroken-alone : (set : Setting) (s : List ℕ) (st : State) (x : Session) (at : ℕ) {tag : ℕ} {q q₁ : Page} → Alone tag q q₁ → Unbroken (caseOf set s st x (alone tag at))
-unfolding caseOf tooMuch nameHeld nameMissing judgedAt
+unfolding caseOf tooMuch judgedAt metAt
 unbroken-alone set s st x at a =
     record {
       room = each-tag (λ t. tooMuch (caseOf set s st x (alone t at)) ≡ false) refl refl refl refl refl a;
-      new = each-tag (λ t. nameHeld (caseOf set s st x (alone t at)) ≡ false) refl refl refl refl refl a;
-      known = each-tag (λ t. nameMissing (caseOf set s st x (alone t at)) ≡ false) refl refl refl refl refl a;
       sound = λ r. each-tag (λ t. ownOr (caseOf set s st x (alone t at) .made) r ≡ r) refl refl refl refl refl a;
+      met = each-tag (λ t. caseOf set s st x (alone t at) .met ≡ nothing) refl refl refl refl refl a;
     }
 
 -- the arm after it
 module _ (set : Setting) (opened : Bool) (s : List ℕ) (at n : ℕ) where
   abbrev seen : ℕ → Page → Seen
-  seen tag q = walk (record { motif = 0; at = at; act = actOf set s (alone tag at) } ∷ []) (from q n)
+  seen tag q = walk (record { motif = 0; op = alone tag at; act = actOf set s (alone tag at) } ∷ []) (from q n)
 
   page-alone : {tag : ℕ} {q q₁ : Page} → Alone tag q q₁ → q₁ ≡ seen tag q .page
   unfolding walk step from actOf effectOf

@@ -10,9 +10,10 @@ use lib.Dec.{eqb}
 use Rattle.scope.specs.Choice.{among}
 use Rattle.scope.specs.Arm.{Page, needsCursor, needsSpace, effectOf, actOf, risen, done, Seen, step, walk, from}
 use Rattle.scope.specs.Motif.{Motif, Picture, pictureAfter}
+use Rattle.scope.specs.Calls.{nothing}
 use Rattle.scope.specs.Setting.{Setting}
 use Rattle.scope.specs.Session.{Session, drawing, inside, pageOf, sessionAfter, placeAfter}
-use Rattle.scope.specs.Judge.{State, caseOf, judgedAt, tooMuch, nameHeld, nameMissing, ownOr, outer}
+use Rattle.scope.specs.Judge.{State, caseOf, judgedAt, metAt, tooMuch, ownOr, outer}
 use Rattle.arm.specs.Codes.{codeOf}
 use Rattle.arm.specs.Holds.{PageHolds, Moves, moves-to}
 use Rattle.arm.specs.declared.page.Page as Code
@@ -27,21 +28,20 @@ each-line : {tag : ℕ} (P : ℕ → Type 0) → P 0x9b → P 0x9d → Drawn tag
 each-line P a b drawn-path = a
 each-line P a b drawn-rel = b
 
--- the rules of codes 19 to 21 and of a motif say nothing of it
+-- the rules of motifs and their names say nothing of it
 unbroken-line : (set : Setting) (s : List ℕ) (st : State) (x : Session) (point at op : ℕ) {tag : ℕ} → Drawn tag → Unbroken (caseOf set s st x (lineOf point tag at op))
-unfolding caseOf tooMuch nameHeld nameMissing judgedAt
+unfolding caseOf tooMuch judgedAt metAt
 unbroken-line set s st x point at op d =
     record {
       room = each-line (λ t. tooMuch (caseOf set s st x (lineOf point t at op)) ≡ false) refl refl d;
-      new = each-line (λ t. nameHeld (caseOf set s st x (lineOf point t at op)) ≡ false) refl refl d;
-      known = each-line (λ t. nameMissing (caseOf set s st x (lineOf point t at op)) ≡ false) refl refl d;
       sound = λ r. each-line (λ t. ownOr (caseOf set s st x (lineOf point t at op) .made) r ≡ r) refl refl d;
+      met = each-line (λ t. caseOf set s st x (lineOf point t at op) .met ≡ nothing) refl refl d;
     }
 
 -- the arm after it
 module _ (set : Setting) (opened : Bool) (s : List ℕ) (point at op n : ℕ) (q : Page) where
   abbrev seen : ℕ → Seen
-  seen tag = walk (record { motif = 0; at = op; act = actOf set s (lineOf point tag at op) } ∷ []) (from q n)
+  seen tag = walk (record { motif = 0; op = lineOf point tag at op; act = actOf set s (lineOf point tag at op) } ∷ []) (from q n)
 
   page-line : {tag : ℕ} → Drawn tag → q ≡ seen tag .page
   unfolding walk step from actOf effectOf done

@@ -10,7 +10,7 @@ use lib.ListN.{length, getD}
 use lib.Dec.{leb}
 use Rattle.scope.specs.Reading.{Operator, Read, operatorAt}
 use Rattle.scope.specs.Arm.{Page}
-use Rattle.scope.specs.Motif.{Motif, Picture, bytesHeld}
+use Rattle.scope.specs.Motif.{Motif, Picture}
 use Rattle.scope.specs.Setting.{Setting}
 use Rattle.scope.specs.Session.{Session, Busy, Place, drawing, inside, phaseDrawing, phaseBusy, phaseOf, placeAfter}
 use Rattle.scope.specs.Judge as scope
@@ -25,7 +25,8 @@ use Rattle.reader.specs.EndPoint.{lineOf, Line}
 use Rattle.reader.proofs.EndPoint.{read-line, line-drawn}
 use Rattle.buffer.specs.Over.{over}
 use Rattle.buffer.specs.Listed.{recordsFor}
-use Rattle.motif.specs.Held.{Keeps}
+use Rattle.motif.specs.Stored.{Stored}
+use Rattle.motif.specs.declared.kept.Kept.{Kept}
 use Rattle.order.specs.declared.picture.Picture.the-variants.{Nothing}
 use Rattle.place.specs.Places.{BusyHolds, drawing-holds, PlaceHolds, inside-holds}
 use Rattle.place.specs.declared.place.Busy.the-variants.{Drawing}
@@ -47,7 +48,7 @@ runs-none =
       on = omega arith;
       within = λ h. h;
       counted = omega arith;
-      leads = λ list₀ rows sums work set d order e h. record { there = d; stands = h; judged = refl };
+      leads = λ list₀ table work set d order e h. record { there = d; stands = h; judged = refl };
     }
 
 pub runs-still : {job list list₁ : List ℕ} {high : Bool} {st : State} → list₁ ≡ list → Runs job high list list₁ st st
@@ -60,9 +61,9 @@ runs-then f g =
       on = omega arith;
       within = λ h. g .within (f .within h);
       counted = omega arith;
-      leads = λ list₀ rows sums work set d order e h.
-          let x = f .leads list₀ rows sums work set d order e h in
-          let y = g .leads list₀ rows sums work set (x .there) order (e ∙ sym (f .long)) (x .stands) in
+      leads = λ list₀ table work set d order e h.
+          let x = f .leads list₀ table work set d order e h in
+          let y = g .leads list₀ table work set (x .there) order (e ∙ sym (f .long)) (x .stands) in
           record { there = y .there; stands = y .stands; judged = y .judged ∙ x .judged };
     }
 
@@ -71,36 +72,36 @@ abbrev drawn : List Motif → Bool → Page → Place
 drawn motifs opened q = inside (record { held = motifs; opened = opened; busy = drawing q Picture.none })
 
 -- the definition's place is such a session, and the code keeps it whatever the page is
-record InPage (job rows sums work : List ℕ) (opened : Bool) (held used : ℕ) (p : Code.Page) (place : Place) : Type 0 where
+record InPage (set : Setting) (job work t : List ℕ) (opened : Bool) (kept : Kept) (p : Code.Page) (place : Place) : Type 0 where
   motifs : List Motif
   page : Page
   is : drawn motifs opened page ≡ place
   holds : PageHolds p page
-  keeps : (r : Code.Page) (q : Page) → PageHolds r q → PlaceHolds job rows sums work (Inside opened held used (Drawing r Nothing)) (drawn motifs opened q)
+  keeps : (r : Code.Page) (q : Page) → PageHolds r q → PlaceHolds set job work t (Inside opened kept (Drawing r Nothing)) (drawn motifs opened q)
 
-module _ {job rows sums work : List ℕ} {opened : Bool} {held used : ℕ} {p : Code.Page} where
-  in-busy : (x : Session) (y : Busy) → x .busy ≡ y → opened ≡ x .opened → held ≤ 64 → used ≤ 16384 → used ≡ bytesHeld (x .held) → Keeps job rows sums held (x .held)
-      → BusyHolds job work held used (Drawing p Nothing) y → InPage job rows sums work opened held used p (inside x)
-  in-busy x y f e h u w k (drawing-holds {q = q} g v) =
+module _ {set : Setting} {job work t : List ℕ} {opened : Bool} {kept : Kept} {p : Code.Page} where
+  in-busy : (x : Session) (y : Busy) → x .busy ≡ y → opened ≡ x .opened → kept .used ≤ 16384 → Stored set work t kept (x .held)
+      → BusyHolds job work kept (x .held) (Drawing p Nothing) y → InPage set job work t opened kept p (inside x)
+  in-busy x y f e u k (drawing-holds {q = q} g v) =
       let b : drawing q Picture.none ≡ x .busy = ap (drawing q) v ∙ sym f in
       record {
         motifs = x .held;
         page = q;
         is = λ i. inside (record { held = x .held; opened = e i; busy = b i });
         holds = g;
-        keeps = λ r z m. inside-holds refl h u w k (drawing-holds m refl);
+        keeps = λ r z m. inside-holds refl u k (drawing-holds m refl);
       }
 
-  in-page : {place : Place} → PlaceHolds job rows sums work (Inside opened held used (Drawing p Nothing)) place → InPage job rows sums work opened held used p place
-  in-page (inside-holds {x = x} e h u w k y) = in-busy x (x .busy) refl e h u w k y
+  in-page : {place : Place} → PlaceHolds set job work t (Inside opened kept (Drawing p Nothing)) place → InPage set job work t opened kept p place
+  in-page (inside-holds {x = x} e u k y) = in-busy x (x .busy) refl e u k y
 
 -- one operator more, from the run r to the run t
-module _ (job list₀ rows sums work list list₁ : List ℕ) (set : Setting) (opened : Bool) (held used : ℕ) (r t : Run) (o : Operator) where
+module _ (job list₀ table work list list₁ : List ℕ) (set : Setting) (opened : Bool) (kept : Kept) (r t : Run) (o : Operator) where
   abbrev l : Lent
-  l = record { rows = rows; sums = sums; work = work; list = list }
+  l = record { table = table; work = work; list = list }
 
   abbrev l₁ : Lent
-  l₁ = record { rows = rows; sums = sums; work = work; list = list₁ }
+  l₁ = record { table = table; work = work; list = list₁ }
 
   abbrev here : Place → List Operator → scope.State
   here place past = record { at = r .at; place = place; performed = r .performed; records = r .records; past = past }
@@ -116,37 +117,37 @@ module _ (job list₀ rows sums work list list₁ : List ℕ) (set : Setting) (o
       (room : true ≡ leb ((r .records + suc n) * 16) (length list))
       (listed : list₁ ≡ over list (r .records * 16) (recordsFor (o .tag) (o .at) (o .length) (o .first) (o .attrs))) where
     from-place : (motifs : List Motif) (past : List Operator) (q : Page) → Passes motifs past q
-        → ((z : Code.Page) (q : Page) → PageHolds z q → PlaceHolds job rows sums work (Inside opened held used (Drawing z Nothing)) (drawn motifs opened q))
-        → Stands job list₀ l (inSession opened held used r) (here (drawn motifs opened q) past)
-        → Reaches job list₀ rows sums work list₁ set (inSession opened held used t) (here (drawn motifs opened q) past)
+        → ((z : Code.Page) (q : Page) → PageHolds z q → PlaceHolds set job work table (Inside opened kept (Drawing z Nothing)) (drawn motifs opened q))
+        → Stands set job list₀ l (inSession opened kept r) (here (drawn motifs opened q) past)
+        → Reaches job list₀ table work list₁ set (inSession opened kept t) (here (drawn motifs opened q) past)
     from-place motifs past q passes keeps s =
         let d = here (drawn motifs opened q) past in
         let j = passes .judged in
         let c = caseOf set job d (record { held = motifs; opened = opened; busy = drawing q Picture.none }) o in
-        let place : PlaceHolds job rows sums work (inSession opened held used t .place) (placeAfter set job o (c .seen .page) (drawn motifs opened q)) =
-        subst⁻¹ (PlaceHolds job rows sums work (inSession opened held used t .place)) (passes .stays (c .seen .page)) (keeps (t .page) (c .seen .page) (judged-page j)) in
-        let z = turned-go job list₀ set (judgedFrom every set job (length list₀) d) l₁ (inSession opened held used t) d refl
+        let place : PlaceHolds set job work table (inSession opened kept t .place) (placeAfter set job o (c .seen .page) (drawn motifs opened q)) =
+        subst⁻¹ (PlaceHolds set job work table (inSession opened kept t .place)) (passes .stays (c .seen .page)) (keeps (t .page) (c .seen .page) (judged-page j)) in
+        let z = turned-go job list₀ set (judgedFrom every set job (length list₀) d) l₁ (inSession opened kept t) d refl
         (steps-read set d o (passes .read)
-        (listed-go job list₀ l (inSession opened held used r) d set o n s many same (judged-rules j (length list₀)) l₁ (inSession opened held used t) room next place (judged-count j) more listed
-        refl refl)) in
+        (listed-go job list₀ l (inSession opened kept r) d set o n s many same (judged-rules j (length list₀)) l₁ (inSession opened kept t) room next place (judged-count j) more listed
+        refl)) in
         record { there = z .0; stands = z .1 .0; judged = z .1 .1 }
 
     pub one-more : ((motifs : List Motif) (past : List Operator) (q : Page) → PageHolds (r .page) q → Passes motifs past q)
-        → (d : scope.State) → Stands job list₀ l (inSession opened held used r) d → Reaches job list₀ rows sums work list₁ set (inSession opened held used t) d
+        → (d : scope.State) → Stands set job list₀ l (inSession opened kept r) d → Reaches job list₀ table work list₁ set (inSession opened kept t) d
     one-more passes d s =
         let i = in-page (s .place) in
         let e : here (drawn (i .motifs) opened (i .page)) (d .past) ≡ d =
         λ k. record { at = s .at k; place = i .is k; performed = s .performed k; records = s .records k; past = d .past } in
-        subst (λ x. Stands job list₀ l (inSession opened held used r) x → Reaches job list₀ rows sums work list₁ set (inSession opened held used t) x) e
+        subst (λ x. Stands set job list₀ l (inSession opened kept r) x → Reaches job list₀ table work list₁ set (inSession opened kept t) x) e
         (from-place (i .motifs) (d .past) (i .page) (passes (i .motifs) (d .past) (i .page) (i .holds)) (i .keeps)) s
 
 -- an operator that is its tag alone
-module _ (job list₀ rows sums work list list₁ : List ℕ) (set : Setting) (opened : Bool) (held used : ℕ) (r : Run) (p : Code.Page) (tag : ℕ) where
+module _ (job list₀ table work list list₁ : List ℕ) (set : Setting) (opened : Bool) (kept : Kept) (r : Run) (p : Code.Page) (tag : ℕ) where
   abbrev after-alone : Run
   after-alone = record { at = r .at + 1; page = p; performed = r .performed + 1; records = r .records + 1 }
 
   passes-alone : r .at < length job → getD job (r .at) 0 ≡ tag → r .performed < 1_000_000 → (motifs : List Motif) (past : List Operator) (q : Page) → Leaves tag q (passed-is.To p)
-      → Passes job list₀ rows sums work list list₁ set opened held used r after-alone (alone tag (r .at)) motifs past q
+      → Passes job list₀ table work list list₁ set opened kept r after-alone (alone tag (r .at)) motifs past q
   unfolding contextOf phaseOf phaseBusy phaseDrawing
   passes-alone h byte few motifs past q (leaves-to a k) =
       record {
@@ -159,14 +160,14 @@ module _ (job list₀ rows sums work list list₁ : List ℕ) (set : Setting) (o
   pub one-alone : r .at < length job → getD job (r .at) 0 ≡ tag → r .performed < 1_000_000 → length list₀ ≡ length list
       → true ≡ leb ((r .records + 1) * 16) (length list) → list₁ ≡ over list (r .records * 16) (recordsFor tag (r .at) 0 0 [])
       → ((q : Page) → PageHolds (r .page) q → Leaves tag q (passed-is.To p))
-      → (d : scope.State) → Stands job list₀ (record { rows = rows; sums = sums; work = work; list = list }) (inSession opened held used r) d
-      → Reaches job list₀ rows sums work list₁ set (inSession opened held used after-alone) d
+      → (d : scope.State) → Stands set job list₀ (record { table = table; work = work; list = list }) (inSession opened kept r) d
+      → Reaches job list₀ table work list₁ set (inSession opened kept after-alone) d
   one-alone h byte few same room listed leaves =
-      one-more job list₀ rows sums work list list₁ set opened held used r after-alone (alone tag (r .at)) 0 refl same (add-one (r .at)) (omega arith) room listed
+      one-more job list₀ table work list list₁ set opened kept r after-alone (alone tag (r .at)) 0 refl same (add-one (r .at)) (omega arith) room listed
       (λ motifs past q k. passes-alone h byte few motifs past q (leaves q k))
 
 -- a line by its end point
-module _ (job list₀ rows sums work list list₁ : List ℕ) (set : Setting) (opened : Bool) (held used : ℕ) (r : Run) (op : ℕ) where
+module _ (job list₀ table work list list₁ : List ℕ) (set : Setting) (opened : Bool) (kept : Kept) (r : Run) (op : ℕ) where
   abbrev after-line : Run
   after-line = record { at = op + 1; page = r .page; performed = r .performed + 1; records = r .records + 2 }
 
@@ -174,7 +175,7 @@ module _ (job list₀ rows sums work list list₁ : List ℕ) (set : Setting) (o
   line = lineOf (getD job (r .at) 0) (getD job op 0) (r .at) op
 
   passes-line : Line (set .high) job (r .at) op → r .performed < 1_000_000 → r .page .cursor ≡ true → (motifs : List Motif) (past : List Operator) (q : Page) → PageHolds (r .page) q
-      → Passes job list₀ rows sums work list list₁ set opened held used r after-line line motifs past q
+      → Passes job list₀ table work list list₁ set opened kept r after-line line motifs past q
   unfolding contextOf phaseOf phaseBusy phaseDrawing
   passes-line h few cursor motifs past q k =
       record {
@@ -186,7 +187,7 @@ module _ (job list₀ rows sums work list list₁ : List ℕ) (set : Setting) (o
 
   pub one-line : Line (set .high) job (r .at) op → r .performed < 1_000_000 → r .page .cursor ≡ true → length list₀ ≡ length list
       → true ≡ leb ((r .records + 2) * 16) (length list) → list₁ ≡ over list (r .records * 16) (recordsFor (getD job op 0) op 0 0 (line .attrs))
-      → (d : scope.State) → Stands job list₀ (record { rows = rows; sums = sums; work = work; list = list }) (inSession opened held used r) d
-      → Reaches job list₀ rows sums work list₁ set (inSession opened held used after-line) d
+      → (d : scope.State) → Stands set job list₀ (record { table = table; work = work; list = list }) (inSession opened kept r) d
+      → Reaches job list₀ table work list₁ set (inSession opened kept after-line) d
   one-line h few cursor same room listed =
-      one-more job list₀ rows sums work list list₁ set opened held used r after-line line 1 refl same (add-one op) (omega arith) room listed (passes-line h few cursor)
+      one-more job list₀ table work list list₁ set opened kept r after-line line 1 refl same (add-one op) (omega arith) room listed (passes-line h few cursor)

@@ -2,7 +2,7 @@
 // nothing could refuse them.
 ghost use mathlib.Core.Path.{_≡_};
 ghost use mathlib.Core.Bool.{Bool};
-ghost use Prim.Native.Nat.{ℕ, _<_};
+ghost use Prim.Native.Nat.{_<_};
 ghost use lib.ListN.{length};
 ghost use Rattle.order.specs.declared.picture.Picture.the-variants.{Nothing};
 ghost use Rattle.place.specs.declared.place.Busy.the-variants.{Drawing};
@@ -10,6 +10,7 @@ ghost use Rattle.place.specs.declared.place.Place.the-variants.{Inside};
 ghost use Rattle.running.specs.Running.{inSession, standing, Further, Runs};
 use arm::page::Page;
 use arm::page::Passed;
+use motif::Kept;
 use names::attributes::END_POINT;
 use names::limits::PERFORMED_MOST;
 use order::Picture;
@@ -36,8 +37,8 @@ pub enum Pass {
 fn pass_alone(job: &[u8], list: &mut [u8], from: Run) -> Pass
     requires { ⌜ (from .at < length (now job)) × (from .performed < 1_000_000) ⌝ }
     ensures { λ r. ⌜ Further (length (now (job .entry))) from r ⌝ }
-    ensures { λ r. ⌜ ((high opened : Bool) (held used : ℕ)
-        → Runs (now (job .entry)) high (now (list .entry)) (now (list .exit)) (inSession opened held used from) (inSession opened held used (standing from r))) ⌝ }
+    ensures { λ r. ⌜ ((high opened : Bool) (kept : Kept)
+        → Runs (now (job .entry)) high (now (list .entry)) (now (list .exit)) (inSession opened kept from) (inSession opened kept (standing from r))) ⌝ }
 {
     let at = from.at;
     let page = from.page;
@@ -64,8 +65,8 @@ fn pass_alone(job: &[u8], list: &mut [u8], from: Run) -> Pass
 fn pass_line(job: &[u8], high: bool, list: &mut [u8], from: Run) -> Pass
     requires { ⌜ (from .at < length (now job)) × (from .performed < 1_000_000) ⌝ }
     ensures { λ r. ⌜ Further (length (now (job .entry))) from r ⌝ }
-    ensures { λ r. ⌜ ((opened : Bool) (held used : ℕ)
-        → Runs (now (job .entry)) high (now (list .entry)) (now (list .exit)) (inSession opened held used from) (inSession opened held used (standing from r))) ⌝ }
+    ensures { λ r. ⌜ ((opened : Bool) (kept : Kept)
+        → Runs (now (job .entry)) high (now (list .entry)) (now (list .exit)) (inSession opened kept from) (inSession opened kept (standing from r))) ⌝ }
 {
     let at = from.at;
     let page = from.page;
@@ -104,8 +105,8 @@ fn pass_line(job: &[u8], high: bool, list: &mut [u8], from: Run) -> Pass
 // The next operator of a run: a tag below 0xc0 is an operator's, any other a value's.
 fn pass_one(job: &[u8], high: bool, list: &mut [u8], from: Run) -> Pass
     ensures { λ r. ⌜ Further (length (now (job .entry))) from r ⌝ }
-    ensures { λ r. ⌜ ((opened : Bool) (held used : ℕ)
-        → Runs (now (job .entry)) high (now (list .entry)) (now (list .exit)) (inSession opened held used from) (inSession opened held used (standing from r))) ⌝ }
+    ensures { λ r. ⌜ ((opened : Bool) (kept : Kept)
+        → Runs (now (job .entry)) high (now (list .entry)) (now (list .exit)) (inSession opened kept from) (inSession opened kept (standing from r))) ⌝ }
 {
     let at = from.at;
     if job.len() <= at {
@@ -123,8 +124,8 @@ fn pass_one(job: &[u8], high: bool, list: &mut [u8], from: Run) -> Pass
 
 // The whole of a run.
 fn run_from(job: &[u8], high: bool, list: &mut [u8], from: Run) -> Run
-    ensures { λ r. ⌜ ((opened : Bool) (held used : ℕ)
-        → Runs (now (job .entry)) high (now (list .entry)) (now (list .exit)) (inSession opened held used from) (inSession opened held used r)) ⌝ }
+    ensures { λ r. ⌜ ((opened : Bool) (kept : Kept)
+        → Runs (now (job .entry)) high (now (list .entry)) (now (list .exit)) (inSession opened kept from) (inSession opened kept r)) ⌝ }
 {
     let mut run = from;
     loop {
@@ -146,11 +147,10 @@ fn past_run(
     list: &mut [u8],
     st: State,
     opened: bool,
-    held: usize,
-    used: usize,
+    kept: Kept,
     page: Page,
 ) -> State
-    ensures { λ r. ⌜ (st .place ≡ Inside opened held used (Drawing page Nothing) → Runs (now (job .entry)) high (now (list .entry)) (now (list .exit)) st r) ⌝ }
+    ensures { λ r. ⌜ (st .place ≡ Inside opened kept (Drawing page Nothing) → Runs (now (job .entry)) high (now (list .entry)) (now (list .exit)) st r) ⌝ }
 {
     let run = run_from(
         job,
@@ -166,7 +166,7 @@ fn past_run(
     let page = run.page;
     State {
         at: run.at,
-        place: Place::Inside(opened, held, used, Busy::Drawing(page, Picture::Nothing)),
+        place: Place::Inside(opened, kept, Busy::Drawing(page, Picture::Nothing)),
         performed: run.performed,
         records: run.records,
     }
@@ -179,12 +179,12 @@ pub fn run_on(job: &[u8], high: bool, list: &mut [u8], st: State) -> State
     let place = st.place;
     match place {
         Place::Outside(_) => st,
-        Place::Inside(opened, held, used, busy) => match busy {
+        Place::Inside(opened, kept, busy) => match busy {
             Busy::Resting => st,
             Busy::Reading(_, _, _) => st,
             Busy::Drawing(page, picture) => match picture {
                 Picture::Being(_) => st,
-                Picture::Nothing => past_run(job, high, list, st, opened, held, used, page),
+                Picture::Nothing => past_run(job, high, list, st, opened, kept, page),
             },
         },
     }

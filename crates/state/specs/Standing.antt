@@ -27,28 +27,26 @@ use Rattle.state.specs.declared.state.Step.the-variants.{Go, Stop}
 pub record Listed (list₀ : List ℕ) (past : List Operator) (list : List ℕ) : Type 0 where
   pub is : list ≡ verdict.recordsBefore past [] ++ drop (length (verdict.recordsBefore past [])) list₀
 
--- the lists that are lent for the length of a job: the rows and summaries of motifs, the work buffer and the list
+-- the lists that are lent for the length of a job: the table of motifs, the work buffer and the list
 pub record Lent : Type 0 where
-  pub rows : List ℕ
-  pub sums : List ℕ
+  pub table : List ℕ
   pub work : List ℕ
   pub list : List ℕ
 
--- the code stands where the definition stands
-pub record Stands (job list₀ : List ℕ) (l : Lent) (st : State) (d : scope.State) : Type 0 where
+-- the code stands where the definition stands, in a job of this setting
+pub record Stands (set : Setting) (job list₀ : List ℕ) (l : Lent) (st : State) (d : scope.State) : Type 0 where
   pub at : st .at ≡ d .at
-  pub place : PlaceHolds job (l .rows) (l .sums) (l .work) (st .place) (d .place)
+  pub place : PlaceHolds set job (l .work) (l .table) (st .place) (d .place)
   pub performed : st .performed ≡ d .performed
   pub records : st .records ≡ d .records
   pub counted : length (verdict.recordsBefore (d .past) []) ≡ d .records * 16
   pub listed : Listed list₀ (d .past) (l .list)
-  pub rows-long : length (l .rows) ≡ 192
-  pub sums-long : length (l .sums) ≡ 64
+  pub table-long : length (l .table) ≡ 640
 
 -- after a step the code stands where the definition goes on, or both have ended with the same verdict and list
-pub data Steps (job list₀ : List ℕ) (l : Lent) : Step → Next scope.State scope.Outcome → Type 0 where
-  steps-go : {t : State} {d : scope.State} → Stands job list₀ l t d → Steps job list₀ l (Go t) (go d)
-  steps-stop : {v : Verdict} {e : scope.Outcome} → verdictAs v ≡ verdict.told e → Listed list₀ (e .state .past) (l .list) → Steps job list₀ l (Stop v) (stop e)
+pub data Steps (set : Setting) (job list₀ : List ℕ) (l : Lent) : Step → Next scope.State scope.Outcome → Type 0 where
+  steps-go : {t : State} {d : scope.State} → Stands set job list₀ l t d → Steps set job list₀ l (Go t) (go d)
+  steps-stop : {v : Verdict} {e : scope.Outcome} → verdictAs v ≡ verdict.told e → Listed list₀ (e .state .past) (l .list) → Steps set job list₀ l (Stop v) (stop e)
 
 -- the place of the next item lies within the job, and there are at most 17 records for each byte passed
 abbrev pub Ready : (len : ℕ) → State → Type 0
@@ -71,11 +69,12 @@ endCode (session.outside true) = 0
 endCode (session.outside false) = 27
 endCode (session.inside x) = 27
 
--- an operator that was read where the definition stands, breaks no rule but perhaps that of the room, and leaves this page and number performed
-pub record Comes (job list₀ : List ℕ) (set : Setting) (d : scope.State) (o : Operator) (early : Early) (page : Page) (performed : ℕ) : Type 0 where
+-- an operator that was read where the definition stands, breaks no rule but perhaps that of the room, and leaves this page and number performed; the table is that
+-- of the motifs held there
+pub record Comes (t job list₀ : List ℕ) (set : Setting) (d : scope.State) (o : Operator) (early : Early) (page : Page) (performed : ℕ) : Type 0 where
   pub read : operatorAt (scope.contextOf verdict.every set (d .place)) job (d .at) ≡ Read.operator o
   pub passes : Passes early
-  pub earlier : Earlies (scope.caseOf set job d (session.sessionOf (d .place)) o) early
+  pub earlier : Earlies t (scope.caseOf set job d (session.sessionOf (d .place)) o) early
   pub drawn : PageHolds page (scope.caseOf set job d (session.sessionOf (d .place)) o .seen .page)
   pub counts : performed ≡ scope.caseOf set job d (session.sessionOf (d .place)) o .seen .count
   pub rules : scope.firstBroken verdict.every (scope.caseOf set job d (session.sessionOf (d .place)) o) (scope.rules (length list₀))

@@ -6,6 +6,7 @@ ghost use Prim.Native.Nat.{ℕ, _+_, _*_, _≤_, _<_};
 ghost use lib.ListN.{length};
 ghost use Rattle.scope.specs.Choice.{pick};
 ghost use Rattle.items.specs.Rows.{Sized};
+ghost use Rattle.scope.specs.Setting.{Setting as Setting·of};
 ghost use Rattle.setting.specs.Views.{settingAs};
 ghost use Rattle.scope.specs.Reading.{operatorAt, operator};
 ghost use Rattle.scope.specs.Session as session;
@@ -52,12 +53,19 @@ fn pass_after(one: bool) -> u32
 
 // The code at the end of the job: pass between sessions, after one at least; else 27.
 fn end_code(place: Place) -> u32
-    ensures { λ r. ⌜ ((q : session.Place) (job rows sums work : List ℕ) → PlaceHolds job rows sums work place q → r ≡ endCode q) ⌝ }
+    ensures { λ r. ⌜ ((q : session.Place) (by : Setting·of) (job work t : List ℕ) → PlaceHolds by job work t place q → r ≡ endCode q) ⌝ }
 {
     match place {
         Place::Outside(after_one) => pass_after(after_one),
-        Place::Inside(_, _, _, _) => 27,
+        Place::Inside(_, _, _) => 27,
     }
+}
+
+// What the rules leave of an operator that they let pass: what it goes on with, the page after it, and how many are performed then.
+struct Passed {
+    early: Early,
+    page: Page,
+    performed: u32,
 }
 
 // An operator that breaks no rule but perhaps that of the room: its records, and where the job stands after it.
@@ -66,25 +74,24 @@ fn go_on(
     set: Setting,
     work: &mut [u8],
     list: &mut [u8],
-    rows: &mut [usize; 192],
-    sums: &mut [u64; 64],
+    motifs: &mut [usize; 640],
     attrs: &[usize; 80],
     st: State,
     o: Operator,
-    early: Early,
-    page: Page,
-    performed: u32,
+    passed: Passed,
 ) -> Step
     requires { ⌜ (length (now job) ≤ 61440) × (16384 ≤ length (now work)) × (st .at ≤ o .at) × (o .at < o .next) × (o .next ≤ length (now job)) × (o .count ≤ 16) × (st .records ≤ st .at * 17) ⌝ }
     ensures { λ _. ⌜ Lasts (now (work .entry)) (now (list .entry)) (now (work .exit)) (now (list .exit)) ⌝ }
     ensures { λ r. ⌜ Goes (length (now (job .entry))) (st .at) r ⌝ }
     ensures { λ r. ⌜ ((d : scope.State) (list₀ : List ℕ) → length list₀ ≡ length (now (list .entry)) → Sized (now (attrs .entry)) (o .count) → o .first + o .length ≤ length (now (job .entry))
-        → Stands (now (job .entry)) list₀ (record { rows = now (rows .entry); sums = now (sums .entry); work = now (work .entry); list = now (list .entry) }) st d
-        → Comes (now (job .entry)) list₀ (settingAs set) d (operatorAs o (now (attrs .entry))) early page performed
-        → Steps (now (job .entry)) list₀ (record { rows = now (rows .exit); sums = now (sums .exit); work = now (work .exit); list = now (list .exit) }) r
+        → Stands (settingAs set) (now (job .entry)) list₀ (record { table = now (motifs .entry); work = now (work .entry); list = now (list .entry) }) st d
+        → Comes (now (motifs .entry)) (now (job .entry)) list₀ (settingAs set) d (operatorAs o (now (attrs .entry))) (passed .early) (passed .page) (passed .performed)
+        → Steps (settingAs set) (now (job .entry)) list₀ (record { table = now (motifs .exit); work = now (work .exit); list = now (list .exit) }) r
         (onRead every (settingAs set) (now (job .entry)) (length list₀) d (operator (operatorAs o (now (attrs .entry)))))) ⌝ }
 {
     let place = st.place;
+    let early = passed.early;
+    let page = passed.page;
     if !buffer::list_operator(
         list,
         st.records,
@@ -97,11 +104,11 @@ fn go_on(
     ) {
         return Step::Stop(stop(st, 28, o.at, OUTER));
     }
-    let next = after::place_after(job, set, o, attrs, early, page, place, work, rows, sums);
+    let next = after::place_after(job, set, o, attrs, early, page, place, work, motifs);
     Step::Go(State {
         at: o.next,
         place: next,
-        performed,
+        performed: passed.performed,
         records: st.records + o.count + 1,
     })
 }
@@ -112,8 +119,7 @@ fn perform(
     set: Setting,
     work: &mut [u8],
     list: &mut [u8],
-    rows: &mut [usize; 192],
-    sums: &mut [u64; 64],
+    motifs: &mut [usize; 640],
     attrs: &[usize; 80],
     st: State,
     o: Operator,
@@ -123,13 +129,13 @@ fn perform(
     ensures { λ r. ⌜ Goes (length (now (job .entry))) (st .at) r ⌝ }
     ensures { λ r. ⌜ ((d : scope.State) (list₀ : List ℕ) → length list₀ ≡ length (now (list .entry)) → Sized (now (attrs .entry)) (o .count)
         → o .first + o .length ≤ length (now (job .entry))
-        → Stands (now (job .entry)) list₀ (record { rows = now (rows .entry); sums = now (sums .entry); work = now (work .entry); list = now (list .entry) }) st d
+        → Stands (settingAs set) (now (job .entry)) list₀ (record { table = now (motifs .entry); work = now (work .entry); list = now (list .entry) }) st d
         → operatorAt (contextOf every (settingAs set) (d .place)) (now (job .entry)) (d .at) ≡ operator (operatorAs o (now (attrs .entry)))
-        → Steps (now (job .entry)) list₀ (record { rows = now (rows .exit); sums = now (sums .exit); work = now (work .exit); list = now (list .exit) }) r
+        → Steps (settingAs set) (now (job .entry)) list₀ (record { table = now (motifs .exit); work = now (work .exit); list = now (list .exit) }) r
         (onRead every (settingAs set) (now (job .entry)) (length list₀) d (operator (operatorAs o (now (attrs .entry)))))) ⌝ }
 {
     let place = st.place;
-    let early = early::early_of(job, set, work, rows, sums, attrs, place, o);
+    let early = early::early_of(job, set, work, motifs, attrs, place, o);
     match judge(job, set, attrs, early, place, o, st.performed) {
         Moved::No(code) => Step::Stop(stop(st, code, o.at, inner_of(early))),
         Moved::To(page, performed) => go_on(
@@ -137,14 +143,15 @@ fn perform(
             set,
             work,
             list,
-            rows,
-            sums,
+            motifs,
             attrs,
             st,
             o,
-            early,
-            page,
-            performed,
+            Passed {
+                early,
+                page,
+                performed,
+            },
         ),
     }
 }
@@ -162,8 +169,7 @@ fn advance(
     set: Setting,
     work: &mut [u8],
     list: &mut [u8],
-    rows: &mut [usize; 192],
-    sums: &mut [u64; 64],
+    motifs: &mut [usize; 640],
     attrs: &mut [usize; 80],
     st: State,
 ) -> Step
@@ -172,8 +178,8 @@ fn advance(
     ensures { λ _. ⌜ length (now (attrs .exit)) ≡ length (now (attrs .entry)) ⌝ }
     ensures { λ r. ⌜ Goes (length (now (job .entry))) (st .at) r ⌝ }
     ensures { λ r. ⌜ ((d : scope.State) (list₀ : List ℕ) → length list₀ ≡ length (now (list .entry)) → length (now (attrs .entry)) ≡ 80
-        → Stands (now (job .entry)) list₀ (record { rows = now (rows .entry); sums = now (sums .entry); work = now (work .entry); list = now (list .entry) }) st d
-        → Steps (now (job .entry)) list₀ (record { rows = now (rows .exit); sums = now (sums .exit); work = now (work .exit); list = now (list .exit) }) r
+        → Stands (settingAs set) (now (job .entry)) list₀ (record { table = now (motifs .entry); work = now (work .entry); list = now (list .entry) }) st d
+        → Steps (settingAs set) (now (job .entry)) list₀ (record { table = now (motifs .exit); work = now (work .exit); list = now (list .exit) }) r
         (jobStep every (settingAs set) (now (job .entry)) (length list₀) d)) ⌝ }
 {
     let place = st.place;
@@ -189,7 +195,7 @@ fn advance(
     match reader::operator_at(context, job, st.at, attrs) {
         Read::No(code, position) => Step::Stop(stop(st, code, position, OUTER)),
         Read::Ended => Step::Stop(stop(st, end_code(place), job.len(), OUTER)),
-        Read::Operator(o) => perform(job, set, work, list, rows, sums, attrs, st, o),
+        Read::Operator(o) => perform(job, set, work, list, motifs, attrs, st, o),
     }
 }
 
@@ -200,8 +206,7 @@ fn items_from(job: &[u8], set: Setting, next: usize, work: &mut [u8], list: &mut
     ensures { λ r. ⌜ (verdictAs r ≡ verdict.told (judgedFrom every (settingAs set) (now (job .entry)) (length (now (list .entry))) (scope.starting next)))
         × Listed (now (list .entry)) (judgedFrom every (settingAs set) (now (job .entry)) (length (now (list .entry))) (scope.starting next) .state .past) (now (list .exit)) ⌝ }
 {
-    let mut rows = [0usize; 192];
-    let mut sums = [0u64; 64];
+    let mut motifs = [0usize; 640];
     let mut attrs = [0usize; 80];
     let mut st = State {
         at: next,
@@ -211,7 +216,7 @@ fn items_from(job: &[u8], set: Setting, next: usize, work: &mut [u8], list: &mut
     };
     loop {
         let from = run_on(job, set.high, list, st);
-        match advance(job, set, work, list, &mut rows, &mut sums, &mut attrs, from) {
+        match advance(job, set, work, list, &mut motifs, &mut attrs, from) {
             Step::Go(on) => {
                 st = on;
             }

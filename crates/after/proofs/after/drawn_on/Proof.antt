@@ -1,4 +1,4 @@
--- `session::after::drawn_on` meets its contract: EndPage, an operator that is of no image, or another.
+-- `after::drawn_on` meets its contract: EndPage, an operator that is of no image, or another.
 -- Assumes nothing.
 use Prim.Native.Nat.{ℕ, _<_}
 use mathlib.Core.Path.{_≡_, sym}
@@ -22,18 +22,18 @@ no-image high s tag l p h =
 
 returns : tie.Need-returns
 returns c =
-    λ work n used q z h f. rw (eq-eqb _ _ (c .if1 .taken)) resting-holds
+    λ work kept ms q z h f. rw (eq-eqb _ _ (c .if1 .taken)) resting-holds
 
 returns-2 : tie.Need-returns-2
 returns-2 c =
-    λ work n used q z h f. rw (ne-eqb _ _ (c .before .if1 .left)) (drawing-holds h (sym (no-image _ _ _ _ _ (c .if2 .taken))))
+    λ work kept ms q z h f. rw (ne-eqb _ _ (c .before .if1 .left)) (drawing-holds h (sym (no-image _ _ _ _ _ (c .if2 .taken))))
 
 picture-after-requires : tie.Need-picture-after-requires
 picture-after-requires c κs = search needs
 
 returns-3 : tie.Need-returns-3
 returns-3 c =
-    λ work n used q z h f. rw (ne-eqb _ _ (c .before .before .if1 .left)) (drawing-holds h (c .picture-after .ensures z f))
+    λ work kept ms q z h f. rw (ne-eqb _ _ (c .before .before .if1 .left)) (drawing-holds h (c .picture-after .ensures z f))
 
 pub drawn-on-spec : {M : Type 1} → statement M
 drawn-on-spec = tie.close (tie.spec returns returns-2 picture-after-requires returns-3)

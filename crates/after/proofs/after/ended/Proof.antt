@@ -1,8 +1,8 @@
--- `session::after::ended` meets its contract: only a valid motif comes.
+-- `after::ended` meets its contract: only a valid motif comes, and it is held.
 -- Assumes nothing.
-use Rattle.after.proofs.Going.{fine-after, call-after, no-after}
-use Rattle.after.specs.Kept.{rowsEnded, sumsEnded}
 use mathlib.Core.Path.{refl}
+use Rattle.setting.specs.Views.{settingAs}
+use Rattle.after.proofs.Ending.{fine-after, call-after, no-after, hold-after}
 use borrow.Author.Needs.{needs}
 use Rattle.after.proofs.after.ended.Statement.{statement}
 use Rattle.after.proofs.after.ended.Tie as tie
@@ -23,26 +23,43 @@ enum-told-3 : tie.Need-enum-told-3
 enum-told-3 c = search needs
 
 returns : tie.Need-returns
-unfolding rowsEnded sumsEnded
 returns c =
-    let a = c .before .before .args in
-    rw (c .enum-told .given .1) (refl, (refl, λ job attrs work by o page nr. fine-after job attrs by o (a .rows .now) (a .sums .now) work nr))
+    let a = c .before .before .before .before .args in
+    rw (c .enum-told .given .1) (
+      record { work-long = refl; table-long = refl; rest = refl },
+      λ job attrs o page first count e nr. fine-after job attrs (settingAs (a .set)) o (a .work .now) (a .motifs .now) nr,
+    )
 
 returns-2 : tie.Need-returns-2
-unfolding rowsEnded sumsEnded
 returns-2 c =
-    let a = c .before .before .args in
-    rw (c .enum-told2 .given .1) (refl, (refl, λ job attrs work by o page nr. call-after job attrs by o (a .rows .now) (a .sums .now) work nr))
+    let a = c .before .before .before .before .args in
+    rw (c .enum-told2 .given .1) (
+      record { work-long = refl; table-long = refl; rest = refl },
+      λ job attrs o page first count e nr. call-after job attrs (settingAs (a .set)) o (a .work .now) (a .motifs .now) nr,
+    )
+
+same-length : tie.Need-same-length
+same-length c = search needs
 
 returns-3 : tie.Need-returns-3
 returns-3 c =
-    rw (c .before .before .before .before .early .given .1) (c .hold .ensures)
+    let h = c .before .before in
+    let y = h .before .before .before .before in
+    let a = y .before .before .before .before .args in
+    let k = h .hold in
+    rw (y .early .given .1) (
+      record { work-long = k .ensures .0; table-long = k .ensures .1 .1 .0; rest = k .ensures .1 .0 },
+      λ job attrs o page first count e nr. hold-after job attrs (settingAs (a .set)) o (a .work .now) (a .motifs .now) nr (y .early .given .0 .0) (a .name .now) (k .last .0) (k .last .1 .0)
+          (a .joined) (a .kept) (k .result) (k .ensures .1 .1 .1) e,
+    )
 
 returns-4 : tie.Need-returns-4
-unfolding rowsEnded sumsEnded
 returns-4 c =
-    let a = c .before .before .args in
-    rw (c .enum-told3 .given .1) (refl, (refl, λ job attrs work by o page nr. no-after job attrs by o (a .rows .now) (a .sums .now) work nr))
+    let a = c .before .before .before .before .args in
+    rw (c .enum-told3 .given .1) (
+      record { work-long = refl; table-long = refl; rest = refl },
+      λ job attrs o page first count e nr. no-after job attrs (settingAs (a .set)) o (a .work .now) (a .motifs .now) nr,
+    )
 
 pub ended-spec : {M : Type 1} → statement M
 ended-spec =
@@ -55,5 +72,6 @@ ended-spec =
     enum-told-3
     returns
     returns-2
+    same-length
     returns-3
     returns-4)

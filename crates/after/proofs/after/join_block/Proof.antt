@@ -1,6 +1,6 @@
--- `session::after::join_block` meets its contract: the block stands behind the bytes joined before.
+-- `after::join_block` meets its contract: the block stands behind the bytes joined before.
 -- Assumes nothing.
-use Rattle.after.proofs.Joined.{block-out, work-is, work-joined}
+use Rattle.after.proofs.Joined.{block-out, work-is, work-joined, work-held}
 use Prim.Native.Nat.{_+_, _-_, _≤_}
 use lib.ListN.{length}
 use mathlib.Core.Path.{_≡_, refl, sym, _∙_}
@@ -65,7 +65,12 @@ returns-2 c =
     let W = j .join .last .1 .0 in
     let n = a .o .first + a .o .length - a .o .first in (
       work-is (a .job .now) (a .work .now) W (a .o .first) (a .o .length) (a .used) (a .joined) n (j .join .result) l (f .0) (f .1) (j .join .ensures .0) (j .join .ensures .1),
-      λ h w k. (refl, work-joined (a .job .now) (a .work .now) W (a .o .first) (a .o .length) (a .used) (a .joined) n (j .join .result) l (f .0) (f .1) (j .join .ensures .0) (j .join .ensures .1) h),
+      λ h w k.
+          record {
+            more = refl;
+            bytes = work-joined (a .job .now) (a .work .now) W (a .o .first) (a .o .length) (a .used) (a .joined) n (j .join .result) l (f .0) (f .1) (j .join .ensures .0) (j .join .ensures .1) h;
+            held = work-held (a .job .now) (a .work .now) W (a .o .first) (a .o .length) (a .used) (a .joined) n (j .join .result) l (f .0) (f .1) (j .join .ensures .0) (j .join .ensures .1) h;
+          },
     )
 
 pub join-block-spec : {M : Type 1} → statement M

@@ -1,4 +1,4 @@
--- `session::after::opened_after` meets its contract: one test after the other.
+-- `after::opened_after` meets its contract: one test after the other.
 -- Assumes nothing.
 use Rattle.after.specs.Afterwards.{openedAfter}
 use borrow.Author.Tests.{eq-eqb, ne-eqb}

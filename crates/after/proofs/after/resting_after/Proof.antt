@@ -1,4 +1,4 @@
--- `session::after::resting_after` meets its contract: EndSession, else a session goes on.
+-- `after::resting_after` meets its contract: EndSession, else a session goes on.
 -- Assumes nothing.
 use Rattle.setting.specs.Views.{settingAs}
 use Rattle.after.proofs.Going.{over-after, rest-after}
@@ -9,7 +9,7 @@ use Rattle.after.proofs.after.resting_after.Tie as tie
 returns : tie.Need-returns
 returns c =
     let a = c .before .before .args in
-    λ early page rows sums work. over-after (a .job .now) (a .attrs .now) (settingAs (a .set)) (a .o) rows sums work (c .if1 .taken)
+    λ early page work t. over-after (a .job .now) (a .attrs .now) (settingAs (a .set)) (a .o) work t (c .if1 .taken)
 
 opened-after-requires : tie.Need-opened-after-requires
 opened-after-requires c κs = search needs
@@ -21,7 +21,7 @@ returns-2 : tie.Need-returns-2
 returns-2 c =
     let p = c .before in
     let a = p .before .before .before .args in
-    λ early page rows sums work. rest-after (a .job .now) (a .attrs .now) (settingAs (a .set)) (a .o) rows sums work (p .opened-after .result) (c .begun .result)
+    λ early page work t. rest-after (a .job .now) (a .attrs .now) (settingAs (a .set)) (a .o) work t (p .opened-after .result) (c .begun .result)
     (p .before .if1 .left) (p .opened-after .ensures) (c .begun .ensures)
 
 pub resting-after-spec : {M : Type 1} → statement M

@@ -1,4 +1,4 @@
--- `session::early::early_of` meets its contract: between sessions nothing is judged.
+-- `early::early_of` meets its contract: between sessions nothing is judged.
 -- Assumes nothing.
 use Rattle.setting.specs.Views.{settingAs}
 use Rattle.early.proofs.Breaking.{outer-fine, inner-early}

@@ -1,4 +1,4 @@
--- `session::early::inside_early` meets its contract: case by case of what the session is at.
+-- `early::inside_early` meets its contract: case by case of what the session is at.
 -- Assumes nothing.
 use Rattle.setting.specs.Views.{settingAs}
 use Rattle.place.proofs.Standing.{rest-phase, is-drawn}
@@ -27,18 +27,18 @@ drawing-early-requires c κs = search needs
 returns : tie.Need-returns
 returns c =
     let a = c .before .before .before .before .before .args in
-    rw (c .before .enum-told .given .1) (λ x h u k y s w m. c .resting-early .ensures (settingAs (a .set)) (a .sums .now) x h k s (rw (← rest-phase y) at m))
+    rw (c .before .enum-told .given .1) (λ x k y s w m. c .resting-early .ensures (settingAs (a .set)) x (k .tables .keeps) s (rw (← rest-phase y) at m))
 
 returns-2 : tie.Need-returns-2
 returns-2 c =
     let b = c .before .before in
     let a = b .before .before .before .before .args in
-    rw (b .busy .given .1) (λ x h u k y s w m. c .reading-early .ensures (a .attrs .now) x _ _ h u k y w m)
+    rw (b .busy .given .1) (λ x k y s w m. c .reading-early .ensures (a .job .now) (a .attrs .now) x _ _ k y w m)
 
 returns-3 : tie.Need-returns-3
 returns-3 c =
     let a = c .before .before .before .before .before .args in
-    rw (c .before .enum-told2 .given .1) (λ x h u k y s w m. c .drawing-early .ensures (settingAs (a .set)) x h k s (is-drawn y) m)
+    rw (c .before .enum-told2 .given .1) (λ x k y s w m. c .drawing-early .ensures (settingAs (a .set)) x (k .tables) s (is-drawn y) m)
 
 pub inside-early-spec : {M : Type 1} → statement M
 inside-early-spec =

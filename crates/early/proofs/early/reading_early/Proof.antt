@@ -1,4 +1,4 @@
--- `session::early::reading_early` meets its contract: ReadStream, else EndStream.
+-- `early::reading_early` meets its contract: ReadStream, else EndStream.
 -- Assumes nothing.
 use Rattle.setting.specs.Views.{settingAs}
 use Rattle.early.proofs.Tags.{stream-ends}
@@ -12,8 +12,8 @@ read-stream-requires c κs = search needs
 
 returns : tie.Need-returns
 returns c =
-    let a = c .before .before .before .before .before .args in
-    λ attrs x first count h u k y w m. c .read-stream .ensures (settingAs (a .set)) (a .job .now) attrs x u (read-long y) (read-within y) (c .before .if1 .taken)
+    let a = c .before .before .before .before .args in
+    λ job attrs x first count k y w m. c .read-stream .ensures (settingAs (a .set)) (a .motifs .now) job attrs x (k .used) (read-long y) (read-within y) (c .before .if1 .taken)
 
 end-stream-requires : tie.Need-end-stream-requires
 end-stream-requires c κs = search needs
@@ -21,8 +21,8 @@ end-stream-requires c κs = search needs
 returns-2 : tie.Need-returns-2
 returns-2 c =
     let l = c .before in
-    let a = l .before .before .before .before .args in
-    λ attrs x first count h u k y w m. c .end-stream .ensures attrs x (a .o) h k w (read-within y) (read-bytes y)
+    let a = l .before .before .before .args in
+    λ job attrs x first count k y w m. c .end-stream .ensures job attrs x (a .o) (k .tables .keeps) w (read-within y) (read-bytes y)
     (stream-ends (x .opened) (a .o .tag) (rw (← stream-phase y) at m) (l .if1 .left))
 
 pub reading-early-spec : {M : Type 1} → statement M

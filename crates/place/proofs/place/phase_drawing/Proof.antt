@@ -1,4 +1,4 @@
--- `session::place::phase_drawing` meets its contract: case by case.
+-- `place::phase_drawing` meets its contract: case by case.
 -- Assumes nothing.
 use Rattle.place.proofs.Standing.{page-phase, image-phase}
 use borrow.Author.Needs.{needs}
@@ -15,10 +15,10 @@ enum-known-picture : tie.Need-enum-known-picture
 enum-known-picture c = search needs
 
 returns : tie.Need-returns
-returns c = rw (c .before .enum-told .given .1) (λ q job work n used h. page-phase h)
+returns c = rw (c .before .enum-told .given .1) (λ q job work kept ms h. page-phase h)
 
 returns-2 : tie.Need-returns-2
-returns-2 c = rw (c .before .picture .given .1) (λ q job work n used h. image-phase h)
+returns-2 c = rw (c .before .picture .given .1) (λ q job work kept ms h. image-phase h)
 
 pub phase-drawing-spec : {M : Type 1} → statement M
 phase-drawing-spec = tie.close (tie.spec enum-told cast-t5 enum-known-picture returns returns-2)

@@ -1,8 +1,9 @@
 -- `judging::judge` meets its contract: an earlier rule that is broken, a call, or any other operator.
 -- Assumes nothing.
+use Prim.Native.Nat.{ℕ}
 use mathlib.Core.Path.{_≡_}
 use mathlib.Core.Bool.{false}
-use mathlib.Core.List.{[], _∷_}
+use mathlib.Core.List.{List, [], _∷_}
 use mathlib.Core.Logic.{inl, inr}
 use native.Mathlib.Omega.{arith}
 use lib.Dec.{eqb}
@@ -38,28 +39,28 @@ perform-requires c κs = search needs
 returns : tie.Need-returns
 returns c =
     let a = c .before .before .before .before .args in
-    λ q st rows sums work h z e f. rw (c .before .early .given .1) (early-judged _ (rw (c .before .early .given .1) at f))
+    λ q st work t h z e f. rw (c .before .early .given .1) (early-judged t _ (rw (c .before .early .given .1) at f))
 
 returns-2 : tie.Need-returns-2
 returns-2 c =
     let a = c .before .before .before .before .before .args in
-    λ q st rows sums work h z e f. rw (c .before .before .early2 .given .1) (c .call .ensures q st (a .job .now) rows sums work (settingAs (a .set)) (operatorAs (a .o) (a .attrs .now)) h e (rw (c .before .before .early2 .given .1) at f))
+    λ q st work t h z e f. rw (c .before .before .early2 .given .1) (c .call .ensures q st (settingAs (a .set)) (a .job .now) work t (operatorAs (a .o) (a .attrs .now)) h e (rw (c .before .before .early2 .given .1) at f))
 
 -- none of the earlier rules is broken, and it is no call
-others-judged : (c : Case) {m : Moved} (early : Early) → OneOf (0 ∷ 2 ∷ []) (tagOf the-type early) → Earlies c early
+others-judged : (t : List ℕ) (c : Case) {m : Moved} (early : Early) → OneOf (0 ∷ 2 ∷ []) (tagOf the-type early) → Earlies t c early
     → (eqb (c .op .tag) 0x5e ≡ false → Unbroken c → Judgement c outer m) → Judgement c (innerOf early) m
-others-judged c Early-is.Fine t f k = k (fine-call c f) (fine-unbroken c f)
-others-judged c (Early-is.Call v) t f k = absurd (elim t [ inl e ↦ omega arith | inr e ↦ omega arith ])
-others-judged c (Early-is.Held n v) t f k = k (held-no-call c f) (held-unbroken c f)
-others-judged c (Early-is.No a b) t f k = absurd (elim t [ inl e ↦ omega arith | inr e ↦ omega arith ])
+others-judged t c Early-is.Fine n f k = k (fine-call t c f) (fine-unbroken t c f)
+others-judged t c (Early-is.Call v) n f k = absurd (elim n [ inl e ↦ omega arith | inr e ↦ omega arith ])
+others-judged t c (Early-is.Held made) n f k = k (held-no-call t c f) (held-unbroken t c f)
+others-judged t c (Early-is.No a b) n f k = absurd (elim n [ inl e ↦ omega arith | inr e ↦ omega arith ])
 
 returns-3 : tie.Need-returns-3
 unfolding caseOf
 returns-3 c =
     let a = c .before .before .before .args in
-    λ q st rows sums work h z e f.
-    others-judged (caseOf (settingAs (a .set)) (a .job .now) st (sessionOf q) (operatorAs (a .o) (a .attrs .now))) (a .early) (c .before .match .keys3) f
-    (λ t u. c .perform .ensures q st rows sums work h z e t u)
+    λ q st work t h z e f.
+    others-judged t (caseOf (settingAs (a .set)) (a .job .now) st (sessionOf q) (operatorAs (a .o) (a .attrs .now))) (a .early) (c .before .match .keys3) f
+    (λ y u. c .perform .ensures q st work t h z e y u)
 
 pub judge-spec : {M : Type 1} → statement M
 judge-spec =

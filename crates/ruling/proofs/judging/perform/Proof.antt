@@ -31,11 +31,11 @@ returns c =
     let p = c .before .before .before in
     let i = p .before in
     let a = i .before .before .before .args in
-    λ q st rows sums work h z e t u.
+    λ q st work t h z e y u.
     let o = operatorAs (a .o) (a .attrs .now) in
     plain-judged (settingAs (a .set)) (a .job .now) st (sessionOf q) o (i .opened-in .result) (a .performed) (c .keep .result)
-    (i .opened-in .ensures q (a .job .now) rows sums work h) e u t
-    (c .keep .ensures _ _ (i .before .page-in .ensures q (a .job .now) rows sums work h)
+    (i .opened-in .ensures q (settingAs (a .set)) (a .job .now) work t h) e u y
+    (c .keep .ensures _ _ (i .before .page-in .ensures q (settingAs (a .set)) (a .job .now) work t h)
     (plain-keeps (settingAs (a .set)) (a .job .now) o (sym (p .is-plain .ensures) ∙ c .before .before .if1 .taken) ∙ ap (keeping (a .o .reads)) (sym (c .before .needs-cursor .ensures))))
 
 act-of-requires : tie.Need-act-of-requires
@@ -48,11 +48,11 @@ returns-2 : tie.Need-returns-2
 returns-2 c =
     let i = c .before .before .before .before in
     let a = i .before .before .before .args in
-    λ q st rows sums work h z e t u.
+    λ q st work t h z e y u.
     let o = operatorAs (a .o) (a .attrs .now) in
     plain-judged (settingAs (a .set)) (a .job .now) st (sessionOf q) o (i .opened-in .result) (a .performed) (c .perform .result)
-    (i .opened-in .ensures q (a .job .now) rows sums work h) e u t
-    (c .perform .ensures _ _ (i .before .page-in .ensures q (a .job .now) rows sums work h) (sym (c .before .act-of .ensures z ∙ act-is (settingAs (a .set)) (a .job .now) o)))
+    (i .opened-in .ensures q (settingAs (a .set)) (a .job .now) work t h) e u y
+    (c .perform .ensures _ _ (i .before .page-in .ensures q (settingAs (a .set)) (a .job .now) work t h) (sym (c .before .act-of .ensures z ∙ act-is (settingAs (a .set)) (a .job .now) o)))
 
 pub perform-spec : {M : Type 1} → statement M
 perform-spec =

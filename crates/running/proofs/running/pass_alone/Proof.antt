@@ -41,7 +41,7 @@ returns : tie.Need-returns
 returns c =
     let k = c .before .before .before in
     let f : k .list-alone .result ≡ false = not-true _ (c .if1 .taken) in
-    (tt, λ high opened held used. runs-still (rw f at (k .list-alone .ensures .1)))
+    (tt, λ high opened kept. runs-still (rw f at (k .list-alone .ensures .1)))
 
 add-t18 : tie.Need-add-t18
 add-t18 c = search needs
@@ -53,7 +53,7 @@ add-t20 : tie.Need-add-t20
 add-t20 c = let h = room c in omega arith
 
 returns-2 : tie.Need-returns-2
-returns-2 c = (tt, λ high opened held used. runs-none)
+returns-2 c = (tt, λ high opened kept. runs-none)
 
 same-length-2 : tie.Need-same-length-2
 same-length-2 c = search needs
@@ -66,14 +66,14 @@ returns-3 c =
     let a = s .before .before .before .before .before .args in
     let f : k .list-alone .result ≡ true = not-false _ (c .if1 .left) in (
       (omega arith, omega arith),
-      λ high opened held used.
+      λ high opened kept.
           record {
             long = omega arith;
             on = omega arith;
             within = λ h. omega arith;
             counted = omega arith;
-            leads = λ list₀ rows sums work set d order e h.
-                one-alone (a .job .now) list₀ rows sums work (a .list .now) (k .list-alone .last .0) set opened held used (a .from) (n .next .given .0 .0) _ (omega arith) refl (omega arith) e
+            leads = λ list₀ table work set d order e h.
+                one-alone (a .job .now) list₀ table work (a .list .now) (k .list-alone .last .0) set opened kept (a .from) (n .next .given .0 .0) _ (omega arith) refl (omega arith) e
                 (sym f ∙ k .list-alone .ensures .0) (rw f at (k .list-alone .ensures .1)) (rw (n .next .given .1) at (s .past .ensures)) d h;
           },
     )

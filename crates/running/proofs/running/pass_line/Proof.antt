@@ -72,7 +72,7 @@ returns-3 : tie.Need-returns-3
 returns-3 c =
     let k = c .before .before .before in
     let f : k .list-one .result ≡ false = not-true _ (c .if2 .taken) in
-    (tt, λ opened held used. runs-still (rw f at (k .list-one .ensures .1)))
+    (tt, λ opened kept. runs-still (rw f at (k .list-one .ensures .1)))
 
 add-t18 : tie.Need-add-t18
 add-t18 c = let w = within (c .before .before .before .before .before .before .before .before) in omega (arith, w)
@@ -95,14 +95,14 @@ returns-4 c =
     let f : k .list-one .result ≡ true = not-false _ (c .if2 .left) in
     let w = within o in (
       (omega arith, omega arith),
-      λ opened held used.
+      λ opened kept.
           record {
             long = omega arith;
             on = omega arith;
             within = λ h. omega arith;
             counted = omega arith;
-            leads = λ list₀ rows sums work set d order e h.
-                one-line (a .job .now) list₀ rows sums work (a .list .now) (k .list-one .last .0) set opened held used (a .from) (o .op .given .0 .0) (rw (sym order) at (found o)) (omega arith)
+            leads = λ list₀ table work set d order e h.
+                one-line (a .job .now) list₀ table work (a .list .now) (k .list-one .last .0) set opened kept (a .from) (o .op .given .0 .0) (rw (sym order) at (found o)) (omega arith)
                 (not-false _ (m .before .if1 .left)) e (sym f ∙ k .list-one .ensures .0) (rw f at (k .list-one .ensures .1)) d h;
           },
     )

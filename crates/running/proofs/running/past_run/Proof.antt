@@ -17,10 +17,10 @@ returns : tie.Need-returns
 returns c e =
     let k = c .before .before .before in
     let a = k .before .before .before .before .args in
-    let w : a .st ≡ inSession (a .opened) (a .held) (a .used) (record { at = a .st .at; page = a .page; performed = a .st .performed; records = a .st .records }) =
+    let w : a .st ≡ inSession (a .opened) (a .kept) (record { at = a .st .at; page = a .page; performed = a .st .performed; records = a .st .records }) =
     λ i. record { at = a .st .at; place = e i; performed = a .st .performed; records = a .st .records } in
-    subst⁻¹ (λ (x : State). Runs (a .job .now) (a .high) (a .list .now) (k .run-from .last .1 .1 .0) x (inSession (a .opened) (a .held) (a .used) (k .run-from .result))) w
-    (k .run-from .ensures (a .opened) (a .held) (a .used))
+    subst⁻¹ (λ (x : State). Runs (a .job .now) (a .high) (a .list .now) (k .run-from .last .1 .1 .0) x (inSession (a .opened) (a .kept) (k .run-from .result))) w
+    (k .run-from .ensures (a .opened) (a .kept))
 
 pub past-run-spec : {M : Type 1} → statement M
 past-run-spec = tie.close (tie.spec run-from-requires same-length returns)

@@ -34,15 +34,14 @@ begun c = c .before .before .before .before .before .before .before .before .bef
 
 -- what was read is what the definition reads where it stands
 read-is : (c : tie.After-operator-at) (r : CodeRead) → c .operator-at .result ≡ r → (list₀ : List ℕ) (l : Lent) (d : scope.State) → length (begun c .args .attrs .now) ≡ 80
-    → l .rows ≡ begun c .args .rows .now
-    → Stands (begun c .args .job .now) list₀ l (begun c .args .st) d
+    → Stands (settingAs (begun c .args .set)) (begun c .args .job .now) list₀ l (begun c .args .st) d
     → operatorAt (contextOf every (settingAs (begun c .args .set)) (d .place)) (begun c .args .job .now) (d .at)
     ≡ readAs r (c .operator-at .last .1 .1 .1 .0)
-read-is c r e list₀ l d z y h =
+read-is c r e list₀ l d z h =
     let a = begun c .args in
     sym (context-is (settingAs (a .set)) (a .job .now) (a .st .at) d (phaseAs (c .before .before .before .phase-of .result)) (c .before .before .opened-in .result) (h .at)
-    (c .before .before .before .phase-of .ensures (d .place) (a .job .now) (l .rows) (l .sums) (l .work) (h .place))
-    (c .before .before .opened-in .ensures (d .place) (a .job .now) (l .rows) (l .sums) (l .work) (h .place))) ∙ sym (c .operator-at .ensures .1 .0 z) ∙ ap (λ x. readAs x (c .operator-at .last .1 .1 .1 .0)) e
+    (c .before .before .before .phase-of .ensures (d .place) (settingAs (a .set)) (a .job .now) (l .work) (l .table) (h .place))
+    (c .before .before .opened-in .ensures (d .place) (settingAs (a .set)) (a .job .now) (l .work) (l .table) (h .place))) ∙ sym (c .operator-at .ensures .1 .0 z) ∙ ap (λ x. readAs x (c .operator-at .last .1 .1 .1 .0)) e
 
 is-over-requires : tie.Need-is-over-requires
 is-over-requires c κs = search needs
@@ -101,9 +100,9 @@ enum-known-o c = search needs
 
 perform-requires : tie.Need-perform-requires
 perform-requires c κs =
-    let f = c .before .before .before .before .before .before .before .before in
+    let f = c .before .before .before .before .before .before .before in
     let st = begun f in
-    let w = rw (c .before .before .before .before .before .before .o .given .1) at (f .operator-at .ensures .1 .1) in
+    let w = rw (c .before .before .before .before .before .o .given .1) at (f .operator-at .ensures .1 .1) in
     (st .pre .0, st .pre .1, w .0, w .1, w .2, w .4, st .pre .3)
 
 returns-2 : tie.Need-returns-2
@@ -118,7 +117,7 @@ returns-2 c =
           tt,
           λ d list₀ l z h.
               let set : Setting = settingAs (a .set) in
-              let q = read-is f _ (c .before .before .code .given .1) list₀ _ d z refl h in
+              let q = read-is f _ (c .before .before .code .given .1) list₀ _ d z h in
               let p = read-placed (contextOf every (settingAs (a .set)) (d .place)) (a .job .now) (d .at) _ _ q in
               stopped (c .stop2 .result) (jobStep every set (a .job .now) (length list₀) d) _ _ outer h (step-no set (a .job .now) (length list₀) d _ _ q)
               (c .stop2 .ensures d (omega (arith, p, st .pre)) (omega (arith, st .pre)) (h .records) (h .performed)),
@@ -138,7 +137,7 @@ returns-3 c =
           tt,
           λ d list₀ l z h.
               let set : Setting = settingAs (a .set) in
-              let q = read-is f _ (c .before .before .enum-told .given .1) list₀ _ d z refl h in
+              let q = read-is f _ (c .before .before .enum-told .given .1) list₀ _ d z h in
               stopped (c .stop3 .result) (jobStep every set (a .job .now) (length list₀) d) (endCode (d .place)) (length (a .job .now)) outer h (step-ended set (a .job .now) (length list₀) d q)
               (c .stop3 .ensures d (omega (arith, st .pre)) (omega (arith, st .pre)) (h .records) (h .performed)
               ∙ ap (λ k. told (refusedAt k (length (a .job .now)) outer d)) (c .before .end-code2 .ensures (d .place) _ _ _ _ (h .place))),
@@ -155,10 +154,10 @@ same-length-2 c = search needs
 returns-4 : tie.Need-returns-4
 returns-4 c =
     let g = c .before .before .before .before in
-    let f = g .before .before .before .before .before .before .before .before .before in
+    let f = g .before .before .before .before .before .before .before .before in
     let st = begun f in
     let a = st .args in
-    let e = g .before .before .before .before .before .before .before .o .given .1 in
+    let e = g .before .before .before .before .before .before .o .given .1 in
     let w = rw e at (f .operator-at .ensures .1 .1) in (
       g .perform .ensures .0,
       (
@@ -167,7 +166,7 @@ returns-4 c =
           g .perform .ensures .1 .0,
           λ d list₀ l z h.
               let set : Setting = settingAs (a .set) in
-              let q = read-is f _ e list₀ _ d z refl h in
+              let q = read-is f _ e list₀ _ d z h in
               steps-read set d _ q (g .perform .ensures .1 .1 d list₀ l (record { long = f .operator-at .ensures .0 ∙ z; few = w .4 }) (w .3) h q),
         ),
       ),

@@ -44,7 +44,7 @@ unfolding contextOf
 returns c =
     let j = c .before .before .before .before .before in
     let e = j .before in
-    let st = e .before .before .before .before .before .before .before in
+    let st = e .before .before .before .before .before .before in
     let a = st .args in (
       record { work-long = refl; list-long = refl; rest = refl },
       (
@@ -53,10 +53,10 @@ returns c =
             let o = operatorAs (a .o) (a .attrs .now) in
             let set : Setting = settingAs (a .set) in
             let r = e .early-of .ensures (d .place) d (h .place) z (st .pre .1) (read-may (contextOf every (settingAs (a .set)) (d .place)) (a .job .now) (d .at) o q) in
-            let n = rw (c .before .before .before .code .given .1) at (j .judge .ensures (d .place) d _ _ _ (h .place) z (h .performed) r) in
+            let n = rw (c .before .before .before .code .given .1) at (j .judge .ensures (d .place) d _ _ (h .place) z (h .performed) r) in
             stopped (c .stop .result) (onRead every set (a .job .now) (length list₀) d (operator o)) _ (a .o .at) (innerOf (e .early-of .result)) h
             (step-refused set (a .job .now) (length list₀) d o _ _ (judged-refused n (length list₀)))
-            (c .stop .ensures d (omega (arith, st .pre)) (omega (arith, st .pre)) (h .records) (h .performed) ∙ ap (λ i. told (refusedAt (c .before .before .before .code .given .0 .0) (a .o .at) i d)) (c .before .inner-of .ensures _ r)),
+            (c .stop .ensures d (omega (arith, st .pre)) (omega (arith, st .pre)) (h .records) (h .performed) ∙ ap (λ i. told (refusedAt (c .before .before .before .code .given .0 .0) (a .o .at) i d)) (c .before .inner-of .ensures _ _ r)),
       ),
     )
 
@@ -70,9 +70,9 @@ returns-2 : tie.Need-returns-2
 unfolding contextOf
 returns-2 c =
     let g = c .before .before .before .before in
-    let j = g .before .before .before .before .before .before .before .before in
+    let j = g .before .before .before .before .before .before .before in
     let e = j .before in
-    let st = e .before .before .before .before .before .before .before in
+    let st = e .before .before .before .before .before .before in
     let a = st .args in (
       g .go-on .ensures .0,
       (
@@ -80,7 +80,7 @@ returns-2 c =
         λ d list₀ l z w h q.
             let o = operatorAs (a .o) (a .attrs .now) in
             let r = e .early-of .ensures (d .place) d (h .place) z (st .pre .1) (read-may (contextOf every (settingAs (a .set)) (d .place)) (a .job .now) (d .at) o q) in
-            let n = rw (g .before .before .before .before .before .before .page .given .1) at (j .judge .ensures (d .place) d _ _ _ (h .place) z (h .performed) r) in
+            let n = rw (g .before .before .before .before .before .page .given .1) at (j .judge .ensures (d .place) d _ _ (h .place) z (h .performed) r) in
             g .go-on .ensures .1 .1 d list₀ l z w h
             (record { read = q; passes = judged-passes (e .early-of .result) n r; earlier = r; drawn = judged-page n; counts = judged-count n; rules = judged-rules n (length list₀) }),
       ),

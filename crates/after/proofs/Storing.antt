@@ -1,0 +1,59 @@
+-- The store of motifs where a session begins, while one more motif is read, and its room when that one is held.
+-- Assumes nothing.
+use Prim.Native.Nat.{ℕ, zero, suc, _+_, _≤_, _<_}
+use mathlib.Core.Path.{_≡_, refl, _∙_}
+use mathlib.Core.List.{List, [], _∷_}
+use native.Mathlib.Omega.{arith}
+use lib.ListN.{length, getD, take, drop}
+use lib.Seq.{getD-drop}
+use Rattle.scope.specs.Setting.{Setting}
+use Rattle.scope.specs.Motif.{Own, Motif, heldAs, bytesHeld, valid}
+use Rattle.scope.specs.Session.{keptAs}
+use Rattle.scope.specs.Sound.{sound-none}
+use Rattle.scope.proofs.Replaces.{kept-replaced}
+use Rattle.motif.specs.Held.{rows-none, InRow, storeOf}
+use Rattle.motif.specs.Stored.{Stored}
+use Rattle.motif.specs.declared.kept.Kept.{Kept}
+use Rattle.motif.proofs.Rowed.{none-is}
+
+-- no motif is held
+no-row : {A : Type 0} {i : ℕ} {m : Motif} → InRow [] i m → A
+unfolding heldAs
+no-row r = none-is (r .held)
+
+pub stored-none : (set : Setting) (work t : List ℕ) → length t ≡ 640 → Stored set work t (record { held = 0; used = 0 }) []
+unfolding bytesHeld storeOf
+stored-none set work t l =
+    record {
+      tables =
+          record {
+            keeps = record { sized = l; most = omega arith; rows = rows-none };
+            noted = record { whom = λ i j m r h. no-row r; lacks = λ i m r. no-row r };
+            settled = record { level = λ i m r. no-row r; summed = λ i m r. no-row r };
+          };
+      used = refl;
+      stores = record { within = omega arith; bytes = refl };
+      sound = sound-none;
+    }
+
+-- the bytes behind those held do not matter
+pub stored-beside : {set : Setting} {work t : List ℕ} {kept : Kept} {ms : List Motif} (work₁ : List ℕ) → length work₁ ≡ length work
+    → take (kept .used) work₁ ≡ take (kept .used) work → Stored set work t kept ms → Stored set work₁ t kept ms
+stored-beside {work = work} {ms = ms} work₁ l e s =
+    let f : take (bytesHeld ms) work₁ ≡ take (bytesHeld ms) work = rw (s .used) at e in
+    let n : bytesHeld ms ≤ length work₁ = rw l (s .stores .within) in
+    record { tables = s .tables; used = s .used; stores = record { within = n; bytes = f ∙ s .stores .bytes }; sound = s .sound }
+
+-- a motif that becomes held takes no more than its bytes
+pub held-room : (name bytes : List ℕ) (ops : List Own) (ms : List Motif) → bytesHeld (keptAs name bytes (valid ops) ms) ≤ bytesHeld ms + length bytes
+held-room name bytes ops ms = let e = kept-replaced name bytes ops ms .room in omega arith
+
+take-byte : (n : ℕ) (s : List ℕ) → ((i : ℕ) → getD s i 0 < 256) → (i : ℕ) → getD (take n s) i 0 < 256
+take-byte zero s f i = omega arith
+take-byte (suc n) [] f i = omega arith
+take-byte (suc n) (x ∷ s) f zero = f 0
+take-byte (suc n) (x ∷ s) f (suc i) = take-byte n s (λ j. f (suc j)) i
+
+-- the bytes of a part of a job are bytes
+pub part-bytes : (s : List ℕ) (first count : ℕ) → ((i : ℕ) → getD s i 0 < 256) → (i : ℕ) → getD (take count (drop first s)) i 0 < 256
+part-bytes s first count f = take-byte count (drop first s) (λ i. rw (getD-drop first s i 0) (f (first + i)))
