@@ -4,9 +4,9 @@ use crate::likeness::are_same;
 use listing::field;
 use listing::field_four;
 
-// A motif of the name in this session, which is the one that is being defined; one in an earlier session; one of a like name in this session, by its record; or none.
+// A motif of the name in this session, one in an earlier session, one of a like name in this session, by its record, or none.
 pub enum Other {
-    Itself,
+    Here,
     Earlier,
     Like(usize),
     Nobody,
@@ -59,10 +59,10 @@ fn after(job: &[u8], list: &[u8], i: usize, name: &[u8], found: Other) -> Other 
         return found;
     }
     if compared(job, list, i, name, true) {
-        return Other::Itself;
+        return Other::Here;
     }
     match found {
-        Other::Itself => Other::Itself,
+        Other::Here => Other::Here,
         Other::Earlier => Other::Earlier,
         Other::Like(k) => Other::Like(k),
         Other::Nobody => like(job, list, i, name),
@@ -71,7 +71,7 @@ fn after(job: &[u8], list: &[u8], i: usize, name: &[u8], found: Other) -> Other 
 
 fn begun(found: Other) -> Other {
     match found {
-        Other::Itself => Other::Earlier,
+        Other::Here => Other::Earlier,
         Other::Earlier => Other::Earlier,
         Other::Like(_) => Other::Nobody,
         Other::Nobody => Other::Nobody,

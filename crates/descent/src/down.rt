@@ -1,5 +1,6 @@
 // Down from motif to motif, to the first operator that breaks the rule of a code.
 use crate::call::CALLED;
+use crate::call::EXEC_STREAM;
 use crate::call::NONE;
 use crate::call::note_called;
 use crate::call::performed;
@@ -7,22 +8,37 @@ use crate::page::page_at;
 use arm::page::Page;
 use arm::seen::Seen;
 use attributes::Part;
+use keeping::MANY;
+use motif::LENGTH;
+use motif::ROW;
+use motif::START;
 use setting::Setting;
+use trail::TAG;
 
 // The code of the rule, among the numbers of a walk.
 const CODE: usize = 15;
 
-// The motif with the operator: where its bytes lie in the store, and its name in the job; and the name of the motif that the job calls.
+// A motif with the operator: where its bytes lie in the store, and its row; the row of the motif that the job calls, 64 if its name is not held; and how many are held.
 pub struct Breach {
     pub bytes: Part,
-    pub name: Part,
-    pub called: Part,
+    pub motif: usize,
+    pub called: usize,
+    pub held: usize,
+}
+
+// The operator that a walk has come to calls a name that is not held.
+fn is_lost(st: &[usize; 16]) -> bool {
+    if st[TAG] != EXEC_STREAM {
+        return false;
+    }
+    st[CALLED] == NONE
 }
 
 // The rule of a code was broken on the way.
-fn is_broken(code: usize, seen: Seen) -> bool {
+fn is_broken(code: usize, st: &[usize; 16], seen: Seen) -> bool {
     match code {
         17 => seen.source,
+        21 => is_lost(st),
         23 => 24 < seen.most,
         24 => seen.lost,
         _ => seen.wrong,
@@ -53,9 +69,7 @@ fn in_motif(s: &[u8], set: Setting) -> Setting {
 fn through(
     s: &[u8],
     set: Setting,
-    job: &[u8],
-    rows: &[usize; 192],
-    sums: &[u64; 64],
+    motifs: &[usize; 640],
     page: Page,
     attrs: &mut [usize; 80],
     st: &mut [usize; 16],
@@ -70,8 +84,8 @@ fn through(
         if next == at {
             return seen.page;
         }
-        let then = performed(s, own, job, rows, sums, attrs, st, seen);
-        if is_broken(st[CODE], then) {
+        let then = performed(s, own, motifs, attrs, st, seen);
+        if is_broken(st[CODE], st, then) {
             return seen.page;
         }
         seen = then;
@@ -81,18 +95,13 @@ fn through(
 }
 
 // The bytes of the motif of a row.
-fn bytes_of(starts: &[usize; 65], k: usize) -> Part {
+fn bytes_of(motifs: &[usize; 640], k: usize) -> Part {
     if 63 < k {
         return Part { first: 0, count: 0 };
     }
-    let first = starts[k];
-    let end = starts[k + 1];
-    if end < first {
-        return Part { first: 0, count: 0 };
-    }
     Part {
-        first,
-        count: end - first,
+        first: motifs[k * ROW + START],
+        count: motifs[k * ROW + LENGTH],
     }
 }
 
@@ -100,15 +109,12 @@ fn bytes_of(starts: &[usize; 65], k: usize) -> Part {
 fn inside(
     set: Setting,
     store: &[u8],
-    starts: &[usize; 65],
-    job: &[u8],
-    rows: &[usize; 192],
-    sums: &[u64; 64],
+    motifs: &[usize; 640],
     page: Page,
     attrs: &mut [usize; 80],
     st: &mut [usize; 16],
 ) -> Page {
-    let part = bytes_of(starts, st[CALLED]);
+    let part = bytes_of(motifs, st[CALLED]);
     let first = part.first;
     let count = part.count;
     if store.len() < first {
@@ -117,26 +123,14 @@ fn inside(
     if store.len() - first < count {
         return page;
     }
-    through(
-        &store[first..first + count],
-        set,
-        job,
-        rows,
-        sums,
-        page,
-        attrs,
-        st,
-    )
+    through(&store[first..first + count], set, motifs, page, attrs, st)
 }
 
 // From the motif that is called down to the one with the operator; the answer is its row.
 fn down(
     set: Setting,
     store: &[u8],
-    starts: &[usize; 65],
-    job: &[u8],
-    rows: &[usize; 192],
-    sums: &[u64; 64],
+    motifs: &[usize; 640],
     start: Page,
     attrs: &mut [usize; 80],
     st: &mut [usize; 16],
@@ -146,7 +140,7 @@ fn down(
     let mut turns: usize = 32;
     while 0 < turns {
         turns -= 1;
-        page = inside(set, store, starts, job, rows, sums, page, attrs, st);
+        page = inside(set, store, motifs, page, attrs, st);
         if st[CALLED] == NONE {
             return k;
         }
@@ -155,49 +149,58 @@ fn down(
     k
 }
 
-// The name of the motif of a row.
-fn name_of(rows: &[usize; 192], k: usize) -> Part {
-    if 63 < k {
-        return Part { first: 0, count: 0 };
-    }
-    Part {
-        first: rows[k * 3],
-        count: rows[k * 3 + 1],
+// Of 21: the nearest motif that names one not held, and in it the operator that does; the answer is its row.
+fn lacking(
+    set: Setting,
+    store: &[u8],
+    motifs: &[usize; 640],
+    start: Page,
+    attrs: &mut [usize; 80],
+    st: &mut [usize; 16],
+) -> usize {
+    let k = rings::lacking(motifs, st[MANY], st[CALLED]);
+    st[CALLED] = k;
+    inside(set, store, motifs, start, attrs, st);
+    k
+}
+
+// The row of the motif with the operator that breaks the rule of a code; of a ring it is the motif that is called.
+fn found(
+    set: Setting,
+    store: &[u8],
+    motifs: &[usize; 640],
+    start: Page,
+    attrs: &mut [usize; 80],
+    st: &mut [usize; 16],
+) -> usize {
+    match st[CODE] {
+        21 => lacking(set, store, motifs, start, attrs, st),
+        32 => st[CALLED],
+        _ => down(set, store, motifs, start, attrs, st),
     }
 }
 
-// The motif with the operator by which the call at a place of the job breaks the rule of a code; `st` and `attrs` tell the operator, the store has the motifs.
+// The motif with the operator by which the call at a place of the job breaks the rule of a code; `st` and `attrs` tell the operator, store and table have the motifs.
 pub fn breach_in(
     job: &[u8],
     code: u32,
     to: usize,
     gray: bool,
     store: &mut [u8],
+    motifs: &mut [usize; 640],
     attrs: &mut [usize; 80],
     st: &mut [usize; 16],
 ) -> Breach {
-    let mut rows = [0usize; 192];
-    let mut sums = [0u64; 64];
-    let mut starts = [0usize; 65];
     let set = setting_of(job, gray);
-    let page = page_at(
-        job,
-        to,
-        set,
-        store,
-        &mut rows,
-        &mut sums,
-        &mut starts,
-        attrs,
-        st,
-    );
+    let page = page_at(job, to, set, store, motifs, attrs, st);
     st[CODE] = code as usize;
-    note_called(job, job, &rows, attrs, st);
-    let first = st[CALLED];
-    let last = down(set, store, &starts, job, &rows, &sums, page, attrs, st);
+    note_called(job, motifs, attrs, st);
+    let called = st[CALLED];
+    let motif = found(set, store, motifs, page, attrs, st);
     Breach {
-        bytes: bytes_of(&starts, last),
-        name: name_of(&rows, last),
-        called: name_of(&rows, first),
+        bytes: bytes_of(motifs, motif),
+        motif,
+        called,
+        held: st[MANY],
     }
 }

@@ -11,8 +11,7 @@ use trail::TAG;
 fn after(
     job: &[u8],
     set: Setting,
-    rows: &[usize; 192],
-    sums: &[u64; 64],
+    motifs: &[usize; 640],
     attrs: &[usize; 80],
     st: &mut [usize; 16],
     page: Page,
@@ -20,7 +19,7 @@ fn after(
     if st[TAG] == 0x43 {
         return blank(set.gray);
     }
-    let seen = performed(job, set, job, rows, sums, attrs, st, Seen::from(page, 0));
+    let seen = performed(job, set, motifs, attrs, st, Seen::from(page, 0));
     seen.page
 }
 
@@ -30,13 +29,12 @@ pub fn page_at(
     to: usize,
     set: Setting,
     store: &mut [u8],
-    rows: &mut [usize; 192],
-    sums: &mut [u64; 64],
-    starts: &mut [usize; 65],
+    motifs: &mut [usize; 640],
     attrs: &mut [usize; 80],
     st: &mut [usize; 16],
 ) -> Page {
     let mut page = blank(set.gray);
+    let mut held = keeping::none();
     let mut at = trail::begin(job);
     let mut turns = job.len();
     while 0 < turns {
@@ -45,8 +43,8 @@ pub fn page_at(
         if next == at {
             return page;
         }
-        keep(job, set, store, rows, sums, starts, attrs, st);
-        page = after(job, set, rows, sums, attrs, st, page);
+        held = keep(job, set, store, motifs, attrs, st, held);
+        page = after(job, set, motifs, attrs, st, page);
         at = next;
     }
     page

@@ -1,6 +1,4 @@
 // A fault of a job or of a motif: its cause and its cure.
-use attributes::Part;
-use descent::Breach;
 use setting::Class;
 use tell::Facts;
 use text::number;
@@ -11,13 +9,6 @@ const MISSING: usize = 63;
 
 // The line of an attribute of class 2;1 in a job of class 1;1.
 const ATTRIBUTE_OF_TWO: usize = 71;
-
-// Lines of cures for an operator of a motif that is called.
-const SAVES: usize = 72;
-
-const LACKS_CURSOR: usize = 73;
-
-const LACKS_COLOUR: usize = 74;
 
 // An attribute of class 2;1 stands in a job of class 1;1.
 fn is_of_two(class: Class, number: usize) -> bool {
@@ -51,8 +42,8 @@ fn line_of(code: u32, s: &[u8], at: usize, st: &[usize; 16], f: Facts) -> usize 
     trail::line_of(code, s, st)
 }
 
-// The code and the cure.
-fn ending(s: &[u8], k: usize, code: u32, f: Facts) {
+// The code and the cure of a line.
+pub fn ending(s: &[u8], k: usize, code: u32, f: Facts) {
     say(b" (code ");
     number(code);
     say(b") -- ");
@@ -102,61 +93,4 @@ pub fn of_motif(job: &[u8], list: &[u8], records: usize, motif: &[u8], code: u32
     say(b" at its byte ");
     text::plain(f.at);
     ending(motif, cure_at(k, &st), code, f);
-}
-
-// The line of the cure for an operator of a motif that is called.
-fn cure_in(code: u32) -> usize {
-    match code {
-        23 => SAVES,
-        24 => LACKS_CURSOR,
-        25 => LACKS_COLOUR,
-        _ => code as usize,
-    }
-}
-
-// The motif with the operator at a place, and the one that the job calls if it is another.
-fn inner_names(job: &[u8], name: Part, called: Part, at: u32) {
-    say(b", in the motif ");
-    text::part(job, name.count, name.first);
-    say(b" at its byte ");
-    text::plain(at);
-    if name.first != called.first {
-        say(b", which the call of ");
-        text::part(job, called.count, called.first);
-        say(b" comes to");
-    }
-}
-
-// Says what is wrong at the operator of a motif that a walk has found, of which these are the bytes, and the cure.
-fn of_breach(
-    job: &[u8],
-    motif: &[u8],
-    b: Breach,
-    code: u32,
-    attrs: &[usize; 80],
-    st: &[usize; 16],
-) {
-    let name = b.name;
-    let called = b.called;
-    let f = tell::facts_in(motif, st[trail::PLACE], attrs, st);
-    tell::cause(code as usize, motif, f);
-    inner_names(job, name, called, f.at);
-    ending(motif, cure_in(code), code, f);
-}
-
-// Says what is wrong in the call at a place of the job, where pages start in gray or else in RGB, and the cure; the store is room for the motifs.
-pub fn of_call(job: &[u8], code: u32, at: usize, gray: bool, store: &mut [u8]) {
-    let mut attrs = [0usize; 80];
-    let mut st = [0usize; 16];
-    let b = descent::breach_in(job, code, at, gray, store, &mut attrs, &mut st);
-    let part = b.bytes;
-    let first = part.first;
-    let count = part.count;
-    if store.len() < first {
-        return;
-    }
-    if store.len() - first < count {
-        return;
-    }
-    of_breach(job, &store[first..first + count], b, code, &attrs, &st);
 }

@@ -1,5 +1,6 @@
-// The motifs that a session holds: names and depths in `rows`, what each comes to in `sums`, and their bytes in the store, one behind the other.
-ghost use Prim.Native.Nat.{_≤_};
+// The motifs that a session holds: their table, and their bytes in the store, one behind the other, with those of the one that is being read behind them.
+use attributes::Part;
+use motif::Kept;
 use setting::Setting;
 use stream::Judged;
 use trail::BEHIND;
@@ -9,93 +10,154 @@ use trail::TAG;
 // How many are held, among the numbers of a walk.
 pub const MANY: usize = 14;
 
-// The row of the one that is being read.
-fn next(st: &[usize; 16]) -> usize
-    ensures { λ r. ⌜ r ≤ 63 ⌝ }
-{
-    let n = st[MANY];
-    if n < 63 { n } else { 63 }
+// What is held; of the motif that is being read its name in the job, and how many bytes of it are there.
+pub struct Keeping {
+    pub kept: Kept,
+    pub name: Part,
+    pub joined: usize,
 }
 
-// BeginStream: the next one has this name and no bytes yet.
-fn begin_stream(
-    job: &[u8],
-    rows: &mut [usize; 192],
-    starts: &mut [usize; 65],
-    attrs: &[usize; 80],
-    st: &[usize; 16],
-) {
-    let k = next(st);
+// Nothing is held.
+pub fn none() -> Keeping {
+    let kept = Kept { held: 0, used: 0 };
+    let name = Part { first: 0, count: 0 };
+    Keeping {
+        kept,
+        name,
+        joined: 0,
+    }
+}
+
+// BeginStream: the one that is being read has this name and no bytes yet.
+fn begin_stream(job: &[u8], attrs: &[usize; 80], st: &[usize; 16], kept: Kept) -> Keeping {
     let name = motif::name_in(job, attrs, st[COUNT]);
-    rows[k * 3] = name.first;
-    rows[k * 3 + 1] = name.count;
-    starts[k + 1] = starts[k];
+    Keeping {
+        kept,
+        name,
+        joined: 0,
+    }
 }
 
-// ReadStream: its data are joined to the one that is being read.
-fn read_stream(job: &[u8], store: &mut [u8], starts: &mut [usize; 65], st: &[usize; 16]) {
-    let k = next(st);
-    let used = starts[k + 1];
+// ReadStream: its data are joined to the one that is being read; the answer is how many bytes are there then.
+fn joined_after(
+    job: &[u8],
+    store: &mut [u8],
+    st: &[usize; 16],
+    used: usize,
+    joined: usize,
+) -> usize {
     let end = st[BEHIND];
     let count = trail::told(job, number::byte_at(job, 0) == 0x28, st) as usize;
     if job.len() < end {
-        return;
+        return joined;
     }
     if end < count {
-        return;
+        return joined;
     }
     if 65_536 < used {
-        return;
+        return joined;
     }
-    buffer::join(&job[end - count..end], store, used);
-    starts[k + 1] = used + count;
+    if 65_536 < joined {
+        return joined;
+    }
+    buffer::join(&job[end - count..end], store, used + joined);
+    joined + count
 }
 
-// EndStream: the one that was read is held, with what it comes to.
+// EndStream of a motif, of which these are the name and the bytes: it is held, or replaces the one that its name holds.
+fn held_after(
+    set: Setting,
+    store: &mut [u8],
+    motifs: &mut [usize; 640],
+    name: &[u8],
+    kept: Kept,
+    joined: usize,
+) -> Kept {
+    let used = kept.used;
+    if store.len() < used {
+        return kept;
+    }
+    if store.len() - used < joined {
+        return kept;
+    }
+    match stream::judge_motif(&store[used..used + joined], set, motifs, kept.held) {
+        Judged::Valid(made) => holding::hold(store, motifs, set, name, kept, joined, made),
+        Judged::Faulty(_, _) => kept,
+    }
+}
+
+// EndStream.
 fn end_stream(
     job: &[u8],
     set: Setting,
-    store: &[u8],
-    rows: &mut [usize; 192],
-    sums: &mut [u64; 64],
-    starts: &[usize; 65],
-    st: &mut [usize; 16],
-) {
-    let k = next(st);
-    let start = starts[k];
-    let end = starts[k + 1];
-    if store.len() < end {
-        return;
+    store: &mut [u8],
+    motifs: &mut [usize; 640],
+    now: Keeping,
+) -> Keeping {
+    let kept = now.kept;
+    let name = now.name;
+    let first = name.first;
+    let count = name.count;
+    if job.len() < first {
+        return none();
     }
-    if end < start {
-        return;
+    if job.len() - first < count {
+        return none();
     }
-    match stream::judge_motif(&store[start..end], set, job, rows, sums, k) {
-        Judged::Valid(depth, sum) => {
-            rows[k * 3 + 2] = depth;
-            sums[k] = sum;
-            st[MANY] = k + 1;
-        }
-        Judged::Faulty(_, _) => {}
+    let then = held_after(
+        set,
+        store,
+        motifs,
+        &job[first..first + count],
+        kept,
+        now.joined,
+    );
+    Keeping {
+        kept: then,
+        name,
+        joined: 0,
     }
 }
 
+// ReadStream.
+fn read_stream(job: &[u8], store: &mut [u8], st: &[usize; 16], now: Keeping) -> Keeping {
+    let kept = now.kept;
+    let name = now.name;
+    let joined = joined_after(job, store, st, kept.used, now.joined);
+    Keeping { kept, name, joined }
+}
+
 // What an operator of the job makes of the motifs held.
+fn after(
+    job: &[u8],
+    set: Setting,
+    store: &mut [u8],
+    motifs: &mut [usize; 640],
+    attrs: &[usize; 80],
+    st: &[usize; 16],
+    now: Keeping,
+) -> Keeping {
+    match st[TAG] {
+        0x41 => none(),
+        0x5b => begin_stream(job, attrs, st, now.kept),
+        0x5c => read_stream(job, store, st, now),
+        0x5d => end_stream(job, set, store, motifs, now),
+        _ => now,
+    }
+}
+
+// The same, and how many are held then among the numbers of the walk.
 pub fn keep(
     job: &[u8],
     set: Setting,
     store: &mut [u8],
-    rows: &mut [usize; 192],
-    sums: &mut [u64; 64],
-    starts: &mut [usize; 65],
+    motifs: &mut [usize; 640],
     attrs: &[usize; 80],
     st: &mut [usize; 16],
-) {
-    match st[TAG] {
-        0x41 => st[MANY] = 0,
-        0x5b => begin_stream(job, rows, starts, attrs, st),
-        0x5c => read_stream(job, store, starts, st),
-        0x5d => end_stream(job, set, store, rows, sums, starts, st),
-        _ => {}
-    }
+    now: Keeping,
+) -> Keeping {
+    let then = after(job, set, store, motifs, attrs, st, now);
+    let kept = then.kept;
+    st[MANY] = kept.held;
+    then
 }

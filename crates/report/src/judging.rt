@@ -49,28 +49,38 @@ fn other_start(job: &[u8], gray: bool) {
     }
 }
 
-// A code of the page: 17, or 23 to 25.
-fn is_of_page(code: u32) -> bool {
-    if code == 17 {
-        return true;
+// A code of what a call comes to: 17, 21, 23 to 25, or 32.
+fn is_inner(code: u32) -> bool {
+    match code {
+        17 => true,
+        21 => true,
+        23 => true,
+        24 => true,
+        25 => true,
+        32 => true,
+        _ => false,
     }
-    if code < 23 {
-        return false;
-    }
-    code <= 25
 }
 
-// A call is refused by a rule that an operator of its motifs breaks.
+// A call is refused by what it comes to.
 fn is_call(job: &[u8], v: Verdict) -> bool {
     if number::byte_at(job, v.position as usize) != 0x5e {
         return false;
     }
-    is_of_page(v.code)
+    is_inner(v.code)
 }
 
-fn called(job: &[u8], v: Verdict, gray: bool) {
+fn called(job: &[u8], list: &[u8], v: Verdict, gray: bool) {
     let mut store = rooms::work();
-    fault::of_call(job, v.code, v.position as usize, gray, &mut store);
+    inner::of_call(
+        job,
+        list,
+        v.records as usize,
+        v.code,
+        v.position as usize,
+        gray,
+        &mut store,
+    );
 }
 
 // The cause and the cure.
@@ -80,7 +90,7 @@ fn reasons(job: &[u8], list: &[u8], v: Verdict, gray: bool) {
         return;
     }
     if is_call(job, v) {
-        called(job, v, gray);
+        called(job, list, v, gray);
         return;
     }
     fault::of_job(job, list, v.records as usize, v.code, v.position as usize);

@@ -1,4 +1,4 @@
-// What each line means, and what to change. The first lines are the codes'; those from 30 on say more where more is known. The cures have lines more: for an operator of a motif that is called, and for what may come in place of an operator that is not known.
+// What each line means, and what to change. The first lines are the codes', that of 20, which is retired, is empty; those from 30 on say more where more is known, and are no codes. The cures have lines more: for an operator of a motif that is called, for what may come in place of an operator that is not known, and for a motif that calls itself.
 use crate::facts::Facts;
 use crate::sentence::sentence;
 
@@ -24,7 +24,7 @@ attributes or rows that do not go together before %o
 data source not open at %o
 data absent or of another length after %o
 no room for more motifs at %o
-a motif of the name %u is held already
+
 no motif of the name %u is held
 calls over 32 deep at %o of %u
 over 24 saved states at %o
@@ -70,7 +70,7 @@ no data behind %o, which asks for %x
 %m missing before %o
 the motif %u was defined in an earlier session and ended with it
 no PCL XL file: it begins with zero bytes, as an adapter pads with them
-the motif %u calls itself
+a call of %u comes back to a motif that is running
 the motif %u is defined only later
 the motif %u is defined only later
 of another class than the job
@@ -101,8 +101,8 @@ give it once
 %r
 put an OpenDataSource before the BeginPage
 put data of just the length asked for behind it
-define fewer or shorter motifs: 64, and 16,384 bytes in all
-give this one another name
+define fewer or shorter motifs: 64, and 16,384 bytes in all, one that is being replaced counted too
+
 define it before the page, in this session
 let motifs call each other less deep
 put a PopGS before it, or leave it out
@@ -148,8 +148,8 @@ make the two lengths the same
 %q
 define it again in this session, before the page
 send it from its header on: zero bytes may stand behind the header, not before it
-take this call out: a motif may call only those defined before it
-define it before the page or motif that calls it
+let one of these motifs not call the next
+define it before the page
 define it in this session too, before the page
 give the motif's header the class of the job's own
 take it out, or save the job as PCL XL 2;1
@@ -163,6 +163,7 @@ take it out: in the definition of a motif only ReadStream and EndStream may come
 take it out: in a page only Comment, EndPage, ExecStream, PushGS, PopGS, SetBrushSource, SetColorSpace, SetCursor, SetCursorRel, SetPenSource, SetPenWidth, CloseSubPath, NewPath, PaintPath, LinePath, LineRelPath, Rectangle and BeginImage may come, and in class 2;1 SetDefaultGS
 take it out: in an image only ReadImage and EndImage may come
 take it out: in a motif only Comment, ExecStream, PushGS, PopGS, SetBrushSource, SetColorSpace, SetCursor, SetCursorRel, SetPenSource, SetPenWidth, CloseSubPath, NewPath, PaintPath, LinePath, LineRelPath, Rectangle and BeginImage may come, and in class 2;1 SetDefaultGS
+let the motif not call itself
 ";
     sentence(lines, k, s, f);
 }

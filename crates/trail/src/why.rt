@@ -64,6 +64,8 @@ const NO_DATA: usize = 61;
 
 const OTHER_LENGTH: usize = 62;
 
+const RING: usize = 66;
+
 const OTHER_CLASS: usize = 69;
 
 const OPERATOR_OF_TWO: usize = 70;
@@ -179,7 +181,7 @@ fn unknown_line(tag: usize) -> usize {
     if tag == 0x57 { OPERATOR_OF_TWO } else { 9 }
 }
 
-// The line of a code.
+// The line of a code; those from 30 on are none of a code's own.
 pub fn line_of(code: u32, s: &[u8], st: &[usize; 16]) -> usize {
     match code {
         4 => class_line(st[MOTIF]),
@@ -188,6 +190,7 @@ pub fn line_of(code: u32, s: &[u8], st: &[usize; 16]) -> usize {
         17 => source_line(st[TAG]),
         18 => data_line(s, st),
         27 => open_line(s, st),
+        32 => RING,
         _ => code as usize,
     }
 }

@@ -11,8 +11,6 @@ const UNHELD: usize = 21;
 
 const EARLIER: usize = 64;
 
-const ITSELF: usize = 66;
-
 const LATER: usize = 67;
 
 const LATER_ELSEWHERE: usize = 68;
@@ -48,20 +46,20 @@ fn like(job: &[u8], list: &[u8], i: usize, s: &[u8], f: Facts) -> usize {
     UNHELD
 }
 
-// With no motif of the name later.
+// With no motif of the name later; one before in this session would be held.
 fn before(job: &[u8], list: &[u8], other: Other, s: &[u8], f: Facts) -> usize {
     match other {
-        Other::Itself => line(ITSELF, s, f),
+        Other::Here => line(UNHELD, s, f),
         Other::Earlier => line(EARLIER, s, f),
         Other::Like(i) => like(job, list, i, s, f),
         Other::Nobody => line(UNHELD, s, f),
     }
 }
 
-// A motif of the name itself was found before.
+// A motif of the name was found in an earlier session.
 fn is_told(other: Other) -> bool {
     match other {
-        Other::Itself => true,
+        Other::Here => false,
         Other::Earlier => true,
         Other::Like(_) => false,
         Other::Nobody => false,
@@ -76,21 +74,11 @@ fn elsewhere(job: &[u8], list: &[u8], other: Other, s: &[u8], f: Facts, place: u
     later_elsewhere(s, f, place)
 }
 
-// With one later in this session: only a motif that calls itself is nearer.
-fn here(s: &[u8], other: Other, f: Facts, place: usize) -> usize {
-    match other {
-        Other::Itself => line(ITSELF, s, f),
-        Other::Earlier => later(s, f, place),
-        Other::Like(_) => later(s, f, place),
-        Other::Nobody => later(s, f, place),
-    }
-}
-
 // Of a name.
 fn named(job: &[u8], list: &[u8], records: usize, s: &[u8], f: Facts, name: &[u8]) -> usize {
     let other = alike::look_for(job, list, records, name);
     match look_behind(job, list, records, name) {
-        Later::Here(place) => here(s, other, f, place),
+        Later::Here(place) => later(s, f, place),
         Later::Elsewhere(place) => elsewhere(job, list, other, s, f, place),
         Later::Nowhere => before(job, list, other, s, f),
     }

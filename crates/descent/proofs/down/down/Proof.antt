@@ -5,10 +5,10 @@ use Rattle.descent.proofs.down.down.Statement.{statement}
 use Rattle.descent.proofs.down.down.Tie as tie
 
 abbrev Inv-loop : tie.InvT-loop
-Inv-loop set store starts job rows sums attrs₀ st₀ page₀ k₀ turns₀ attrs st page k turns = Unit {0}
+Inv-loop set store motifs attrs₀ st₀ page₀ k₀ turns₀ attrs st page k turns = Unit {0}
 
 abbrev μ-loop : tie.MeasureT-loop
-μ-loop set store starts job rows sums attrs₀ st₀ page₀ k₀ turns₀ attrs st page k turns = turns
+μ-loop set store motifs attrs₀ st₀ page₀ k₀ turns₀ attrs st page k turns = turns
 
 element-copy-out-k : tie.Need-element-copy-out-k Inv-loop μ-loop
 element-copy-out-k c = search needs

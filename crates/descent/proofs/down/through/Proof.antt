@@ -5,10 +5,10 @@ use Rattle.descent.proofs.down.through.Statement.{statement}
 use Rattle.descent.proofs.down.through.Tie as tie
 
 abbrev Inv-loop : tie.InvT-loop
-Inv-loop s set job rows sums attrs₀ st₀ seen₀ at₀ turns₀ attrs st seen at turns = Unit {0}
+Inv-loop s motifs attrs₀ st₀ own seen₀ at₀ turns₀ attrs st seen at turns = Unit {0}
 
 abbrev μ-loop : tie.MeasureT-loop
-μ-loop s set job rows sums attrs₀ st₀ seen₀ at₀ turns₀ attrs st seen at turns = turns
+μ-loop s motifs attrs₀ st₀ own seen₀ at₀ turns₀ attrs st seen at turns = turns
 
 in-motif-requires : tie.Need-in-motif-requires Inv-loop μ-loop
 in-motif-requires c κs = search needs

@@ -7,15 +7,18 @@ use Rattle.descent.proofs.page.page_at.Statement.{statement}
 use Rattle.descent.proofs.page.page_at.Tie as tie
 
 abbrev Inv-loop : tie.InvT-loop
-Inv-loop job to set store₀ rows₀ sums₀ starts₀ attrs₀ st₀ page₀ at₀ turns₀ store rows sums starts attrs st page at turns =
+Inv-loop job to set store₀ motifs₀ attrs₀ st₀ page₀ held₀ at₀ turns₀ store motifs attrs st page held at turns =
     length store ≡ length store₀
 
 abbrev μ-loop : tie.MeasureT-loop
-μ-loop job to set store₀ rows₀ sums₀ starts₀ attrs₀ st₀ page₀ at₀ turns₀ store rows sums starts attrs st page at turns =
+μ-loop job to set store₀ motifs₀ attrs₀ st₀ page₀ held₀ at₀ turns₀ store motifs attrs st page held at turns =
     turns
 
 blank-requires : tie.Need-blank-requires Inv-loop μ-loop
 blank-requires c κs = search needs
+
+none-requires : tie.Need-none-requires Inv-loop μ-loop
+none-requires c κs = search needs
 
 begin-requires : tie.Need-begin-requires Inv-loop μ-loop
 begin-requires c κs = search needs
@@ -60,6 +63,7 @@ page-at-spec =
     Inv-loop
     μ-loop
     blank-requires
+    none-requires
     begin-requires
     loop-holds
     sub-turns

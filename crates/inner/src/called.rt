@@ -1,0 +1,145 @@
+// Which operator, name or ring a call comes to by which it is refused.
+use crate::named::by_call;
+use crate::named::name_of;
+use crate::ring::ring;
+use descent::Breach;
+use fault::ending;
+use fault::of_job;
+use text::say;
+
+// Lines of cures for an operator of a motif that is called.
+const SAVES: usize = 72;
+
+const LACKS_CURSOR: usize = 73;
+
+const LACKS_COLOUR: usize = 74;
+
+// The line of the cure for an operator of a motif that is called.
+fn cure_in(code: u32) -> usize {
+    match code {
+        23 => SAVES,
+        24 => LACKS_CURSOR,
+        25 => LACKS_COLOUR,
+        _ => code as usize,
+    }
+}
+
+// The motif with the operator at a place, and the one that the job calls if it is another.
+fn inner_names(motifs: &[usize; 640], motif: usize, called: usize, at: u32) {
+    say(b", in the motif ");
+    name_of(motifs, motif);
+    say(b" at its byte ");
+    text::plain(at);
+    by_call(motifs, motif, called);
+}
+
+// Says what is wrong at the operator of a motif that a walk has found, of which these are the bytes, and the cure.
+fn of_breach(
+    motifs: &[usize; 640],
+    motif: &[u8],
+    b: Breach,
+    code: u32,
+    attrs: &[usize; 80],
+    st: &[usize; 16],
+) {
+    let f = tell::facts_in(motif, st[trail::PLACE], attrs, st);
+    tell::cause(code as usize, motif, f);
+    inner_names(motifs, b.motif, b.called, f.at);
+    ending(motif, cure_in(code), code, f);
+}
+
+// Of 21: says which name is not held, the motif that calls it, and the cure.
+fn of_lacking(
+    job: &[u8],
+    list: &[u8],
+    records: usize,
+    motifs: &[usize; 640],
+    motif: &[u8],
+    b: Breach,
+    attrs: &[usize; 80],
+    st: &[usize; 16],
+) {
+    let f = tell::facts_in(motif, st[trail::PLACE], attrs, st);
+    let k = unheld::cause(job, list, records, motif, f);
+    say(b"; the motif ");
+    name_of(motifs, b.motif);
+    say(b" calls ");
+    text::part(motif, f.letters, f.name);
+    say(b" at its byte ");
+    text::plain(f.at);
+    by_call(motifs, b.motif, b.called);
+    ending(motif, k, 21, f);
+}
+
+// Of 32: says the ring that a call comes to, and the cure.
+fn of_ring(job: &[u8], motifs: &[usize; 640], b: Breach, attrs: &[usize; 80], st: &[usize; 16]) {
+    let mut next = [0usize; 64];
+    let first = rings::ring(motifs, b.held, b.called, &mut next);
+    let f = tell::facts_in(job, st[trail::PLACE], attrs, st);
+    let k = ring(motifs, &next, first);
+    by_call(motifs, first, b.called);
+    ending(job, k, 32, f);
+}
+
+// Of a call that comes to an operator of a motif, of which these are the bytes.
+fn of_inner(
+    job: &[u8],
+    list: &[u8],
+    records: usize,
+    code: u32,
+    motifs: &[usize; 640],
+    motif: &[u8],
+    b: Breach,
+    attrs: &[usize; 80],
+    st: &[usize; 16],
+) {
+    if code == 21 {
+        of_lacking(job, list, records, motifs, motif, b, attrs, st);
+    } else {
+        of_breach(motifs, motif, b, code, attrs, st);
+    }
+}
+
+// Says what is wrong in the call at a place of the job, where pages start in gray or else in RGB, and the cure; the store is room for the motifs.
+pub fn of_call(
+    job: &[u8],
+    list: &[u8],
+    records: usize,
+    code: u32,
+    at: usize,
+    gray: bool,
+    store: &mut [u8],
+) {
+    let mut motifs = [0usize; 640];
+    let mut attrs = [0usize; 80];
+    let mut st = [0usize; 16];
+    let b = descent::breach_in(job, code, at, gray, store, &mut motifs, &mut attrs, &mut st);
+    if 63 < b.motif {
+        of_job(job, list, records, code, at);
+        return;
+    }
+    if code == 32 {
+        of_ring(job, &motifs, b, &attrs, &st);
+        return;
+    }
+    let part = b.bytes;
+    let first = part.first;
+    let count = part.count;
+    if store.len() < first {
+        return;
+    }
+    if store.len() - first < count {
+        return;
+    }
+    of_inner(
+        job,
+        list,
+        records,
+        code,
+        &motifs,
+        &store[first..first + count],
+        b,
+        &attrs,
+        &st,
+    );
+}
