@@ -3,18 +3,20 @@
 use crate::generate::{all_rules, class_of, shapes_of, Broken, Class, Need, Size, CLASSES};
 use crate::plain::{Profile, Verdict, NO_INNER};
 use crate::text::{attribute_name, operator_name, read_header, read_statement, Piece, Statement};
-use std::collections::BTreeMap;
+use std::collections::{BTreeMap, BTreeSet};
 use std::fmt::Write;
 
-/// Codes no job can give at top level: nesting is judged in motifs only.
-pub const NEVER_OUTSIDE: [u32; 1] = [22];
+/// One more than the highest code.
+const CODES: usize = 33;
+/// Codes no job gives: 20 is retired, 30 and 31 are not a checker's.
+pub const NEVER: [u32; 3] = [20, 30, 31];
 /// Codes a motif can have at its EndStream.
-pub const INSIDE: [u32; 19] = [2, 3, 4, 5, 6, 7, 8, 9, 10, 11, 12, 13, 14, 15, 16, 18, 21, 22, 27];
+pub const INSIDE: [u32; 17] = [2, 3, 4, 5, 6, 7, 8, 9, 10, 11, 12, 13, 14, 15, 16, 18, 27];
 
-#[derive(Debug, Default, Clone)]
+#[derive(Debug, Clone)]
 pub struct Coverage {
-    pub outside: [u64; 30],
-    pub inside: [u64; 30],
+    pub outside: [u64; CODES],
+    pub inside: [u64; CODES],
     pub kinds: BTreeMap<&'static str, u64>,
     pub rules: BTreeMap<Broken, [u64; 2]>,
     /// What passed jobs have, outside and in motifs.
@@ -41,7 +43,7 @@ fn takes_real(number: u16, class: Class) -> bool {
 }
 
 /// What some passed job must have, and whether some motif of one too.
-pub const SHOWN: [(&str, bool); 7] = [
+pub const SHOWN: [(&str, bool); 9] = [
     ("zero bytes between items", true),
     ("class 2.1", true),
     ("SetDefaultGS", true),
@@ -49,6 +51,8 @@ pub const SHOWN: [(&str, bool); 7] = [
     ("BlockByteLength", true),
     ("MediaType", false),
     ("MediaSize as a name", false),
+    ("a replaced motif", false),
+    ("a motif that names one not yet held", false),
 ];
 
 /// The operators of a string of items, as far as they can be told.
@@ -87,6 +91,38 @@ fn motifs(all: &[Statement]) -> Vec<Vec<u8>> {
     found
 }
 
+/// The StreamName of an operator.
+fn name_of(s: &Statement) -> Vec<u8> {
+    let pairs = s.pieces.windows(2).find_map(|pair| match pair {
+        [(_, Piece::Value(v)), (_, Piece::Number { number: 139, .. })] => Some(v),
+        _ => None,
+    });
+    pairs.map_or_else(Vec::new, |v| v.numbers.iter().map(|&n| n as u8).collect())
+}
+
+/// What of SHOWN the motifs of a job have to do with each other.
+fn shown_by_motifs(all: &[Statement]) -> Vec<&'static str> {
+    let (mut shown, mut held) = (Vec::new(), BTreeSet::new());
+    let mut bodies = motifs(all).into_iter();
+    for s in all {
+        match s.tag {
+            0x42 => held.clear(),
+            0x5b => {
+                let body = bodies.next().unwrap_or_default();
+                let calls = |s: &Statement| s.tag == 0x5e && !held.contains(&name_of(s));
+                if statements(&body).iter().any(calls) {
+                    shown.push("a motif that names one not yet held");
+                }
+                if !held.insert(name_of(s)) {
+                    shown.push("a replaced motif");
+                }
+            }
+            _ => {}
+        }
+    }
+    shown
+}
+
 /// What of SHOWN a job or motif has.
 fn shown_by(bytes: &[u8], all: &[Statement]) -> Vec<&'static str> {
     let mut shown = Vec::new();
@@ -110,6 +146,7 @@ fn shown_by(bytes: &[u8], all: &[Statement]) -> Vec<&'static str> {
     if all.iter().flat_map(|s| &s.pieces).any(|(_, p)| matches!(p, Piece::Space(bytes) if bytes.contains(&0))) {
         shown.push("zero bytes between items");
     }
+    shown.extend(shown_by_motifs(all));
     shown.sort();
     shown.dedup();
     shown
@@ -172,6 +209,20 @@ fn rules_of(bytes: &[u8], code: u32, position: usize) -> Vec<Broken> {
     }
 }
 
+impl Default for Coverage {
+    fn default() -> Coverage {
+        Coverage {
+            outside: [0; CODES],
+            inside: [0; CODES],
+            kinds: BTreeMap::new(),
+            rules: BTreeMap::new(),
+            shown: BTreeMap::new(),
+            reals: BTreeMap::new(),
+            starts: BTreeMap::new(),
+        }
+    }
+}
+
 impl Coverage {
     /// Counts a case, asked with this start, and its verdict.
     pub fn add(&mut self, kind: &'static str, job: &[u8], rgb: u32, v: &Verdict) {
@@ -181,7 +232,7 @@ impl Coverage {
         *self.kinds.entry(kind).or_default() += 1;
         let inside = v.inner != NO_INNER;
         let code = v.code as usize;
-        if code < 30 {
+        if code < CODES {
             if inside {
                 self.inside[code] += 1;
             } else {
@@ -236,8 +287,8 @@ impl Coverage {
     /// What was never reached though it can be.
     pub fn gaps(&self) -> Vec<String> {
         let mut gaps = Vec::new();
-        for code in 0..30u32 {
-            if self.outside[code as usize] == 0 && !NEVER_OUTSIDE.contains(&code) {
+        for code in 0..CODES as u32 {
+            if self.outside[code as usize] == 0 && !NEVER.contains(&code) {
                 gaps.push(format!("code {code}"));
             }
             if self.inside[code as usize] == 0 && INSIDE.contains(&code) {
@@ -275,7 +326,7 @@ impl Coverage {
             let _ = writeln!(out, "{kind:<12} {n:>8}");
         }
         out.push_str("code  outside   in a motif\n");
-        for code in 0..30 {
+        for code in 0..CODES {
             let _ = writeln!(out, "{code:>4} {:>8} {:>12}", self.outside[code], self.inside[code]);
         }
         let _ = writeln!(

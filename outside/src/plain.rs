@@ -1,5 +1,7 @@
 //! The independent checker: written from the rules alone, plain and safe, judging calls by walking them.
 
+use std::collections::{HashMap, VecDeque};
+
 /// Longest job that is judged.
 pub const JOB_MAX: usize = 61_440;
 /// Bytes of motifs a session holds, and least length of the work buffer.
@@ -13,15 +15,15 @@ pub const SAVED_MAX: usize = 24;
 /// Most motifs a session holds.
 pub const MOTIFS_MAX: usize = 64;
 /// Most calls nested.
-pub const NESTING_MAX: u32 = 32;
+pub const NESTING_MAX: usize = 32;
 /// Most attributes of one operator.
 pub const ATTRIBUTES_MAX: usize = 16;
 /// Most elements of an array.
 pub const ARRAY_MAX: u32 = 1_024;
 /// Longest header with its LF.
 pub const HEADER_MAX: usize = 256;
-/// Calls that unfold to more operators than this are judged by remembered facts, shorter ones by walking.
-const WALK_MAX: u64 = 2_000_000;
+/// Calls that unfold to more operators than this are judged by their shape and remembered facts, shorter ones by walking.
+const WALK_MAX: u64 = 100_000;
 
 /// The answer to one job.
 #[repr(C)]
@@ -46,7 +48,7 @@ fn fault<T>(code: u32, at: usize) -> Result<T, Fault> {
     Err(Fault { code, at: at as u32, inner: NO_INNER })
 }
 
-/// Judges one job; `work` holds motifs meanwhile and is left zero, `list` gets the records.
+/// Judges one job; of `work` only the length matters, and it is left zero, `list` gets the records.
 /// A page starts in gray if `rgb` is 0, else in RGB.
 pub fn check(job: &[u8], work: &mut [u8], list: &mut [u8], rgb: u32) -> Verdict {
     let early = |code, position| Verdict { code, position, inner: NO_INNER, records: 0, performed: 0 };
@@ -56,8 +58,7 @@ pub fn check(job: &[u8], work: &mut [u8], list: &mut [u8], rgb: u32) -> Verdict 
     if job.len() > JOB_MAX {
         return early(1, JOB_MAX as u32);
     }
-    let store = &mut work[..STORE];
-    let mut arm = Arm::new(store, list, rgb == 0);
+    let mut arm = Arm::new(list, rgb == 0);
     let end = match arm.job(job) {
         Ok(()) => Fault { code: 0, at: job.len() as u32, inner: NO_INNER },
         Err(fault) => fault,
@@ -69,7 +70,7 @@ pub fn check(job: &[u8], work: &mut [u8], list: &mut [u8], rgb: u32) -> Verdict 
         records: arm.records as u32,
         performed: arm.performed as u32,
     };
-    store.fill(0);
+    work[..STORE].fill(0);
     verdict
 }
 
@@ -643,43 +644,59 @@ fn page_operator(tag: u8) -> bool {
 /// A motif held by the session.
 #[derive(Debug)]
 struct Motif {
-    name: Vec<u8>,
     steps: Vec<Step>,
-    /// 1 without calls, else one more than the deepest called.
-    deep: u32,
-    /// Operators performed by one walk of it, calls unfolded; stops at the largest u64.
-    count: u64,
-    /// Whether anything in the unfolded motif reads data.
+    length: usize,
+    /// Whether an operator of its own reads data.
     reads: bool,
 }
 
-/// What a walk of an unfolded motif finds.
-#[derive(Debug, Clone, Copy)]
-struct Walk {
-    look: Look,
-    /// Most states saved at a time.
-    saved: usize,
-    cursor_broken: bool,
-    gray_broken: bool,
+/// The names that a session has met, each with its motif if it holds one; a call means the name.
+#[derive(Debug, Default)]
+struct Motifs {
+    ids: HashMap<Vec<u8>, usize>,
+    held: Vec<Option<Motif>>,
+}
+
+impl Motifs {
+    /// The number that stands for a name here.
+    fn id(&mut self, name: &[u8]) -> usize {
+        if let Some(&id) = self.ids.get(name) {
+            return id;
+        }
+        let id = self.held.len();
+        self.ids.insert(name.to_vec(), id);
+        self.held.push(None);
+        id
+    }
+
+    fn how_many(&self) -> usize {
+        self.held.iter().flatten().count()
+    }
+
+    fn bytes(&self) -> usize {
+        self.held.iter().flatten().map(|m| m.length).sum()
+    }
+
+    /// The names that a motif calls.
+    fn calls(&self, id: usize) -> impl Iterator<Item = usize> + '_ {
+        let steps = self.held[id].iter().flat_map(|m| &m.steps);
+        steps.filter_map(|step| if let Step::Call(called) = step { Some(*called) } else { None })
+    }
 }
 
 fn name_of<'a>(reader: &Reader<'a>, op: &Operator) -> &'a [u8] {
     op.find(139).map_or(&[], |a| &reader.bytes[a.body..a.body + a.count as usize])
 }
 
-fn find_motif(held: &[Motif], name: &[u8]) -> Option<usize> {
-    held.iter().position(|m| m.name == name)
-}
-
-/// Judges the bytes of a motif of a job at its EndStream, all but 17 and 23 to 26.
-fn judge_motif(name: Vec<u8>, bytes: &[u8], held: &[Motif], job: &Reader) -> Result<Motif, Fault> {
+/// Judges the bytes of a motif of a job at its EndStream, all but names, nesting, 17 and 23 to 26.
+fn judge_motif(bytes: &[u8], motifs: &mut Motifs, job: &Reader) -> Result<Motif, Fault> {
     let (high_first, profile, at) = header(bytes)?;
     if profile != job.profile {
         return fault(4, 12);
     }
     let mut reader = Reader { bytes, at, high_first, ..*job };
     let mut op = Operator::default();
-    let mut motif = Motif { name, steps: Vec::new(), deep: 1, count: 0, reads: false };
+    let mut motif = Motif { steps: Vec::new(), length: bytes.len(), reads: false };
     let mut image: Option<Image> = None;
     let mut saved = 0usize;
     while reader.operator(&mut op)? {
@@ -707,21 +724,8 @@ fn judge_motif(name: Vec<u8>, bytes: &[u8], held: &[Motif], job: &Reader) -> Res
             motif.reads = true;
         }
         let mut now = step(&reader, &op);
-        motif.count = motif.count.saturating_add(1);
         match op.tag {
-            0x5e => {
-                let Some(index) = find_motif(held, name_of(&reader, &op)) else {
-                    return fault(21, op.at);
-                };
-                let called = &held[index];
-                if called.deep >= NESTING_MAX {
-                    return fault(22, op.at);
-                }
-                now = Step::Call(index);
-                motif.deep = motif.deep.max(called.deep + 1);
-                motif.count = motif.count.saturating_add(called.count);
-                motif.reads |= called.reads;
-            }
+            0x5e => now = Step::Call(motifs.id(name_of(&reader, &op))),
             0x61 => saved += 1,
             0x60 => saved -= 1,
             _ => image_after(&mut image, &reader, &op),
@@ -734,14 +738,43 @@ fn judge_motif(name: Vec<u8>, bytes: &[u8], held: &[Motif], job: &Reader) -> Res
     Ok(motif)
 }
 
+/// What the unfolding of a call meets.
+#[derive(Debug, Clone, Copy, PartialEq, Eq)]
+struct Walk {
+    look: Look,
+    /// Most states saved at a time.
+    saved: usize,
+    cursor_broken: bool,
+    gray_broken: bool,
+    reads: bool,
+    /// Operators performed, the call that is judged not among them; stops at the largest u64.
+    count: u64,
+    /// A call of a name not held, of a motif already running, and one that would go below 32.
+    not_held: bool,
+    ring: bool,
+    too_deep: bool,
+}
+
 impl Walk {
     fn from(look: Look) -> Walk {
-        Walk { look, saved: 0, cursor_broken: false, gray_broken: false }
+        Walk {
+            look,
+            saved: 0,
+            cursor_broken: false,
+            gray_broken: false,
+            reads: false,
+            count: 0,
+            not_held: false,
+            ring: false,
+            too_deep: false,
+        }
     }
 
-    /// Performs operators one after the other; what a call comes to is left to `call`.
-    fn pass(&mut self, steps: &[Step], stack: &mut Vec<Look>, mut call: impl FnMut(&mut Walk, &mut Vec<Look>, usize)) {
-        for &step in steps {
+    /// Performs the operators of a motif one after the other; what a call comes to is left to `call`.
+    fn pass(&mut self, motif: &Motif, stack: &mut Vec<Look>, mut call: impl FnMut(&mut Walk, &mut Vec<Look>, usize)) {
+        self.reads |= motif.reads;
+        for &step in &motif.steps {
+            self.count = self.count.saturating_add(1);
             self.cursor_broken |= step.breaks_cursor(self.look);
             self.gray_broken |= step.breaks_gray(self.look);
             match step {
@@ -755,39 +788,116 @@ impl Walk {
             }
         }
     }
+
+    /// The code of a call that is never unfolded to its end.
+    fn cut(&self) -> Option<u32> {
+        let cuts = [(self.not_held, 21), (self.ring, 32), (self.too_deep, 22)];
+        cuts.iter().find(|cut| cut.0).map(|cut| cut.1)
+    }
 }
 
-/// Performs a motif and the calls in it, on an unlimited stack of saved states.
-fn walk(held: &[Motif], index: usize, stack: &mut Vec<Look>, found: &mut Walk) {
-    found.pass(&held[index].steps, stack, |found, stack, called| walk(held, called, stack, found));
+/// Performs what a name holds and the calls in it, on an unlimited stack of saved states, as long as that is not too long.
+/// A name not held, a motif already running and a call that would go below 32 come to nothing.
+fn walk(motifs: &Motifs, id: usize, running: &mut Vec<usize>, stack: &mut Vec<Look>, found: &mut Walk) {
+    let Some(motif) = &motifs.held[id] else {
+        found.not_held = true;
+        return;
+    };
+    if running.contains(&id) {
+        found.ring = true;
+    } else if running.len() == NESTING_MAX {
+        found.too_deep = true;
+    } else if found.count <= WALK_MAX {
+        running.push(id);
+        found.pass(motif, stack, |found, stack, called| walk(motifs, called, running, stack, found));
+        running.pop();
+    }
 }
 
-/// What a walk of each motif finds from each of the four looks, each made once; saved is counted from 0.
+/// How deep each name is first met in a call of `first`, which is 1 deep itself.
+fn depths(motifs: &Motifs, first: usize) -> Vec<Option<usize>> {
+    let mut depths = vec![None; motifs.held.len()];
+    depths[first] = Some(1);
+    let mut next = VecDeque::from([(first, 1)]);
+    while let Some((id, depth)) = next.pop_front() {
+        for called in motifs.calls(id) {
+            if depths[called].is_none() {
+                depths[called] = Some(depth + 1);
+                next.push_back((called, depth + 1));
+            }
+        }
+    }
+    depths
+}
+
+/// How many motifs the shortest ring of calls through a motif has.
+fn shortest_ring(motifs: &Motifs, id: usize) -> Option<usize> {
+    let depths = depths(motifs, id);
+    let back = |other: &usize| motifs.calls(*other).any(|called| called == id);
+    (0..depths.len()).filter(back).filter_map(|other| depths[other]).min()
+}
+
+/// How many motifs the longest chain of calls from a motif has; none if it never ends.
+fn longest_chain(motifs: &Motifs, id: usize, known: &mut Vec<Option<Option<usize>>>) -> Option<usize> {
+    if let Some(known) = known[id] {
+        return known;
+    }
+    // A chain that comes back here before this is answered never ends.
+    known[id] = Some(None);
+    let chain = motifs.calls(id).try_fold(0, |most, called| Some(most.max(longest_chain(motifs, called, known)?)))?;
+    known[id] = Some(Some(chain + 1));
+    Some(chain + 1)
+}
+
+/// The code of a call that is cut somewhere, told by the shape of the calls alone: a name not held in a motif that is met, a
+/// ring that closes within 32 motifs, or a chain of more than 32.
+fn cut_by_shape(motifs: &Motifs, first: usize) -> Option<u32> {
+    let depths = depths(motifs, first);
+    let met: Vec<(usize, usize)> = (0..depths.len()).filter_map(|id| Some((id, depths[id]?))).collect();
+    let not_held = |id: usize| motifs.held[id].is_none();
+    let lost = |&(id, depth): &(usize, usize)| depth <= NESTING_MAX && motifs.calls(id).any(not_held);
+    let turns =
+        |&(id, depth): &(usize, usize)| shortest_ring(motifs, id).is_some_and(|ring| depth + ring - 1 <= NESTING_MAX);
+    if not_held(first) || met.iter().any(lost) {
+        Some(21)
+    } else if met.iter().any(turns) {
+        Some(32)
+    } else {
+        let chain = longest_chain(motifs, first, &mut vec![None; depths.len()]);
+        chain.is_none_or(|chain| chain > NESTING_MAX).then_some(22)
+    }
+}
+
+/// What a walk of each motif finds from each of the four looks, each made once, where nothing is cut; saved is counted from 0.
 struct Facts<'a> {
-    held: &'a [Motif],
+    motifs: &'a Motifs,
     known: Vec<[Option<Walk>; 4]>,
 }
 
 impl<'a> Facts<'a> {
-    fn new(held: &'a [Motif]) -> Self {
-        Facts { held, known: vec![[None; 4]; held.len()] }
+    fn new(motifs: &'a Motifs) -> Self {
+        Facts { motifs, known: vec![[None; 4]; motifs.held.len()] }
     }
 
-    fn of(&mut self, index: usize, look: Look) -> Walk {
+    fn of(&mut self, id: usize, look: Look) -> Walk {
         let slot = usize::from(look.cursor) * 2 + usize::from(look.gray);
-        if let Some(walk) = self.known[index][slot] {
+        if let Some(walk) = self.known[id][slot] {
             return walk;
         }
-        let held = self.held;
         let mut found = Walk::from(look);
-        found.pass(&held[index].steps, &mut Vec::new(), |found, stack, called| {
-            let inside = self.of(called, found.look);
-            found.look = inside.look;
-            found.saved = found.saved.max(stack.len() + inside.saved);
-            found.cursor_broken |= inside.cursor_broken;
-            found.gray_broken |= inside.gray_broken;
-        });
-        self.known[index][slot] = Some(found);
+        let motifs = self.motifs;
+        if let Some(motif) = &motifs.held[id] {
+            found.pass(motif, &mut Vec::new(), |found, stack, called| {
+                let inside = self.of(called, found.look);
+                found.look = inside.look;
+                found.saved = found.saved.max(stack.len() + inside.saved);
+                found.cursor_broken |= inside.cursor_broken;
+                found.gray_broken |= inside.gray_broken;
+                found.reads |= inside.reads;
+                found.count = found.count.saturating_add(inside.count);
+            });
+        }
+        self.known[id][slot] = Some(found);
         found
     }
 }
@@ -806,7 +916,6 @@ enum Place {
 
 /// The arm while it reads a job.
 struct Arm<'b> {
-    store: &'b mut [u8],
     list: &'b mut [u8],
     /// Whether a page starts in gray.
     starts_gray: bool,
@@ -814,30 +923,25 @@ struct Arm<'b> {
     performed: u64,
     place: Place,
     source_open: bool,
-    held: Vec<Motif>,
-    /// Bytes of held motifs, and with those of the stream being read.
-    held_bytes: usize,
-    read_bytes: usize,
-    stream_name: Vec<u8>,
+    motifs: Motifs,
+    /// The stream being read: the number of its name, and its bytes so far.
+    stream: (usize, Vec<u8>),
     look: Look,
     saved: Vec<Look>,
     image: Option<Image>,
 }
 
 impl<'b> Arm<'b> {
-    fn new(store: &'b mut [u8], list: &'b mut [u8], starts_gray: bool) -> Self {
+    fn new(list: &'b mut [u8], starts_gray: bool) -> Self {
         Arm {
-            store,
             list,
             starts_gray,
             records: 0,
             performed: 0,
             place: Place::Outside,
             source_open: false,
-            held: Vec::new(),
-            held_bytes: 0,
-            read_bytes: 0,
-            stream_name: Vec::new(),
+            motifs: Motifs::default(),
+            stream: (0, Vec::new()),
             look: Look { cursor: false, gray: false },
             saved: Vec::new(),
             image: None,
@@ -908,30 +1012,26 @@ impl<'b> Arm<'b> {
         let mut count = 1;
         match op.tag {
             0x5b => {
-                if self.held.len() == MOTIFS_MAX {
+                let id = self.motifs.id(name_of(reader, op));
+                if self.motifs.held[id].is_none() && self.motifs.how_many() == MOTIFS_MAX {
                     return fault(19, op.at);
                 }
-                if find_motif(&self.held, name_of(reader, op)).is_some() {
-                    return fault(20, op.at);
-                }
             }
-            0x5c if self.read_bytes + data.0 > STORE => return fault(19, op.at),
-            0x5d => {
-                let bytes = &self.store[self.held_bytes..self.read_bytes];
-                match judge_motif(self.stream_name.clone(), bytes, &self.held, reader) {
-                    Ok(judged) => motif = Some(Box::new(judged)),
-                    Err(f) => return Err(Fault { code: f.code, at: op.at as u32, inner: f.at }),
-                }
-            }
+            // The motif that is to be replaced counts too.
+            0x5c if self.motifs.bytes() + self.stream.1.len() + data.0 > STORE => return fault(19, op.at),
+            0x5d => match judge_motif(&self.stream.1, &mut self.motifs, reader) {
+                Ok(judged) => motif = Some(judged),
+                Err(f) => return Err(Fault { code: f.code, at: op.at as u32, inner: f.at }),
+            },
             0x5e => {
-                let Some(index) = find_motif(&self.held, name_of(reader, op)) else {
-                    return fault(21, op.at);
+                let found = match self.call(name_of(reader, op)) {
+                    Ok(found) => found,
+                    Err(code) => return fault(code, op.at),
                 };
-                let found = self.call(index);
-                if self.held[index].reads && !self.source_open {
+                if found.reads && !self.source_open {
                     return fault(17, op.at);
                 }
-                if found.saved > SAVED_MAX {
+                if self.saved.len() + found.saved > SAVED_MAX {
                     return fault(23, op.at);
                 }
                 if found.cursor_broken {
@@ -941,7 +1041,7 @@ impl<'b> Arm<'b> {
                     return fault(25, op.at);
                 }
                 look = found.look;
-                count = self.held[index].count.saturating_add(1);
+                count = found.count.saturating_add(1);
             }
             0x61 if self.saved.len() == SAVED_MAX => return fault(23, op.at),
             _ => {
@@ -965,16 +1065,19 @@ impl<'b> Arm<'b> {
         Ok(())
     }
 
-    /// Walks a call from the state of the page; a motif never pops below its start, so its own stack starts empty.
-    fn call(&self, index: usize) -> Walk {
+    /// Walks a call from the state of the page, or refuses it by 21, 32 or 22. A motif never pops below its start, so its own
+    /// stack starts empty.
+    fn call(&mut self, name: &[u8]) -> Result<Walk, u32> {
+        let id = self.motifs.id(name);
         let mut found = Walk::from(self.look);
-        if self.held[index].count <= WALK_MAX {
-            walk(&self.held, index, &mut Vec::new(), &mut found);
-        } else {
-            found = Facts::new(&self.held).of(index, self.look);
+        walk(&self.motifs, id, &mut Vec::new(), &mut Vec::new(), &mut found);
+        if found.count <= WALK_MAX {
+            return found.cut().map_or(Ok(found), Err);
         }
-        found.saved += self.saved.len();
-        found
+        match cut_by_shape(&self.motifs, id) {
+            Some(code) => Err(code),
+            None => Ok(Facts::new(&self.motifs).of(id, self.look)),
+        }
     }
 
     /// Puts down the records of an operator, or nothing if they do not fit.
@@ -999,14 +1102,12 @@ impl<'b> Arm<'b> {
     }
 
     /// The effect of an accepted operator on order, source, motifs, saves and images.
-    fn effect(&mut self, reader: &Reader, op: &Operator, data: (usize, usize), motif: Option<Box<Motif>>) {
+    fn effect(&mut self, reader: &Reader, op: &Operator, data: (usize, usize), motif: Option<Motif>) {
         match op.tag {
             0x41 => self.place = Place::Session,
             0x42 => {
                 self.place = Place::Outside;
-                self.held.clear();
-                self.held_bytes = 0;
-                self.read_bytes = 0;
+                self.motifs = Motifs::default();
             }
             0x43 => {
                 self.place = Place::Page;
@@ -1017,18 +1118,12 @@ impl<'b> Arm<'b> {
             0x49 => self.source_open = false,
             0x5b => {
                 self.place = Place::Stream;
-                self.stream_name = name_of(reader, op).to_vec();
+                self.stream = (self.motifs.id(name_of(reader, op)), Vec::new());
             }
-            0x5c => {
-                let (length, offset) = data;
-                self.store[self.read_bytes..self.read_bytes + length]
-                    .copy_from_slice(&reader.bytes[offset..offset + length]);
-                self.read_bytes += length;
-            }
+            0x5c => self.stream.1.extend(&reader.bytes[data.1..data.1 + data.0]),
             0x5d => {
                 self.place = Place::Session;
-                self.held.extend(motif.map(|m| *m));
-                self.held_bytes = self.read_bytes;
+                self.motifs.held[self.stream.0] = motif;
             }
             0x60 => {
                 if let Some(look) = self.saved.pop() {
@@ -1119,25 +1214,76 @@ mod tests {
         steps
     }
 
+    /// Motifs of random steps, some names not held.
+    fn random_motifs(rng: &mut Rng, n: usize) -> Motifs {
+        let mut motifs = Motifs::default();
+        let (tame, lost) = (rng.one_in(2), rng.one_in(3));
+        for i in 0..n {
+            let id = motifs.id(&[i as u8]);
+            // Calls of earlier ones only make no ring.
+            let steps = random_steps(rng, if tame { i } else { n });
+            motifs.held[id] = Some(Motif { steps, length: 0, reads: rng.one_in(4) });
+        }
+        if lost {
+            motifs.held[0] = None;
+        }
+        motifs
+    }
+
     #[test]
-    fn remembered_facts_are_those_of_the_walk() {
-        for seed in 0..400 {
+    fn shape_and_facts_are_those_of_the_walk() {
+        let mut seen = std::collections::BTreeMap::new();
+        for seed in 0..1200 {
             let mut rng = Rng::new(seed, 4);
-            let mut held: Vec<Motif> = Vec::new();
-            for i in 0..10 {
-                let steps = random_steps(&mut rng, i);
-                held.push(Motif { name: vec![i as u8], steps, deep: 1, count: 0, reads: false });
-            }
-            for (index, n) in (0..held.len()).flat_map(|i| (0..4).map(move |n| (i, n))) {
+            let motifs = random_motifs(&mut rng, 10);
+            for (id, n) in (0..10).flat_map(|i| (0..4).map(move |n| (i, n))) {
                 let look = Look { cursor: n & 1 == 1, gray: n & 2 == 2 };
                 let mut found = Walk::from(look);
-                walk(&held, index, &mut Vec::new(), &mut found);
-                let known = Facts::new(&held).of(index, look);
-                assert_eq!(
-                    (known.look, known.saved, known.cursor_broken, known.gray_broken),
-                    (found.look, found.saved, found.cursor_broken, found.gray_broken)
-                );
+                walk(&motifs, id, &mut Vec::new(), &mut Vec::new(), &mut found);
+                if found.count > WALK_MAX {
+                    continue;
+                }
+                assert_eq!(cut_by_shape(&motifs, id), found.cut());
+                *seen.entry(found.cut()).or_insert(0) += 1;
+                if found.cut().is_none() {
+                    assert_eq!(Facts::new(&motifs).of(id, look), found);
+                }
             }
+        }
+        assert!([None, Some(21), Some(32)].iter().all(|c| seen.contains_key(c)), "{seen:?}");
+    }
+
+    /// A row of motifs, each calling the next; the last calls nothing or the one at `back`.
+    fn row_of_motifs(n: usize, back: Option<usize>) -> Motifs {
+        let mut motifs = Motifs::default();
+        for i in 0..n {
+            let id = motifs.id(&[i as u8]);
+            let next = if i + 1 < n { Some(i + 1) } else { back };
+            let steps = next.map(Step::Call).into_iter().collect();
+            motifs.held[id] = Some(Motif { steps, length: 0, reads: false });
+        }
+        motifs
+    }
+
+    #[test]
+    fn rings_and_chains_at_the_edge() {
+        let code = |motifs: &Motifs| {
+            let mut found = Walk::from(Look { cursor: true, gray: true });
+            walk(motifs, 0, &mut Vec::new(), &mut Vec::new(), &mut found);
+            assert_eq!(cut_by_shape(motifs, 0), found.cut());
+            found.cut()
+        };
+        assert_eq!([31, 32, 33, 40].map(|n| code(&row_of_motifs(n, None))), [None, None, Some(22), Some(22)]);
+        for back in [0, 1, 20] {
+            let codes = [31, 32, 33, 34].map(|n| code(&row_of_motifs(n, Some(back))));
+            assert_eq!(codes, [Some(32), Some(32), Some(22), Some(22)], "back to {back}");
+        }
+        // A name not held in the 32nd of a chain is met, in the 33rd it is not.
+        for (n, want) in [(31, 21), (32, 21), (33, 22)] {
+            let mut motifs = row_of_motifs(n, None);
+            let lost = motifs.id(b"lost");
+            motifs.held[n - 1] = Some(Motif { steps: vec![Step::Call(lost)], length: 0, reads: false });
+            assert_eq!(code(&motifs), Some(want), "{n}");
         }
     }
 
@@ -1197,6 +1343,7 @@ mod tests {
                         self.open
                     }
                     0x5d => {
+                        self.held.retain(|h| h.0 != stream.0);
                         self.held.push(std::mem::take(&mut stream));
                         true
                     }
@@ -1238,13 +1385,15 @@ mod tests {
 
     #[test]
     fn passes_exactly_if_the_slow_arm_comes_to_the_end() {
-        let mut seen = [0; 30];
+        let mut seen = [0; 40];
         let setting =
             |i: u64| Setting { gray: i.is_multiple_of(2), profile: [Profile::One, Profile::Two][i as usize / 2 % 2] };
         let rich = |i| generate::write(&generate::rich(&mut Rng::new(i, 5), setting(i)));
         let jobs = (0..1500u64).map(|i| (i, rich(i)));
         let limits = (0..160u64).map(|i| (i / 3, generate::limit(&mut Rng::new(i, 6), setting(i / 3), i as usize)));
-        for (i, job) in jobs.chain(limits) {
+        // A ring never ends for the slow arm, so what is refused by 21, 32 or 22 is not performed.
+        let motifs = (0..1500u64).map(|i| (i, generate::motifs(&mut Rng::new(i, 7), setting(i))));
+        for (i, job) in jobs.chain(limits).chain(motifs) {
             let starts_gray = setting(i).gray;
             let v = judge(&job, u32::from(!starts_gray));
             seen[v.code as usize] += 1;

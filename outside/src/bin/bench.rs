@@ -26,6 +26,21 @@ fn kinds(length: usize) -> Vec<(&'static str, Vec<Vec<u8>>)> {
     let attributes = "EndPage PageCopies=1; BeginPage Orientation=0 MediaSize=0 MediaSource=0";
     let saves = "repeat 24 { PushGS }; repeat 24 { PopGS }";
     let both = format!("{session}; EndSession");
+    let open = format!("{session}; OpenDataSource SourceType=0 DataOrg=1");
+    let new_page = "BeginPage Orientation=0 MediaSize=0";
+    let drawn = "SetCursor Point=(1,1); repeat 10 { LinePath EndPoint=(-1,300) }";
+    // 30 motifs in each session of a long job, 3 in those of a short one.
+    let (defined, called_once) =
+        each(1..=length / 2048, |k| (format!("motif [{k}] {{ header low; {drawn} }}"), exec(k)));
+    let sheet = format!("{open}; {defined} {new_page}; {called_once} {ended}");
+    // In rows of eight each motif calls the one before.
+    let (among, all_called) = each(1..=64, |k| {
+        let calls = if k % 8 == 1 { String::new() } else { exec(k - 1) };
+        (format!("motif [{k}] {{ header low; PaintPath; {calls}; PaintPath }}"), exec(k))
+    });
+    let wing = format!("motif [1] {{ header low; {drawn} }}");
+    let (bird, _) = each(2..=8, |k| (format!("motif [{k}] {{ header low; {} {} }}", exec(1), exec(k - 1)), exec(k)));
+    let corrected = format!("{wing}; {new_page}; {}; EndPage", exec(8));
     let small = assemble(&format!("header low; {session}; EndSession")).expect("a job");
     vec![
         ("one-byte operators", vec![filled(length, &page, "PaintPath", ended)]),
@@ -39,9 +54,30 @@ fn kinds(length: usize) -> Vec<(&'static str, Vec<Vec<u8>>)> {
         ("attributes", vec![filled(length, &page, attributes, ended)]),
         ("saves", vec![filled(length, &page, saves, ended)]),
         ("motif calls", vec![filled(length, &called, "ExecStream StreamName=\"a\"", ended)]),
+        ("motifs of lines", vec![filled(length, &header, &sheet, &both)]),
+        ("many calls", vec![filled(length, &format!("header low; {open}; {among} {new_page}"), &all_called, ended)]),
+        (
+            "corrected motifs",
+            vec![filled(
+                length,
+                &format!("header low; {open}; {wing}; {bird}"),
+                &corrected,
+                "CloseDataSource; EndSession",
+            )],
+        ),
         ("many sessions", vec![filled(length, &header, &both, &both)]),
         ("many small jobs", vec![small.clone(); length / small.len()]),
     ]
+}
+
+/// A call of the motif of this number.
+fn exec(k: usize) -> String {
+    format!("ExecStream StreamName=[{k}]; ")
+}
+
+/// Two texts of each number, each of the two joined.
+fn each(numbers: std::ops::RangeInclusive<usize>, of: impl Fn(usize) -> (String, String)) -> (String, String) {
+    numbers.map(of).fold(Default::default(), |(a, b), (c, d)| (a + &c + "; ", b + &d + "; "))
 }
 
 /// A job of exactly `length` bytes: a start, as many rounds as fit, white space, an end.
@@ -64,7 +100,7 @@ fn best(mut run: impl FnMut()) -> Duration {
     let begun = Instant::now();
     let mut best = Duration::MAX;
     let mut runs = 0;
-    while runs < 20 || (runs < 2000 && begun.elapsed() < Duration::from_millis(300)) {
+    while runs < 3 || runs < 20 && begun.elapsed().as_secs() < 3 || runs < 2000 && begun.elapsed().as_millis() < 300 {
         let start = Instant::now();
         run();
         best = best.min(start.elapsed());
@@ -99,6 +135,20 @@ fn tower() -> Vec<u8> {
         "BeginPage Orientation=0 MediaSize=0; ExecStream StreamName=[32]; EndPage; CloseDataSource; EndSession\n",
     );
     assemble(&text).expect("a tower")
+}
+
+/// As much work at EndStream as a job of 61,440 bytes can ask for: the store is full of 64 motifs of many calls, the first 32 of
+/// them nest 32 deep, and the one that all call is replaced again and again, longer and shorter by turns.
+fn worst() -> Vec<u8> {
+    let mut start = String::from("header low; BeginSession Measure=0 UnitsPerMeasure=(600,600)");
+    start.push_str("; OpenDataSource SourceType=0 DataOrg=1; motif [1] { header low; PaintPath }");
+    for k in 2..=64 {
+        let before = exec(if k <= 32 { k - 1 } else { 31 });
+        start.push_str(&format!("; motif [{k}] {{ header low; {before} repeat 33 {{ {} }} }}", exec(1)));
+    }
+    let round = "motif [1] { header low }; motif [1] { header low; PaintPath }";
+    let end = format!("BeginPage Orientation=0 MediaSize=0; {} EndPage; CloseDataSource; EndSession", exec(64));
+    filled(LONG, &start, round, &end)
 }
 
 /// Judges jobs on a stack of 64 KiB; past its end the system kills the program.
@@ -157,19 +207,21 @@ fn main() {
     }
     println!("growth is the time for 61,440 bytes by that for 6,144; 10 is in proportion");
 
-    let tower = vec![tower()];
-    let want = plain::check(&tower[0], &mut work, &mut list, GRAY);
-    let got = ffi::check(&tower[0], &mut work, &mut list, GRAY);
-    faulty |= want.code != 26 || got != want;
-    let linked = judged(&tower, &mut work, &mut list, ffi::check);
-    let own = judged(&tower, &mut work, &mut list, plain::check);
-    println!(
-        "tower of 2^64 operators: code {}, linked {:.1} us, plain {:.1} us",
-        got.code,
-        micros(linked),
-        micros(own)
-    );
-    let jobs = kinds(LONG).into_iter().filter_map(|(_, jobs)| jobs.into_iter().next()).chain(tower).collect();
+    let towers = [("tower of 2^64 operators", 26, tower()), ("worst, motifs replaced again and again", 0, worst())];
+    for (name, code, job) in &towers {
+        let want = plain::check(job, &mut work, &mut list, GRAY);
+        let got = ffi::check(job, &mut work, &mut list, GRAY);
+        if want.code != *code || got != want {
+            println!("{name}: plain {want:?}, linked {got:?}");
+            faulty = true;
+        }
+        let jobs = [job.clone()];
+        let linked = judged(&jobs, &mut work, &mut list, ffi::check);
+        let own = judged(&jobs, &mut work, &mut list, plain::check);
+        println!("{name}: code {}, linked {:.3} ms, plain {:.3} ms", got.code, micros(linked) / 1e3, micros(own) / 1e3);
+    }
+    let towers = towers.into_iter().map(|(_, _, job)| job);
+    let jobs = kinds(LONG).into_iter().filter_map(|(_, jobs)| jobs.into_iter().next()).chain(towers).collect();
     println!("on a stack of 64 KiB: {} jobs judged", on_a_small_stack(jobs));
     if faulty {
         std::process::exit(1);

@@ -140,7 +140,7 @@ fn nesting(rng: &mut Rng, more: usize, edge: &mut Edge) {
         }
         edge.nodes.push(motif_of(&[i as u8], body));
     }
-    edge.call_in_page(rng, &[31]);
+    edge.call_in_page(rng, &[31 + more as u8]);
 }
 
 /// 24 saved, or 25, in the page.

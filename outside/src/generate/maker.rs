@@ -25,6 +25,8 @@ pub(super) struct Page {
 pub(super) struct Held {
     name: Vec<u8>,
     after: Page,
+    /// Whether a motif has called it, which a replacement would change.
+    called: bool,
 }
 
 pub(super) struct Maker {
@@ -143,7 +145,7 @@ impl Maker {
             return None;
         }
         let index = self.rng.below(self.held.len());
-        let held = &self.held[index];
+        let held = &mut self.held[index];
         let after = &held.after;
         let fits = page.saved.len() + after.most <= 24
             && (self.open || inside || !after.reads)
@@ -157,6 +159,7 @@ impl Maker {
         page.reads |= after.reads;
         page.count += after.count;
         page.deep = page.deep.max(after.deep + 1);
+        held.called |= inside;
         let name = held.name.clone();
         let wide = self.rng.one_in(4);
         Some(op(0x5e).with(139, array(&name, wide)))
@@ -280,8 +283,18 @@ impl Maker {
         }
     }
 
-    /// A motif; unless wild it needs nothing of the page that calls it.
+    /// A held motif to be replaced, taken out of those held; unless wild it is one that no motif calls.
+    fn replaced(&mut self) -> Option<Held> {
+        if self.held.is_empty() || !self.rng.one_in(4) {
+            return None;
+        }
+        let index = self.rng.below(self.held.len());
+        (self.wild > 0 || !self.held[index].called).then(|| self.held.remove(index))
+    }
+
+    /// A motif, perhaps in place of a held one; unless wild it needs nothing of the page that calls it.
     pub(super) fn motif(&mut self, n: usize) -> Node {
+        let old = self.replaced();
         let mut page = Page::new(self.set);
         let mut body = Vec::new();
         if self.wild == 0 || self.rng.one_in(3) {
@@ -292,8 +305,9 @@ impl Maker {
             page.count = 2;
         }
         body.extend(self.page(n, &mut page, true));
-        let name = self.name();
-        self.held.push(Held { name: name.clone(), after: page });
+        let called = old.as_ref().is_some_and(|held| held.called);
+        let name = old.map_or_else(|| self.name(), |held| held.name);
+        self.held.push(Held { name: name.clone(), after: page, called });
         let header = self.rng.one_in(5).then(|| b"a motif".to_vec());
         let split = (0..self.rng.below(4)).map(|_| 1 + self.rng.below(40)).collect();
         Node::Motif(Motif {
@@ -312,6 +326,7 @@ impl Maker {
         self.open = false;
         let begin = self.op(0x41, 0);
         self.nodes.push(begin.node());
+        let mut defined = 0;
         for _ in 0..motifs + pages {
             if self.rng.one_in(3) || motifs > 0 && !self.open {
                 self.turn_source();
@@ -320,7 +335,8 @@ impl Maker {
                 let comment = self.op(0x47, 0);
                 self.nodes.push(comment.node());
             }
-            if self.open && self.held.len() < motifs {
+            if self.open && defined < motifs {
+                defined += 1;
                 let n = self.rng.below(size);
                 let motif = self.motif(n);
                 self.nodes.push(motif);

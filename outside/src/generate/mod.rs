@@ -1,5 +1,5 @@
-//! Jobs made from a seed: valid ones, edges of every limit, broken rules, mutants, rich states, padded ones, reals, tags,
-//! truncations.
+//! Jobs made from a seed: valid ones, edges of every limit, broken rules, mutants, rich states, padded ones, reals, rings and
+//! replacements of motifs, tags, truncations.
 //!
 //! `case(seed, index)` is the same for the same numbers, so a difference can be made again.
 
@@ -8,6 +8,7 @@ mod broken;
 mod job;
 mod limits;
 mod maker;
+mod motifs;
 mod mutant;
 mod padding;
 mod reals;
@@ -20,6 +21,7 @@ pub use broken::{all_rules, broken, Broken};
 pub use job::write;
 pub use limits::limit;
 pub use maker::{rich, valid};
+pub use motifs::motifs;
 pub use mutant::mutant;
 pub use padding::padded;
 pub use reals::reals;
@@ -69,7 +71,8 @@ pub fn case(seed: u64, index: u64) -> Case {
             let rule = rules[(eighth / 2) as usize % rules.len()];
             ("broken rule", write(&broken(&mut rng, set.gray, rule, eighth % 2 == 1)))
         }
-        2 | 3 | 10 | 13 => ("mutant", mutant(&mut rng, set)),
+        2 | 3 | 10 => ("mutant", mutant(&mut rng, set)),
+        13 => ("motifs", motifs(&mut rng, set)),
         4 | 5 | 12 => ("rich", write(&rich(&mut rng, set))),
         // The longer limit jobs come less often.
         6 if sixteenth.is_multiple_of(2) => ("limit", limit(&mut rng, set, (sixteenth / 2) as usize)),
