@@ -14,8 +14,9 @@
 extern "C" {
 #endif
 
-/* The version of the library. 2.0: dieuvakhop_check has the parameter rgb. */
-#define DIEUVAKHOP_VERSION "2.0"
+/* The version of the library. 2.0: dieuvakhop_check has the parameter rgb.
+ * 3.0: code 20 is retired, code 32 is new; 21 and 22 are those of a call. */
+#define DIEUVAKHOP_VERSION "3.0"
 
 /* The longest job that is judged, in bytes. A longer one gets code 1. */
 #define DIEUVAKHOP_JOB_MOST 61440u
@@ -56,7 +57,7 @@ enum dieuvakhop_code {
     DIEUVAKHOP_SOURCE = 17,
     DIEUVAKHOP_DATA = 18,
     DIEUVAKHOP_NO_ROOM = 19,
-    DIEUVAKHOP_HELD = 20,
+    /* 20 is retired: a held name is replaced. */
     DIEUVAKHOP_NOT_HELD = 21,
     DIEUVAKHOP_DEEP = 22,
     DIEUVAKHOP_SAVED = 23,
@@ -65,7 +66,9 @@ enum dieuvakhop_code {
     DIEUVAKHOP_TOO_MANY = 26,
     DIEUVAKHOP_NOT_ENDED = 27,
     DIEUVAKHOP_LIST_FULL = 28,
-    DIEUVAKHOP_WORK_SHORT = 29
+    DIEUVAKHOP_WORK_SHORT = 29,
+    /* 30 and 31 are not given. */
+    DIEUVAKHOP_RING = 32
 };
 
 /* What a code means, in a few words. */
@@ -91,7 +94,7 @@ static inline const char *dieuvakhop_text(uint32_t code) {
         "data source not open",
         "data absent or of another length",
         "no room for more motifs",
-        "a motif of this name is held already",
+        NULL,
         "no motif of this name is held",
         "calls over 32 deep",
         "over 24 saved states",
@@ -101,8 +104,11 @@ static inline const char *dieuvakhop_text(uint32_t code) {
         "ends with something still open",
         "list too short",
         "work buffer too short",
+        NULL,
+        NULL,
+        "a motif calls itself, directly or through others",
     };
-    return code < sizeof text / sizeof text[0] ? text[code] : "unknown code";
+    return code < sizeof text / sizeof text[0] && text[code] ? text[code] : "unknown code";
 }
 
 struct dieuvakhop_verdict {
