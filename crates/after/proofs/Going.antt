@@ -47,7 +47,7 @@ module _ (job attrs : List ℕ) (by : Setting) (o : Operator) (work t : List ℕ
   case-at st q = caseOf by job st (scope.sessionOf q) (operatorAs o attrs)
 
   -- BeginSession
-  outside-keeps : {b : Bool} {q : scope.Place} (p : scope-arm.Page) → length t ≡ 640 → PlaceHolds by job work t (Outside b) q
+  outside-keeps : {b : Bool} {q : scope.Place} (p : scope-arm.Page) → length t ≡ 704 → PlaceHolds by job work t (Outside b) q
       → PlaceHolds by job work t (Inside false (record { held = 0; used = 0 }) Resting) (next p q)
   unfolding placeAfter
   outside-keeps p l outside-holds = let k : 0 ≤ 16384 = omega arith in inside-holds refl k (stored-none by work t l) resting-holds

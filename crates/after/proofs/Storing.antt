@@ -11,23 +11,23 @@ use Rattle.scope.specs.Motif.{Own, Motif, heldAs, bytesHeld, valid}
 use Rattle.scope.specs.Session.{keptAs}
 use Rattle.scope.specs.Sound.{sound-none}
 use Rattle.scope.proofs.Replaces.{kept-replaced}
-use Rattle.motif.specs.Held.{rows-none, InRow, storeOf}
+use Rattle.motif.specs.Held.{InRow, storeOf}
 use Rattle.motif.specs.Stored.{Stored}
 use Rattle.motif.specs.declared.kept.Kept.{Kept}
-use Rattle.motif.proofs.Rowed.{none-is}
+use Rattle.motif.proofs.Rowed.{none-is, keeps-none}
 
 -- no motif is held
 no-row : {A : Type 0} {i : ℕ} {m : Motif} → InRow [] i m → A
 unfolding heldAs
 no-row r = none-is (r .held)
 
-pub stored-none : (set : Setting) (work t : List ℕ) → length t ≡ 640 → Stored set work t (record { held = 0; used = 0 }) []
+pub stored-none : (set : Setting) (work t : List ℕ) → length t ≡ 704 → Stored set work t (record { held = 0; used = 0 }) []
 unfolding bytesHeld storeOf
 stored-none set work t l =
     record {
       tables =
           record {
-            keeps = record { sized = l; most = omega arith; rows = rows-none };
+            keeps = keeps-none t l;
             noted = record { whom = λ i j m r h. no-row r; lacks = λ i m r. no-row r };
             settled = record { level = λ i m r. no-row r; summed = λ i m r. no-row r };
           };

@@ -78,7 +78,7 @@ pub record Stays (work t work₁ t₁ : List ℕ) : Type 0 where
 pub record Comes (job attrs : List ℕ) (set : Setting) (o : Operator) (early : Early) (page : Page) (work t : List ℕ) (place : Place) (q : scope.Place) (st : State) : Type 0 where
   pub holds : PlaceHolds set job work t place q
   pub sized : Sized attrs (o .count)
-  pub table-long : length t ≡ 640
+  pub table-long : length t ≡ 704
   pub room : 16384 ≤ length work
   pub within : o .first + o .length ≤ length job
   pub may : mayCome (phaseOf q) (sessionOf q .opened) (o .tag) ≡ true

@@ -156,7 +156,7 @@ fn ended(
     kept: Kept,
     joined: usize,
     work: &mut [u8],
-    motifs: &mut [usize; 640],
+    motifs: &mut [usize; 704],
 ) -> Place
     ensures { λ _. ⌜ Stays (now (work .entry)) (now (motifs .entry)) (now (work .exit)) (now (motifs .exit)) ⌝ }
     ensures { λ r. ⌜ ((job attrs : List ℕ) (o : Operator) (page : Page) (first count : ℕ) → take count (drop first job) ≡ now (name .entry) → (o .tag ≡ 0x5c → ⊥)
@@ -185,7 +185,7 @@ fn reading_after(
     kept: Kept,
     stream: Stream,
     work: &mut [u8],
-    motifs: &mut [usize; 640],
+    motifs: &mut [usize; 704],
 ) -> Place
     ensures { λ _. ⌜ Stays (now (work .entry)) (now (motifs .entry)) (now (work .exit)) (now (motifs .exit)) ⌝ }
     ensures { λ r. ⌜ ((attrs : List ℕ) (page : Page)
@@ -224,7 +224,7 @@ pub fn place_after(
     page: Page,
     place: Place,
     work: &mut [u8],
-    motifs: &mut [usize; 640],
+    motifs: &mut [usize; 704],
 ) -> Place
     ensures { λ _. ⌜ length (now (work .exit)) ≡ length (now (work .entry)) ⌝ }
     ensures { λ _. ⌜ length (now (motifs .exit)) ≡ length (now (motifs .entry)) ⌝ }

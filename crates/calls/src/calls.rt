@@ -19,7 +19,7 @@ pub enum Called {
 }
 
 // A call of the motif of row i: its summary, if it has a level; else why it is refused.
-fn of_row(motifs: &[usize; 640], held: usize, i: usize) -> Called
+fn of_row(motifs: &[usize; 704], held: usize, i: usize) -> Called
     requires { ⌜ i < 64 ⌝ }
     ensures { λ r. ⌜ ((ms : List Motif) (m : Motif) → Tables (now (motifs .entry)) held ms → InRow ms i m → Calls ms (m .name) r) ⌝ }
 {
@@ -30,7 +30,7 @@ fn of_row(motifs: &[usize; 640], held: usize, i: usize) -> Called
 }
 
 // A call of a name: 21 if it or one that it unfolds to is not held, 32 if a motif calls itself, 22 if calls nest over 32.
-pub fn call_of(motifs: &[usize; 640], held: usize, name: &[u8]) -> Called
+pub fn call_of(motifs: &[usize; 704], held: usize, name: &[u8]) -> Called
     ensures { λ r. ⌜ ((ms : List Motif) → Tables (now (motifs .entry)) held ms → Calls ms (now (name .entry)) r) ⌝ }
 {
     match find(motifs, held, name) {

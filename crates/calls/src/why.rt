@@ -29,7 +29,7 @@ fn noted(marks: usize, i: usize, new: bool) -> usize
 }
 
 // The rows that name a motif that is not held.
-fn lacking(motifs: &[usize; 640], n: usize) -> usize
+fn lacking(motifs: &[usize; 704], n: usize) -> usize
     requires { ⌜ n ≤ 64 ⌝ }
     ensures { λ r. ⌜ Adds 0 (lacks (now (motifs .entry))) n r ⌝ }
 {
@@ -43,7 +43,7 @@ fn lacking(motifs: &[usize; 640], n: usize) -> usize
 }
 
 // The marks one call on: those given, and each row that calls one of the table.
-fn spread(motifs: &[usize; 640], n: usize, own: usize, table: usize) -> usize
+fn spread(motifs: &[usize; 704], n: usize, own: usize, table: usize) -> usize
     requires { ⌜ n ≤ 64 ⌝ }
     ensures { λ r. ⌜ Adds own (reaches (now (motifs .entry)) table) n r ⌝ }
 {
@@ -57,7 +57,7 @@ fn spread(motifs: &[usize; 640], n: usize, own: usize, table: usize) -> usize
 }
 
 // By 32 calls or fewer from a call of the motif of row i a name is reached that is not held.
-fn loses(motifs: &[usize; 640], n: usize, i: usize) -> bool
+fn loses(motifs: &[usize; 704], n: usize, i: usize) -> bool
     requires { ⌜ n ≤ 64 ⌝ }
     ensures { λ r. ⌜ ((ms : List Motif) (m : Motif) → Tables (now (motifs .entry)) n ms → InRow ms i m → r ≡ met ms 32 [] (m .name) .missing) ⌝ }
 {
@@ -84,7 +84,7 @@ fn first(found: usize, t: usize, marked: bool) -> usize
 }
 
 // From the motif of row i to that of row v and from there round to it, by 32 calls or fewer in all.
-fn closes_at(motifs: &[usize; 640], n: usize, i: usize, v: usize) -> bool
+fn closes_at(motifs: &[usize; 704], n: usize, i: usize, v: usize) -> bool
     requires { ⌜ n ≤ 64 ⌝ }
     ensures { λ r. ⌜ ((ms : List Motif) (m w : Motif) → Tables (now (motifs .entry)) n ms → InRow ms i m → InRow ms v w → r ≡ closes ms (w .name) (m .name)) ⌝ }
 {
@@ -102,7 +102,7 @@ fn closes_at(motifs: &[usize; 640], n: usize, i: usize, v: usize) -> bool
 }
 
 // A call of the motif of row i meets a motif that is running.
-fn turns(motifs: &[usize; 640], n: usize, i: usize) -> bool
+fn turns(motifs: &[usize; 704], n: usize, i: usize) -> bool
     requires { ⌜ n ≤ 64 ⌝ }
     ensures { λ r. ⌜ ((ms : List Motif) (m : Motif) → Tables (now (motifs .entry)) n ms → InRow ms i m → r ≡ met ms 32 [] (m .name) .again) ⌝ }
 {
@@ -117,7 +117,7 @@ fn turns(motifs: &[usize; 640], n: usize, i: usize) -> bool
 }
 
 // Why a call of the motif of row i, which has no level, is refused: the first of 21, 32, 22 that it meets.
-pub fn why_not(motifs: &[usize; 640], held: usize, i: usize) -> u32
+pub fn why_not(motifs: &[usize; 704], held: usize, i: usize) -> u32
     ensures { λ r. ⌜ ((ms : List Motif) (m : Motif) → Tables (now (motifs .entry)) held ms → InRow ms i m → levelIn (now (motifs .entry)) i ≡ 0 → Calls ms (m .name) (No r)) ⌝ }
 {
     let n = in_use(held);

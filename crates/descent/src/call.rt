@@ -16,7 +16,7 @@ pub const NONE: usize = 64;
 pub const EXEC_STREAM: usize = 0x5e;
 
 // The row of the motif that an operator of s calls.
-fn row_in(s: &[u8], motifs: &[usize; 640], attrs: &[usize; 80], st: &[usize; 16]) -> usize {
+fn row_in(s: &[u8], motifs: &[usize; 704], attrs: &[usize; 80], st: &[usize; 16]) -> usize {
     if st[TAG] != EXEC_STREAM {
         return NONE;
     }
@@ -37,7 +37,7 @@ fn step(s: &[u8], set: Setting, attrs: &[usize; 80], st: &[usize; 16], seen: See
 }
 
 // Notes the motif that an operator of s calls.
-pub fn note_called(s: &[u8], motifs: &[usize; 640], attrs: &[usize; 80], st: &mut [usize; 16]) {
+pub fn note_called(s: &[u8], motifs: &[usize; 704], attrs: &[usize; 80], st: &mut [usize; 16]) {
     st[CALLED] = row_in(s, motifs, attrs, st);
 }
 
@@ -45,7 +45,7 @@ pub fn note_called(s: &[u8], motifs: &[usize; 640], attrs: &[usize; 80], st: &mu
 pub fn performed(
     s: &[u8],
     set: Setting,
-    motifs: &[usize; 640],
+    motifs: &[usize; 704],
     attrs: &[usize; 80],
     st: &mut [usize; 16],
     seen: Seen,

@@ -69,7 +69,7 @@ fn in_motif(s: &[u8], set: Setting) -> Setting {
 fn through(
     s: &[u8],
     set: Setting,
-    motifs: &[usize; 640],
+    motifs: &[usize; 704],
     page: Page,
     attrs: &mut [usize; 80],
     st: &mut [usize; 16],
@@ -95,7 +95,7 @@ fn through(
 }
 
 // The bytes of the motif of a row.
-fn bytes_of(motifs: &[usize; 640], k: usize) -> Part {
+fn bytes_of(motifs: &[usize; 704], k: usize) -> Part {
     if 63 < k {
         return Part { first: 0, count: 0 };
     }
@@ -109,7 +109,7 @@ fn bytes_of(motifs: &[usize; 640], k: usize) -> Part {
 fn inside(
     set: Setting,
     store: &[u8],
-    motifs: &[usize; 640],
+    motifs: &[usize; 704],
     page: Page,
     attrs: &mut [usize; 80],
     st: &mut [usize; 16],
@@ -130,7 +130,7 @@ fn inside(
 fn down(
     set: Setting,
     store: &[u8],
-    motifs: &[usize; 640],
+    motifs: &[usize; 704],
     start: Page,
     attrs: &mut [usize; 80],
     st: &mut [usize; 16],
@@ -153,7 +153,7 @@ fn down(
 fn lacking(
     set: Setting,
     store: &[u8],
-    motifs: &[usize; 640],
+    motifs: &[usize; 704],
     start: Page,
     attrs: &mut [usize; 80],
     st: &mut [usize; 16],
@@ -168,7 +168,7 @@ fn lacking(
 fn found(
     set: Setting,
     store: &[u8],
-    motifs: &[usize; 640],
+    motifs: &[usize; 704],
     start: Page,
     attrs: &mut [usize; 80],
     st: &mut [usize; 16],
@@ -187,7 +187,7 @@ pub fn breach_in(
     to: usize,
     gray: bool,
     store: &mut [u8],
-    motifs: &mut [usize; 640],
+    motifs: &mut [usize; 704],
     attrs: &mut [usize; 80],
     st: &mut [usize; 16],
 ) -> Breach {

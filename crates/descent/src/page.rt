@@ -11,7 +11,7 @@ use trail::TAG;
 fn after(
     job: &[u8],
     set: Setting,
-    motifs: &[usize; 640],
+    motifs: &[usize; 704],
     attrs: &[usize; 80],
     st: &mut [usize; 16],
     page: Page,
@@ -29,7 +29,7 @@ pub fn page_at(
     to: usize,
     set: Setting,
     store: &mut [u8],
-    motifs: &mut [usize; 640],
+    motifs: &mut [usize; 704],
     attrs: &mut [usize; 80],
     st: &mut [usize; 16],
 ) -> Page {

@@ -49,7 +49,7 @@ pub enum Early {
 // BeginStream: 19 for a new name with 64 held.
 fn begin_stream(
     job: &[u8],
-    motifs: &[usize; 640],
+    motifs: &[usize; 704],
     attrs: &[usize; 80],
     held: usize,
     o: Operator,
@@ -72,7 +72,7 @@ fn begin_stream(
 // In a session at rest.
 fn resting_early(
     job: &[u8],
-    motifs: &[usize; 640],
+    motifs: &[usize; 704],
     attrs: &[usize; 80],
     held: usize,
     o: Operator,
@@ -105,7 +105,7 @@ fn read_stream(used: usize, joined: usize, o: Operator) -> Early
 }
 
 // EndStream: a faulty motif gives its own code, and the position inside it.
-fn end_stream(set: Setting, work: &[u8], motifs: &[usize; 640], kept: Kept, joined: usize) -> Early
+fn end_stream(set: Setting, work: &[u8], motifs: &[usize; 704], kept: Kept, joined: usize) -> Early
     ensures { λ r. ⌜ ((job attrs : List ℕ) (x : Session) (o : Operator) → Keeps (now (motifs .entry)) (kept .held) (x .held)
         → 16384 ≤ length (now (work .entry)) → kept .used + joined ≤ 16384
         → take joined (drop (kept .used) (now (work .entry))) ≡ joinedOf (x .busy) → o .tag ≡ 0x5d → EarliesIn (settingAs set) (now (motifs .entry)) job attrs x o r) ⌝ }
@@ -127,7 +127,7 @@ fn end_stream(set: Setting, work: &[u8], motifs: &[usize; 640], kept: Kept, join
 fn reading_early(
     set: Setting,
     work: &[u8],
-    motifs: &[usize; 640],
+    motifs: &[usize; 704],
     kept: Kept,
     joined: usize,
     o: Operator,
@@ -144,7 +144,7 @@ fn reading_early(
 }
 
 // ExecStream of a name: what a call of it comes to, from the table alone.
-fn exec_stream(motifs: &[usize; 640], held: usize, name: &[u8]) -> Early
+fn exec_stream(motifs: &[usize; 704], held: usize, name: &[u8]) -> Early
     ensures { λ r. ⌜ ((set : Setting·of) (job attrs : List ℕ) (x : Session) (o : Operator) → Tables (now (motifs .entry)) held (x .held)
         → now (name .entry) ≡ bytesIn job (rowsOf attrs (o .count)) 139 → o .tag ≡ 0x5e → EarliesIn set (now (motifs .entry)) job attrs x o r) ⌝ }
 {
@@ -157,7 +157,7 @@ fn exec_stream(motifs: &[usize; 640], held: usize, name: &[u8]) -> Early
 // In a page, perhaps with an image open.
 fn drawing_early(
     job: &[u8],
-    motifs: &[usize; 640],
+    motifs: &[usize; 704],
     attrs: &[usize; 80],
     held: usize,
     o: Operator,
@@ -179,7 +179,7 @@ fn inside_early(
     job: &[u8],
     set: Setting,
     work: &[u8],
-    motifs: &[usize; 640],
+    motifs: &[usize; 704],
     attrs: &[usize; 80],
     kept: Kept,
     busy: Busy,
@@ -202,7 +202,7 @@ pub fn early_of(
     job: &[u8],
     set: Setting,
     work: &[u8],
-    motifs: &[usize; 640],
+    motifs: &[usize; 704],
     attrs: &[usize; 80],
     place: Place,
     o: Operator,

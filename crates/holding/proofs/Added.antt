@@ -1,12 +1,13 @@
--- A motif under a new name: its row is written behind the others, its bytes stand behind theirs, and what is kept is the list with the motif in front.
+-- A motif under a new name: its row is written behind the others and comes into the column at its name's place, its bytes stand behind theirs, and what is kept is the
+-- list with the motif in front.
 -- Assumes nothing.
-use Prim.Native.Nat.{ℕ, suc, _+_, _*_, _≤_, _<_}
+use Prim.Native.Nat.{ℕ, suc, _+_, _*_, _%_, _≤_, _<_}
 use mathlib.Core.Path.{_≡_, refl, sym, ap, _∙_, subst}
 use mathlib.Core.Bool.{Bool, true, false, not, _&&_}
 use mathlib.Core.List.{List, [], _∷_}
 use native.Mathlib.Omega.{arith}
 use native.Mathlib.Numerals.{add-one}
-use lib.ListN.{length, set, take, drop}
+use lib.ListN.{length, getD, set, take, drop}
 use lib.Seq.{take-add}
 use lib.Dec.{eqb, leb}
 use borrow.Author.Tests.{leb-false}
@@ -18,17 +19,21 @@ use Rattle.scope.specs.Sound.{Sound, sound-more}
 use Rattle.scope.proofs.Apart.{clash-of}
 use Rattle.summary.specs.Sums.{bitOf}
 use Rattle.motif.specs.Keys.{keyOf}
-use Rattle.motif.specs.Held.{Keeps, rows-more, InRow, storeOf, levelIn}
+use Rattle.motif.specs.Sorted.{Sorted}
+use Rattle.motif.specs.Held.{Keeps, rows-more, InRow, storeOf, cell, keyIn, levelIn, orderIn}
+use Rattle.motif.specs.Search.{enteredIn}
 use Rattle.motif.specs.Tables.{callsRow, levelOf, Noted, Tables}
 use Rattle.motif.specs.Stored.{Stores, Stored, full}
 use Rattle.motif.specs.declared.kept.Kept.{Kept}
 use Rattle.motif.proofs.Rowed.{rows-length}
+use Rattle.motif.proofs.Sorting.{sorted-alike}
+use Rattle.motif.proofs.Entered.{entered-length, entered-cell, entered-sorted, key-new}
 use Rattle.rounds.specs.Rounds.{LevelsBut}
 use Rattle.stream.specs.Judging.{Makes}
 use Rattle.stream.specs.declared.judging.Made.{Made}
 use Rattle.holding.specs.Rowing.{written, newRow, Done}
 use Rattle.holding.specs.Comes.{Comes, newOf, Fresh}
-use Rattle.holding.proofs.Cells.{row-cell, Alike, written-alike, rows-same, tables-same, makes-same}
+use Rattle.holding.proofs.Cells.{row-cell, Alike, written-alike, written-behind, rows-same, noted-same, settled-same, makes-same}
 use Rattle.holding.proofs.OneMore.{noted-last, levels-before, last-in, calls-not-itself, tables-last}
 
 -- the stores of a row, one by one
@@ -37,6 +42,21 @@ pub row-written : (t : List ℕ) (i a b c start long missing : ℕ) (made : Made
     ≡ written t (i * 10) 0 (newRow (a ∷ b ∷ c ∷ []) start long made)
 unfolding written newRow
 row-written t i a b c start long missing made e = let z : i * 10 + 0 ≡ i * 10 = omega arith in rw (← e, z)
+
+-- the row comes into the column: the rows before it are as they were
+alike-entered : {t : List ℕ} {n : ℕ} (s key : List ℕ) → length s ≡ 704 → n < 64 → Alike t s n → Alike t (enteredIn s n key) n
+alike-entered {n = n} s key l h a =
+    record {
+      sized = entered-length s n key l h ∙ a .sized;
+      cells = λ k c u v. let z : k * 10 + c < 640 = omega arith in entered-cell s n key l h (k * 10 + c) z ∙ a .cells k c u v;
+    }
+
+-- and a row that is written leaves the column as it was
+sorted-written : (vs t : List ℕ) (n : ℕ) → n * 10 + length vs ≤ 640 → Alike t (written t (n * 10) 0 vs) n → Sorted (keyIn t) (orderIn t) n
+    → Sorted (keyIn (written t (n * 10) 0 vs)) (orderIn (written t (n * 10) 0 vs)) n
+sorted-written vs t n h a sorted =
+    sorted-alike (λ i l. λ j. a .cells i 0 l (omega arith) j ∷ a .cells i 1 l (omega arith) j ∷ a .cells i 2 l (omega arith) j ∷ [])
+    (λ k l. let z : n * 10 + 0 + length vs ≤ 640 + k = omega arith in ap (λ x. x % 64) (written-behind vs t (n * 10) 0 (640 + k) z)) sorted
 
 -- level and summary of the last row, where the level is what its callees' levels make it
 pub settles : {t : List ℕ} {i : ℕ} {made : Made} {m : Motif} {ms : List Motif} → Fresh t i made m ms → made .missing ≡ false → ((j : ℕ) → j < i → Done t i j) → (v s : ℕ)
@@ -53,27 +73,39 @@ module _ {set : Setting} {work t : List ℕ} {kept : Kept} {joined : ℕ} {name 
   pub held-length : length ms ≡ kept .held
   held-length = rows-length (k .stored .tables .keeps .rows)
 
-  fresh-written : (made : Made) → length ms < 64 → Makes t ms made ops → Fresh (written t (kept .held * 10) 0 (newRow (keyOf name) (kept .used) joined made)) (kept .held) made (newOf name bytes ops ms) ms
+  fresh-written : (made : Made) → length ms < 64 → Makes t ms made ops
+      → Fresh (enteredIn (written t (kept .held * 10) 0 (newRow (keyOf name) (kept .used) joined made)) (kept .held) (keyOf name)) (kept .held) made (newOf name bytes ops ms) ms
   unfolding newRow keyOf
   fresh-written made few makes =
       let n : ℕ = kept .held in
       let vs : List ℕ = newRow (keyOf name) (kept .used) joined made in
       let rows = k .stored .tables .keeps .rows in
       let l = held-length in
+      let room : n < 64 = omega arith in
       let size : n * 10 + 9 ≤ length t = let z = k .stored .tables .keeps .sized in omega arith in
-      let a : Alike t (written t (n * 10) 0 vs) n = written-alike vs t n in
+      let s : List ℕ = written t (n * 10) 0 vs in
+      let a : Alike t s n = written-alike vs t n in
+      let sized : length s ≡ 704 = a .sized ∙ k .stored .tables .keeps .sized in
+      let b : Alike t (enteredIn s n (keyOf name)) n = alike-entered s (keyOf name) sized room a in
+      let at : (c : ℕ) → c < 9 → cell (enteredIn s n (keyOf name)) n c ≡ getD vs c 0 =
+      λ c h. entered-cell s n (keyOf name) sized room (n * 10 + c) (omega arith) ∙ row-cell vs t n c h size in
       record {
-        before = tables-same a rows (k .stored .tables);
+        rows = rows-same b rows;
+        noted = noted-same b rows (k .stored .tables .noted);
+        settled = settled-same b rows 32 (k .stored .tables .settled);
         keeps = record {
-          sized = a .sized ∙ k .stored .tables .keeps .sized;
+          sized = entered-length s n (keyOf name) sized room ∙ sized;
           most = omega arith;
-          rows = rows-more (λ j. row-cell vs t n 0 (omega arith) size j ∷ row-cell vs t n 1 (omega arith) size j ∷ row-cell vs t n 2 (omega arith) size j ∷ []) (k .named)
-              (row-cell vs t n 3 (omega arith) size ∙ k .stored .used) (row-cell vs t n 4 (omega arith) size ∙ k .long) (ap suc l) none (rows-same a rows);
+          rows = rows-more (λ j. at 0 (omega arith) j ∷ at 1 (omega arith) j ∷ at 2 (omega arith) j ∷ []) (k .named) (at 3 (omega arith) ∙ k .stored .used) (at 4 (omega arith) ∙ k .long) (ap suc l)
+              none (rows-same b rows);
+          sorted = entered-sorted s n (keyOf name) sized room (sorted-written vs t n (omega arith) a (k .stored .tables .keeps .sorted))
+              (λ j. row-cell vs t n 0 (omega arith) size j ∷ row-cell vs t n 1 (omega arith) size j ∷ row-cell vs t n 2 (omega arith) size j ∷ [])
+              (key-new (rows-same a rows) name (k .named .bytes) none);
         };
-        makes = makes-same a rows makes;
-        level = row-cell vs t n 5 (omega arith) size;
-        whom = row-cell vs t n 7 (omega arith) size;
-        lacks = row-cell vs t n 8 (omega arith) size;
+        makes = makes-same b rows makes;
+        level = at 5 (omega arith);
+        whom = at 7 (omega arith);
+        lacks = at 8 (omega arith);
       }
 
   -- its bytes stand behind those held
@@ -90,7 +122,7 @@ module _ {set : Setting} {work t : List ℕ} {kept : Kept} {joined : ℕ} {name 
   sound-new = sound-more (k .valid) refl (k .stored .sound)
 
   pub added-stored : (made : Made) → length ms < 64 → Makes t ms made ops → kept .used + joined ≤ length work
-      → (s : List ℕ) → s ≡ written t (kept .held * 10) 0 (newRow (keyOf name) (kept .used) joined made)
+      → (s : List ℕ) → s ≡ enteredIn (written t (kept .held * 10) 0 (newRow (keyOf name) (kept .used) joined made)) (kept .held) (keyOf name)
       → (r : List ℕ) → ((x : Motif) (xs : List Motif) → Fresh s (kept .held) made x xs → Stores work (x ∷ xs) → Sound set (x ∷ xs) → Tables r (kept .held + 1) (x ∷ xs))
       → Stored set work r (record { held = kept .held + 1; used = kept .used + joined }) (newOf name bytes ops ms ∷ ms)
   unfolding bytesHeld

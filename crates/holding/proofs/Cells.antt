@@ -15,7 +15,7 @@ use Rattle.scope.specs.Motif.{Own, Motif, Held, heldAs}
 use Rattle.scope.specs.Reach.{Name}
 use Rattle.summary.specs.Sums.{SumsAs}
 use Rattle.motif.specs.Held.{Rows, rows-none, rows-more, InRow, cell}
-use Rattle.motif.specs.Tables.{mark, Noted, Settled, Tables, SumFor, SumsUp}
+use Rattle.motif.specs.Tables.{mark, Noted, Settled, SumFor, SumsUp}
 use Rattle.motif.proofs.Rowed.{held-row, in-below}
 use Rattle.stream.specs.Judging.{Makes}
 use Rattle.stream.specs.declared.judging.Made.{Made}
@@ -34,6 +34,15 @@ written-before (v ∷ vs) t at k j h =
     let l : j < at + suc k = omega arith in
     let z : j ≢ at + k = λ y. omega arith in
     written-before vs (set t (at + k) v) at (suc k) j l ∙ getD-set-other t (at + k) j v 0 z
+
+-- and what stands behind
+pub written-behind : (vs t : List ℕ) (at k j : ℕ) → at + k + length vs ≤ j → getD (written t at k vs) j 0 ≡ getD t j 0
+unfolding written
+written-behind [] t at k j h = refl
+written-behind (v ∷ vs) t at k j h =
+    let l : at + suc k + length vs ≤ j = omega arith in
+    let z : j ≢ at + k = λ y. omega arith in
+    written-behind vs (set t (at + k) v) at (suc k) j l ∙ getD-set-other t (at + k) j v 0 z
 
 -- and the numbers stand there
 pub written-at : (vs t : List ℕ) (at k i : ℕ) → i < length vs → at + k + length vs ≤ length t → getD (written t at k vs) (at + k + i) 0 ≡ getD vs i 0
@@ -89,14 +98,14 @@ module _ {s t : List ℕ} {n : ℕ} (a : Alike s t n) where
     cell-same : {i : ℕ} {m : Motif} (c : ℕ) → c < 10 → InRow ms i m → cell t i c ≡ cell s i c
     cell-same {i} c h r = a .cells i c (in-below w r) h
 
-    noted-same : Noted s n ms → Noted t n ms
+    pub noted-same : Noted s n ms → Noted t n ms
     noted-same k =
         record {
           whom = λ i j m r h. ap (λ x. mark x j) (cell-same 7 (omega arith) r) ∙ k .whom i j m r h;
           lacks = λ i m r. ap (λ x. not (eqb x 0)) (cell-same 8 (omega arith) r) ∙ k .lacks i m r;
         }
 
-    settled-same : (d : ℕ) → Settled s ms d → Settled t ms d
+    pub settled-same : (d : ℕ) → Settled s ms d → Settled t ms d
     settled-same d k =
         record {
           level = λ i m r. cell-same 5 (omega arith) r ∙ k .level i m r;
@@ -113,15 +122,6 @@ module _ {s t : List ℕ} {n : ℕ} (a : Alike s t n) where
             let l : m .number - 1 < n = omega (arith, r .1, r .2) in
             subst (λ v. SumsAs v (f name)) (a .cells (m .number - 1) 6 l (omega arith)) h
         by Held.none e h = h
-
-    -- so the table says of the motifs held what it said
-    pub tables-same : Tables s n ms → Tables t n ms
-    tables-same k =
-        record {
-          keeps = record { sized = a .sized ∙ k .keeps .sized; most = k .keeps .most; rows = rows-same };
-          noted = noted-same (k .noted);
-          settled = settled-same 32 (k .settled);
-        }
 
     pub makes-same : {made : Made} {ops : List Own} → Makes s ms made ops → Makes t ms made ops
     makes-same k = record { whom = k .whom; lacks = k .lacks; summed = λ f u d. k .summed f (sums-back f u) d }

@@ -12,11 +12,13 @@ use Rattle.scope.specs.Session.{replaced}
 use Rattle.scope.specs.Sound.{Sound}
 use Rattle.store.specs.Replaced as store
 use Rattle.store.proofs.Stored.{replaced-beside}
-use Rattle.motif.specs.Held.{Rows, Keeps, InRow, startIn, longIn, Finds, finds-at, finds-none}
+use Rattle.motif.specs.Sorted.{Sorted}
+use Rattle.motif.specs.Held.{Rows, Keeps, InRow, keyIn, startIn, longIn, orderIn, Finds, finds-at, finds-none}
 use Rattle.motif.specs.Tables.{Tables}
 use Rattle.motif.specs.Stored.{Stores, Stored}
 use Rattle.motif.specs.declared.kept.Kept.{Kept}
 use Rattle.motif.specs.declared.held.Where.the-variants.{At, Nowhere}
+use Rattle.motif.proofs.Rowed.{sorted-beside}
 use Rattle.motif.proofs.Stored.{row-start, row-long}
 use Rattle.holding.specs.Rowing.{Named}
 use Rattle.holding.specs.Comes.{Comes}
@@ -58,27 +60,34 @@ module _ {set₀ : Setting} {work t : List ℕ} {kept : Kept} {joined : ℕ} {na
 
   keeps-after : i < 64 → kept .used + joined ≤ 16384
       → (s : List ℕ) → length s ≡ length (set t (i * 10 + 4) joined)
-      → ((xs : List Motif) → length (set t (i * 10 + 4) joined) ≡ 640 → kept .held ≤ 64 → Named (set t (i * 10 + 4) joined) (kept .held) xs → bytesHeld xs ≤ 16384 → Rows s (kept .held) xs)
+      → ((xs : List Motif) → length (set t (i * 10 + 4) joined) ≡ 704 → kept .held ≤ 64 → Named (set t (i * 10 + 4) joined) (kept .held) xs → bytesHeld xs ≤ 16384 → Rows s (kept .held) xs)
+      → ((n : ℕ) → Sorted (keyIn (set t (i * 10 + 4) joined)) (orderIn (set t (i * 10 + 4) joined)) n → Sorted (keyIn s) (orderIn s) n)
       → Keeps s (kept .held) (replaced name bytes ops ms)
-  keeps-after small room s e laid =
+  keeps-after small room s e laid order =
       let keeps = k .stored .tables .keeps in
-      let size : length (set t (i * 10 + 4) joined) ≡ 640 = simp length-set (keeps .sized) in
+      let size : length (set t (i * 10 + 4) joined) ≡ 704 = simp length-set (keeps .sized) in
       let named : Named (set t (i * 10 + 4) joined) (kept .held) (replaced name bytes ops ms) =
       rw (k .long) (named-swapped name bytes ops (keeps .sized) small (keeps .rows) h (r .row)) in
       let b = bytes-after in
       let few : bytesHeld (replaced name bytes ops ms) ≤ 16384 = omega arith in
-      record { sized = e ∙ size; most = keeps .most; rows = laid (replaced name bytes ops ms) size (keeps .most) named few }
+      record {
+        sized = e ∙ size;
+        most = keeps .most;
+        rows = laid (replaced name bytes ops ms) size (keeps .most) named few;
+        sorted = order (kept .held) (sorted-beside t i 4 joined small (omega arith) (omega arith) (keeps .sorted));
+      }
 
   pub replaced-stored : i < 64 → kept .used + joined ≤ 16384 → kept .used + joined ≤ length work
       → (s : List ℕ) → length s ≡ length (set t (i * 10 + 4) joined)
-      → ((xs : List Motif) → length (set t (i * 10 + 4) joined) ≡ 640 → kept .held ≤ 64 → Named (set t (i * 10 + 4) joined) (kept .held) xs → bytesHeld xs ≤ 16384 → Rows s (kept .held) xs)
+      → ((xs : List Motif) → length (set t (i * 10 + 4) joined) ≡ 704 → kept .held ≤ 64 → Named (set t (i * 10 + 4) joined) (kept .held) xs → bytesHeld xs ≤ 16384 → Rows s (kept .held) xs)
+      → ((n : ℕ) → Sorted (keyIn (set t (i * 10 + 4) joined)) (orderIn (set t (i * 10 + 4) joined)) n → Sorted (keyIn s) (orderIn s) n)
       → (w : List ℕ) → w ≡ store.replaced work (startIn t i) (longIn t i) (kept .used) joined
       → (v : List ℕ) → ((xs : List Motif) → Keeps s (kept .held) xs → Stores w xs → Sound set₀ xs → Tables v (kept .held) xs)
       → Stored set₀ w v (record { held = kept .held; used = kept .used + joined - longIn t i }) (replaced name bytes ops ms)
-  replaced-stored small room within s e laid w f v made =
+  replaced-stored small room within s e laid order w f v made =
       let stores : Stores w (replaced name bytes ops ms) = subst (λ x. Stores x (replaced name bytes ops ms)) (sym f) (stores-after within) in
       record {
-        tables = made (replaced name bytes ops ms) (keeps-after small room s e laid) stores sound-after;
+        tables = made (replaced name bytes ops ms) (keeps-after small room s e laid order) stores sound-after;
         used = sym bytes-after;
         stores = stores;
         sound = sound-after;

@@ -51,11 +51,11 @@ module _ {t : List ℕ} {n : ℕ} {made : Made} {m : Motif} {ms : List Motif} (k
           last e z
       by false b =
           let w : InRow ms i x = record { held = sym (held-on m ms (x .name) b) ∙ r .held; row = r .row } in
-          old w (in-below (k .before .keeps .rows) w)
+          old w (in-below (k .rows) w)
 
   -- each motif before has a level
   level-is : (i : ℕ) (x : Motif) → InRow ms i x → levelIn t i ≡ 0 → ⊥
-  level-is i x r = done i (in-below (k .before .keeps .rows) r) .level
+  level-is i x r = done i (in-below (k .rows) r) .level
 
   held-level : (x : Name) → holds ms x ≡ true → levelOf ms 32 x ≡ 0 → ⊥
   unfolding isHeld
@@ -63,9 +63,9 @@ module _ {t : List ℕ} {n : ℕ} {made : Made} {m : Motif} {ms : List Motif} (k
     where
       by : (y : Held) → heldAs x ms ≡ y → isHeld y ≡ true → ⊥
       by (Held.is a) e w =
-          let r = held-in x (k .before .keeps .rows) e in
-          let o = held-row x (k .before .keeps .rows) e .0 in
-          level-is (a .number - 1) a r (k .before .settled .level (a .number - 1) a r ∙ ap (levelOf ms 32) o ∙ z)
+          let r = held-in x (k .rows) e in
+          let o = held-row x (k .rows) e .0 in
+          level-is (a .number - 1) a r (k .settled .level (a .number - 1) a r ∙ ap (levelOf ms 32) o ∙ z)
       by Held.none e w = clash-of (sym w)
 
   -- and so all that it calls are held
@@ -91,7 +91,7 @@ module _ {t : List ℕ} {n : ℕ} {made : Made} {m : Motif} {ms : List Motif} (k
     where
       by : (x : Name) (y : Held) → heldAs x ms ≡ y → isHeld y ≡ true → eqb (rowBy y) n ≡ false
       by x (Held.is a) e u =
-          let r = held-row x (k .before .keeps .rows) e in
+          let r = held-row x (k .rows) e in
           let z : a .number - 1 ≡ n → ⊥ = λ w. omega (arith, r .1, r .2) in
           ne-eqb (a .number - 1) n z
       by x Held.none e u = clash-of (sym u)
@@ -102,10 +102,10 @@ module _ {t : List ℕ} {n : ℕ} {made : Made} {m : Motif} {ms : List Motif} (k
       by : (b : Bool) → eqb j n ≡ b → mark (callsIn t i) j ≡ callsRow (m ∷ ms) (x .ops) j
       by true b =
           let z : j ≡ n = eqb-true j n b in
-          rw z (done i (in-below (k .before .keeps .rows) r) .unmarked ∙ sym (not-last (x .ops) (named-held r)))
+          rw z (done i (in-below (k .rows) r) .unmarked ∙ sym (not-last (x .ops) (named-held r)))
       by false b =
           let z : j < n = omega (arith, eqb-false j n b) in
-          k .before .noted .whom i j x r z ∙ sym (calls-same m ms new (x .ops) j (named-held r))
+          k .noted .whom i j x r z ∙ sym (calls-same m ms new (x .ops) j (named-held r))
 
   whom-new : (j : ℕ) → j < suc n → mark (callsIn t n) j ≡ callsRow (m ∷ ms) (m .ops) j
   whom-new j h =
@@ -117,7 +117,7 @@ module _ {t : List ℕ} {n : ℕ} {made : Made} {m : Motif} {ms : List Motif} (k
 
   lacks-old : (i : ℕ) (x : Motif) → InRow ms i x → not (eqb (missingIn t i) 0) ≡ lacksOne (m ∷ ms) (x .ops)
   lacks-old i x r =
-      k .before .noted .lacks i x r ∙ held-lacks ms (x .ops) (named-held r) ∙ sym (held-lacks (m ∷ ms) (x .ops) (still-all m ms new (namesIn (x .ops)) (named-held r)))
+      k .noted .lacks i x r ∙ held-lacks ms (x .ops) (named-held r) ∙ sym (held-lacks (m ∷ ms) (x .ops) (still-all m ms new (namesIn (x .ops)) (named-held r)))
 
   pub noted-last : Noted t (suc n) (m ∷ ms)
   noted-last =
@@ -127,7 +127,7 @@ module _ {t : List ℕ} {n : ℕ} {made : Made} {m : Motif} {ms : List Motif} (k
       }
 
   level-old : (i : ℕ) (x : Motif) → InRow ms i x → levelIn t i ≡ levelOf (m ∷ ms) 32 (x .name)
-  level-old i x r = k .before .settled .level i x r ∙ sym (level-same m ms new closed 32 (x .name) (is-held r))
+  level-old i x r = k .settled .level i x r ∙ sym (level-same m ms new closed 32 (x .name) (is-held r))
 
   pub levels-before : LevelsBut t (m ∷ ms) n
   levels-before = record { others = λ i x r d. either r (λ o l. level-old i x o) (λ e z. absurd (d e)) }
@@ -145,10 +145,10 @@ module _ {t : List ℕ} {n : ℕ} {made : Made} {m : Motif} {ms : List Motif} (k
     where
       by : (y : Held) → heldAs x ms ≡ y → SumFor t y (unfolded ms 32 [] x)
       by (Held.is a) e =
-          let r = held-in x (k .before .keeps .rows) e in
-          let o = held-row x (k .before .keeps .rows) e .0 in
+          let r = held-in x (k .rows) e in
+          let o = held-row x (k .rows) e .0 in
           let z : eqb (levelIn t (a .number - 1)) 0 ≡ false = ne-eqb (levelIn t (a .number - 1)) 0 (level-is (a .number - 1) a r) in
-          rw (z, o) at (k .before .settled .summed (a .number - 1) a r)
+          rw (z, o) at (k .settled .summed (a .number - 1) a r)
       by Held.none e = none-unfolds ms 32 [] x e
 
   module _ (v : ℕ) (level : v ≡ levelOf (m ∷ ms) 32 (m .name)) where
@@ -175,7 +175,9 @@ module _ {t : List ℕ} {n : ℕ} {made : Made} {m : Motif} {ms : List Motif} (k
     beside i c h l = other (i * 10 + c) (λ y. omega arith) (λ y. omega arith)
 
     keeps-after : Keeps after (suc n) (m ∷ ms)
-    keeps-after = keeps-beside n 6 (pick (eqb v 0) 48 (made .sum)) (omega arith) (omega arith) (keeps-beside n 5 v (omega arith) (omega arith) (k .keeps))
+    keeps-after =
+        let l : n < 64 = k .keeps .most in
+        keeps-beside n 6 (pick (eqb v 0) 48 (made .sum)) l (omega arith) (omega arith) (keeps-beside n 5 v l (omega arith) (omega arith) (k .keeps))
 
     size : n * 10 + 6 < length t
     size = let a = k .keeps .sized in let b = k .keeps .most in omega arith
@@ -207,7 +209,7 @@ module _ {t : List ℕ} {n : ℕ} {made : Made} {m : Motif} {ms : List Motif} (k
         record {
           level = λ i x r. either r (λ o l. below i 5 l (omega arith) ∙ level-old i x o) (λ e z. rw (e, ← z) (level-after ∙ level));
           summed = λ i x r. either r
-              (λ o l. rw (below i 6 l (omega arith), below i 5 l (omega arith), settled-old (levelIn t i) (x .name) (is-held o)) (k .before .settled .summed i x o))
+              (λ o l. rw (below i 6 l (omega arith), below i 5 l (omega arith), settled-old (levelIn t i) (x .name) (is-held o)) (k .settled .summed i x o))
               (λ e z. rw (e, ← z, sum-after, level-after) last-sum);
         }
 

@@ -66,7 +66,7 @@ module _ (name bytes : List ℕ) (ops : List Own) where
       by false false p q ih = ap (heldAs c) (swap-on m ms p) ∙ held-on m (replaced name bytes ops ms) c q ∙ ih (sym (held-on m ms c q) ∙ e)
 
   -- the rows, but for where the bytes begin
-  pub named-swapped : {t : List ℕ} {n i : ℕ} {ms : List Motif} {m : Motif} → length t ≡ 640 → i < 64 → Rows t n ms → heldAs name ms ≡ Held.is m → m .number ≡ suc i
+  pub named-swapped : {t : List ℕ} {n i : ℕ} {ms : List Motif} {m : Motif} → length t ≡ 704 → i < 64 → Rows t n ms → heldAs name ms ≡ Held.is m → m .number ≡ suc i
       → Named (set t (i * 10 + 4) (length bytes)) n (replaced name bytes ops ms)
   unfolding heldAs
   named-swapped s w rows-none h r = none-is h

@@ -8,8 +8,8 @@ use Rattle.scope.specs.Setting.{Setting}
 use Rattle.scope.specs.Motif.{Own, Motif, Judged, motifOf}
 use Rattle.summary.specs.Sums.{bitOf}
 use Rattle.motif.specs.Keys.{IsName}
-use Rattle.motif.specs.Held.{Keeps, levelIn, callsIn, missingIn}
-use Rattle.motif.specs.Tables.{Tables}
+use Rattle.motif.specs.Held.{Rows, Keeps, levelIn, callsIn, missingIn}
+use Rattle.motif.specs.Tables.{Noted, Settled}
 use Rattle.motif.specs.Stored.{Stored}
 use Rattle.motif.specs.declared.kept.Kept.{Kept}
 use Rattle.stream.specs.Judging.{Makes}
@@ -27,9 +27,11 @@ pub record Comes (set : Setting) (work t : List ℕ) (kept : Kept) (joined : ℕ
 abbrev pub newOf : (name bytes : List ℕ) → List Own → List Motif → Motif
 newOf name bytes ops ms = record { name = name; bytes = bytes; number = suc (length ms); ops = ops }
 
--- the row of one more motif is written, and it has no level yet; the rows before it are as they were
+-- the row of one more motif is written and in the column, and it has no level yet; what the table says of the motifs before it is as it was
 pub record Fresh (t : List ℕ) (n : ℕ) (made : Made) (m : Motif) (ms : List Motif) : Type 0 where
-  pub before : Tables t n ms
+  pub rows : Rows t n ms
+  pub noted : Noted t n ms
+  pub settled : Settled t ms 32
   pub keeps : Keeps t (suc n) (m ∷ ms)
   pub makes : Makes t ms made (m .ops)
   pub level : levelIn t n ≡ 0

@@ -37,4 +37,4 @@ pub data Named (t : List ℕ) : ℕ → List Motif → Type 0 where
 pub record Laid (before t : List ℕ) (i start : ℕ) : Type 0 where
   pub sized : length t ≡ length before
   pub beside : (k c : ℕ) → c < 10 → (c ≡ 3 → i ≤ k) → getD t (k * 10 + c) 0 ≡ getD before (k * 10 + c) 0
-  pub rows : (ms : List Motif) → length before ≡ 640 → Named before i ms → bytesHeld ms ≤ 16384 → Rows t i ms × (start ≡ bytesHeld ms)
+  pub rows : (ms : List Motif) → length before ≡ 704 → Named before i ms → bytesHeld ms ≤ 16384 → Rows t i ms × (start ≡ bytesHeld ms)

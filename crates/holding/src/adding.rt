@@ -41,7 +41,7 @@ fn bit(b: bool) -> usize
 
 // Row i is written, of a motif that has no level yet.
 fn write_row(
-    motifs: &mut [usize; 640],
+    motifs: &mut [usize; 704],
     i: usize,
     name: &[u8],
     start: usize,
@@ -65,7 +65,7 @@ fn write_row(
 }
 
 // The motif of row j has a level, and no mark for the row that comes next: of marks the table says only those of rows in use.
-fn is_done(motifs: &[usize; 640], next: usize, j: usize) -> bool
+fn is_done(motifs: &[usize; 704], next: usize, j: usize) -> bool
     requires { ⌜ next < 64 ⌝ }
     requires { ⌜ j < 64 ⌝ }
     ensures { λ r. ⌜ (r ≡ true → Done (now (motifs .entry)) next j) ⌝ }
@@ -77,7 +77,7 @@ fn is_done(motifs: &[usize; 640], next: usize, j: usize) -> bool
 }
 
 // So it is with every motif held.
-fn all_done(motifs: &[usize; 640], held: usize) -> bool
+fn all_done(motifs: &[usize; 704], held: usize) -> bool
     requires { ⌜ held < 64 ⌝ }
     ensures { λ r. ⌜ (r ≡ true → (j : ℕ) → j < held → Done (now (motifs .entry)) held j) ⌝ }
 {
@@ -102,7 +102,7 @@ fn sum_for(level: usize, sum: usize) -> usize
 }
 
 // Level and summary of the motif of row i, the last one, which names held motifs only: a new name changes nothing of the others, where each has its level.
-fn settle_last(motifs: &mut [usize; 640], i: usize, made: Made)
+fn settle_last(motifs: &mut [usize; 704], i: usize, made: Made)
     requires { ⌜ i < 64 ⌝ }
     ensures { λ _. ⌜ length (now (motifs .exit)) ≡ length (now (motifs .entry)) ⌝ }
     ensures { λ _. ⌜ ((m : Motif) (ms : List Motif) → Fresh (now (motifs .entry)) i made m ms → made .missing ≡ false
@@ -114,7 +114,7 @@ fn settle_last(motifs: &mut [usize; 640], i: usize, made: Made)
 }
 
 // The table of one motif more, whose row is written: the short way where it touches no other motif, else all anew.
-fn settle(work: &[u8], set: Setting, motifs: &mut [usize; 640], held: usize, made: Made)
+fn settle(work: &[u8], set: Setting, motifs: &mut [usize; 704], held: usize, made: Made)
     requires { ⌜ held < 64 ⌝ }
     ensures { λ _. ⌜ length (now (motifs .exit)) ≡ length (now (motifs .entry)) ⌝ }
     ensures { λ _. ⌜ ((m : Motif) (ms : List Motif) → Fresh (now (motifs .entry)) held made m ms → Stores (now (work .entry)) (m ∷ ms)
@@ -134,7 +134,7 @@ fn settle(work: &[u8], set: Setting, motifs: &mut [usize; 640], held: usize, mad
 // The motif becomes held as the last one, unless there is no row for it.
 pub(crate) fn added(
     work: &[u8],
-    motifs: &mut [usize; 640],
+    motifs: &mut [usize; 704],
     set: Setting,
     name: &[u8],
     kept: Kept,
@@ -155,6 +155,7 @@ pub(crate) fn added(
         return kept;
     }
     write_row(motifs, held, name, used, joined, made);
+    motif::enter(motifs, held, name);
     settle(work, set, motifs, held, made);
     Kept {
         held: held + 1,

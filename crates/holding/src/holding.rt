@@ -36,7 +36,7 @@ fn fits(len: usize, used: usize, joined: usize) -> bool
 // Where there is no room for it nothing is done.
 pub fn hold(
     work: &mut [u8],
-    motifs: &mut [usize; 640],
+    motifs: &mut [usize; 704],
     set: Setting,
     name: &[u8],
     kept: Kept,

@@ -6,7 +6,8 @@ ghost use lib.ListN.{length, drop};
 ghost use Rattle.scope.specs.Motif.{Own, Motif, Held, heldAs, bytesHeld};
 ghost use Rattle.scope.specs.Session.{replaced as replacedIn};
 ghost use Rattle.setting.specs.Views.{settingAs};
-ghost use Rattle.motif.specs.Held.{Rows, InRow};
+ghost use Rattle.motif.specs.Sorted.{Sorted};
+ghost use Rattle.motif.specs.Held.{Rows, InRow, keyIn, orderIn};
 ghost use Rattle.motif.specs.Stored.{Stored};
 ghost use Rattle.holding.specs.Rowing.{Named};
 ghost use Rattle.holding.specs.Comes.{Comes};
@@ -29,10 +30,12 @@ fn at_most(long: usize) -> usize
 }
 
 // Where each motif's bytes begin, anew: behind those of the motifs before it.
-fn lay_out(motifs: &mut [usize; 640], held: usize)
+fn lay_out(motifs: &mut [usize; 704], held: usize)
     ensures { λ _. ⌜ length (now (motifs .exit)) ≡ length (now (motifs .entry)) ⌝ }
-    ensures { λ _. ⌜ ((ms : List Motif) → length (now (motifs .entry)) ≡ 640 → held ≤ 64 → Named (now (motifs .entry)) held ms → bytesHeld ms ≤ 16384
+    ensures { λ _. ⌜ ((ms : List Motif) → length (now (motifs .entry)) ≡ 704 → held ≤ 64 → Named (now (motifs .entry)) held ms → bytesHeld ms ≤ 16384
         → Rows (now (motifs .exit)) held ms) ⌝ }
+    ensures { λ _. ⌜ ((n : ℕ) → Sorted (keyIn (now (motifs .entry))) (orderIn (now (motifs .entry))) n
+        → Sorted (keyIn (now (motifs .exit))) (orderIn (now (motifs .exit))) n) ⌝ }
 {
     let n = motif::in_use(held);
     let mut start: usize = 0;
@@ -48,7 +51,7 @@ fn lay_out(motifs: &mut [usize; 640], held: usize)
 // The motif takes the place of that of row i: those behind it move, and the table is made anew.
 pub(crate) fn replaced(
     work: &mut [u8],
-    motifs: &mut [usize; 640],
+    motifs: &mut [usize; 704],
     set: Setting,
     kept: Kept,
     i: usize,

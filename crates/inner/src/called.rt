@@ -25,7 +25,7 @@ fn cure_in(code: u32) -> usize {
 }
 
 // The motif with the operator at a place, and the one that the job calls if it is another.
-fn inner_names(motifs: &[usize; 640], motif: usize, called: usize, at: u32) {
+fn inner_names(motifs: &[usize; 704], motif: usize, called: usize, at: u32) {
     say(b", in the motif ");
     name_of(motifs, motif);
     say(b" at its byte ");
@@ -35,7 +35,7 @@ fn inner_names(motifs: &[usize; 640], motif: usize, called: usize, at: u32) {
 
 // Says what is wrong at the operator of a motif that a walk has found, of which these are the bytes, and the cure.
 fn of_breach(
-    motifs: &[usize; 640],
+    motifs: &[usize; 704],
     motif: &[u8],
     b: Breach,
     code: u32,
@@ -53,7 +53,7 @@ fn of_lacking(
     job: &[u8],
     list: &[u8],
     records: usize,
-    motifs: &[usize; 640],
+    motifs: &[usize; 704],
     motif: &[u8],
     b: Breach,
     attrs: &[usize; 80],
@@ -72,7 +72,7 @@ fn of_lacking(
 }
 
 // Of 32: says the ring that a call comes to, and the cure.
-fn of_ring(job: &[u8], motifs: &[usize; 640], b: Breach, attrs: &[usize; 80], st: &[usize; 16]) {
+fn of_ring(job: &[u8], motifs: &[usize; 704], b: Breach, attrs: &[usize; 80], st: &[usize; 16]) {
     let mut next = [0usize; 64];
     let first = rings::ring(motifs, b.held, b.called, &mut next);
     let f = tell::facts_in(job, st[trail::PLACE], attrs, st);
@@ -87,7 +87,7 @@ fn of_inner(
     list: &[u8],
     records: usize,
     code: u32,
-    motifs: &[usize; 640],
+    motifs: &[usize; 704],
     motif: &[u8],
     b: Breach,
     attrs: &[usize; 80],
@@ -110,7 +110,7 @@ pub fn of_call(
     gray: bool,
     store: &mut [u8],
 ) {
-    let mut motifs = [0usize; 640];
+    let mut motifs = [0usize; 704];
     let mut attrs = [0usize; 80];
     let mut st = [0usize; 16];
     let b = descent::breach_in(job, code, at, gray, store, &mut motifs, &mut attrs, &mut st);

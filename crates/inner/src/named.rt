@@ -40,7 +40,7 @@ fn name(first: usize, next: usize, many: usize) {
 }
 
 // The name of the motif of a row.
-pub(crate) fn name_of(motifs: &[usize; 640], k: usize) {
+pub(crate) fn name_of(motifs: &[usize; 704], k: usize) {
     if 63 < k {
         return;
     }
@@ -48,7 +48,7 @@ pub(crate) fn name_of(motifs: &[usize; 640], k: usize) {
 }
 
 // The motif that the job calls, if what is told is of another.
-pub(crate) fn by_call(motifs: &[usize; 640], motif: usize, called: usize) {
+pub(crate) fn by_call(motifs: &[usize; 704], motif: usize, called: usize) {
     if motif == called {
         return;
     }

@@ -28,14 +28,14 @@ fn between(is_last: bool) {
 }
 
 // One call.
-fn call(motifs: &[usize; 640], from: usize, to: usize) {
+fn call(motifs: &[usize; 704], from: usize, to: usize) {
     name_of(motifs, from);
     say(b" calls ");
     name_of(motifs, to);
 }
 
 // The calls of a ring from a row on, till it comes back.
-fn calls(motifs: &[usize; 640], next: &[usize; 64], first: usize) {
+fn calls(motifs: &[usize; 704], next: &[usize; 64], first: usize) {
     let mut at = next_of(next, first);
     let mut turns = RING_MOST;
     call(motifs, first, at);
@@ -52,7 +52,7 @@ fn calls(motifs: &[usize; 640], next: &[usize; 64], first: usize) {
 }
 
 // Says which motifs call each other in a ring; the answer is the line of the cure.
-pub(crate) fn ring(motifs: &[usize; 640], next: &[usize; 64], first: usize) -> usize {
+pub(crate) fn ring(motifs: &[usize; 704], next: &[usize; 64], first: usize) -> usize {
     say(b"the motif ");
     if next_of(next, first) == first {
         name_of(motifs, first);

@@ -68,7 +68,7 @@ fn joined_after(
 fn held_after(
     set: Setting,
     store: &mut [u8],
-    motifs: &mut [usize; 640],
+    motifs: &mut [usize; 704],
     name: &[u8],
     kept: Kept,
     joined: usize,
@@ -91,7 +91,7 @@ fn end_stream(
     job: &[u8],
     set: Setting,
     store: &mut [u8],
-    motifs: &mut [usize; 640],
+    motifs: &mut [usize; 704],
     now: Keeping,
 ) -> Keeping {
     let kept = now.kept;
@@ -132,7 +132,7 @@ fn after(
     job: &[u8],
     set: Setting,
     store: &mut [u8],
-    motifs: &mut [usize; 640],
+    motifs: &mut [usize; 704],
     attrs: &[usize; 80],
     st: &[usize; 16],
     now: Keeping,
@@ -151,7 +151,7 @@ pub fn keep(
     job: &[u8],
     set: Setting,
     store: &mut [u8],
-    motifs: &mut [usize; 640],
+    motifs: &mut [usize; 704],
     attrs: &[usize; 80],
     st: &mut [usize; 16],
     now: Keeping,

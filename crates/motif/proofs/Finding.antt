@@ -1,23 +1,30 @@
--- The search of a name goes down row by row, and finds the row of the motif that is held under it: the keys of two names are the same where the names are.
+-- The search of a name by halving finds the row of the motif that is held under it: the keys of two names are the same where the names are, and in a sorted column
+-- a name that is there stands at the first place whose name is not before it.
 -- Assumes nothing.
-use Prim.Native.Nat.{ℕ, zero, suc, _+_, _-_, _*_, _≤_, _<_}
-use mathlib.Core.Path.{_≡_, refl, ap, _∙_}
+use Prim.Native.Nat.{ℕ, _+_, _-_, _*_, _≤_, _<_}
+use mathlib.Core.Path.{_≡_, refl, sym, ap, _∙_}
 use mathlib.Core.Bool.{Bool, true, false}
 use mathlib.Core.List.{List, [], _∷_}
 use native.Mathlib.Omega.{arith}
-use native.Mathlib.Nat.{add-zero}
+use native.Mathlib.Nat.{add-zero, mod-lt}
 use lib.ListN.{getD}
-use lib.Dec.{eqb}
+use lib.Dec.{eqb, ltb}
+use borrow.Author.Tests.{lt-ltb, le-ltb, ltb-true, ltb-false}
 use Rattle.scope.specs.Choice.{pick, same}
 use Rattle.scope.specs.Motif.{Motif, Held, heldAs}
+use Rattle.scope.proofs.Apart.{same-refl, same-eq, clash-of}
 use Rattle.scope.proofs.Ends.{pick-all}
 use Rattle.motif.specs.Keys.{keyOf}
-use Rattle.motif.specs.Held.{Rows, rows-none, rows-more, Keeps, Finds, finds-at, finds-none, cell, keyIn}
-use Rattle.motif.specs.Search.{few, findIn, Row}
+use Rattle.motif.specs.Before.{before}
+use Rattle.motif.specs.Held.{Keeps, InRow, Finds, finds-at, finds-none, cell, keyIn, orderIn}
+use Rattle.motif.specs.Search.{few, placeOf, rowAt, findIn, Row}
 use Rattle.motif.specs.declared.held.Where.{Where}
 use Rattle.motif.specs.declared.held.Where.the-variants.{At, Nowhere}
-use Rattle.motif.proofs.Rowed.{held-here, held-on, held-first, still-held}
-use Rattle.motif.proofs.Packs.{Bytes, same-key}
+use Rattle.motif.proofs.Ordered.{Three, lower, level, higher, three, not-before}
+use Rattle.motif.proofs.Halves.{First, place-first}
+use Rattle.motif.proofs.Rowed.{held-row, held-in, in-below, row-held}
+use Rattle.motif.proofs.Stored.{row-key, row-name}
+use Rattle.motif.proofs.Packs.{Bytes, key-eq}
 
 -- three numbers are the same as three others, one after the other
 same-three : (a b c x y z : ℕ) → same (a ∷ b ∷ c ∷ []) (x ∷ y ∷ z ∷ []) ≡ pick (eqb c z) (pick (eqb a x) (eqb b y) false) false
@@ -41,49 +48,82 @@ same-row t i a b c =
     same-three (cell t i 0) (cell t i 1) (cell t i 2) a b c
     ∙ ap (λ (k : ℕ). pick (eqb (cell t i 2) c) (pick (eqb (getD t k 0) a) (eqb (cell t i 1) b) false) false) (add-zero (i * 10))
 
--- the search goes down by one
-pub find-down : (t key : List ℕ) (i : ℕ) → 0 < i → findIn t key i ≡ pick (same (keyIn t (i - 1)) key) (At (i - 1)) (findIn t key (i - 1))
-unfolding findIn
-find-down t key zero h = absurd (omega arith)
-find-down t key (suc i) h = let e : suc i - 1 ≡ i = omega arith in rw e
+-- a row of the column is one of 64
+pub order-row : (t : List ℕ) (p : ℕ) → orderIn t p < 64
+order-row t p = mod-lt (getD t (640 + p) 0) (omega arith)
 
-pub find-end : (t key : List ℕ) → findIn t key 0 ≡ Nowhere
-unfolding findIn
-find-end t key = refl
+find-row : (t key : List ℕ) (n : ℕ) → Row (findIn t key n)
+unfolding findIn rowAt
+find-row t key n =
+    pick-all Row (ltb (placeOf t key n) n) (λ _. pick-all Row (same (keyIn t (orderIn t (placeOf t key n))) key) (λ _. order-row t (placeOf t key n)) (λ _. tt)) (λ _. tt)
 
--- what is found in 64 rows is one of them
-find-row : (t key : List ℕ) (n : ℕ) → n ≤ 64 → Row (findIn t key n)
-unfolding findIn
-find-row t key zero h = tt
-find-row t key (suc n) h =
-    let l : n < 64 = omega arith in
-    let m : n ≤ 64 = omega arith in
-    pick-all Row (same (keyIn t n) key) (λ _. l) (λ _. find-row t key n m)
+-- the search, by what stands at the place that was come to
+module _ (t key : List ℕ) (n p : ℕ) (e : p ≡ placeOf t key n) where
+  pub find-over : n ≤ p → Nowhere ≡ findIn t key n
+  unfolding findIn rowAt
+  find-over h = rw (← e, le-ltb p n h)
 
--- a motif found below is found still where the last one has another name
-finds-below : {m : Motif} {ms : List Motif} {name : List ℕ} {r : Where} → heldAs (m .name) ms ≡ Held.none → same (m .name) name ≡ false
-    → Finds ms name r → Finds (m ∷ ms) name r
-finds-below {m} {ms} {name} new b (finds-at {m = x} h k) =
-    finds-at (held-on m ms name b ∙ h) (record { held = still-held m ms new (x .name) (k .held); row = k .row })
-finds-below {m} {ms} {name} new b (finds-none h) = finds-none (held-on m ms name b ∙ h)
+  pub find-at : p < n → same (keyIn t (orderIn t p)) key ≡ true → At (orderIn t p) ≡ findIn t key n
+  unfolding findIn rowAt
+  find-at h s = rw (← e, lt-ltb p n h, s)
 
--- the search through the rows finds what is held under the name
-find-held : {t : List ℕ} {n : ℕ} {ms : List Motif} (name : List ℕ) → Bytes name → Rows t n ms → Finds ms name (findIn t (keyOf name) n)
-unfolding findIn heldAs
-find-held name q rows-none = finds-none refl
-find-held {t} {n = suc n} name q (rows-more {m = m} {ms = ms} a b c d e f k) = by (same (m .name) name) refl (find-held name q k)
-  where
-    test : same (keyIn t n) (keyOf name) ≡ same (m .name) name
-    test = ap (λ l. same l (keyOf name)) a ∙ same-key (m .name) name b q
+  pub find-other : p < n → same (keyIn t (orderIn t p)) key ≡ false → Nowhere ≡ findIn t key n
+  unfolding findIn rowAt
+  find-other h s = rw (← e, lt-ltb p n h, s)
 
-    by : (u : Bool) → same (m .name) name ≡ u → Finds ms name (findIn t (keyOf name) n) → Finds (m ∷ ms) name (pick (same (keyIn t n) (keyOf name)) (At n) (findIn t (keyOf name) n))
-    by true u ih = rw (test ∙ u) (finds-at (held-here m ms name u) (record { held = held-first m ms; row = e }))
-    by false u ih = rw (test ∙ u) (finds-below f u ih)
+module _ {t : List ℕ} {n : ℕ} {ms : List Motif} (k : Keeps t n ms) (name : List ℕ) (q : Bytes name) where
+  -- a row that has the key is that of the motif held under the name
+  here : (p : ℕ) → p < n → same (keyIn t (orderIn t p)) (keyOf name) ≡ true → Finds ms name (At (orderIn t p))
+  here p h e =
+      let r = row-held (k .rows) (orderIn t p) (k .sorted .below p h) in
+      let z : keyOf (r .0 .name) ≡ keyOf name = sym (row-key (k .rows) (r .1)) ∙ same-eq (keyIn t (orderIn t p)) (keyOf name) e in
+      let y : r .0 .name ≡ name = key-eq (r .0 .name) name (row-name (k .rows) (r .1)) q z in
+      finds-at (ap (λ x. heldAs x ms) (sym y) ∙ r .1 .held) (r .1)
+
+  -- and where a motif is held under the name, the first place whose name is not before it is its place
+  only : (p : ℕ) → First (keyIn t) (orderIn t) (keyOf name) n p → (m : Motif) → heldAs name ms ≡ Held.is m → (p < n) × (same (keyIn t (orderIn t p)) (keyOf name) ≡ true)
+  only p f m h = by (e .0) (e .1 .0) key (three (e .0) p)
+    where
+      r : InRow ms (m .number - 1) m
+      r = held-in name (k .rows) h
+
+      e : (j : ℕ) × ((j < n) × (orderIn t j ≡ m .number - 1))
+      e = k .sorted .each (m .number - 1) (in-below (k .rows) r)
+
+      key : keyIn t (orderIn t (e .0)) ≡ keyOf name
+      key = ap (keyIn t) (e .1 .1) ∙ row-key (k .rows) r ∙ ap keyOf (held-row name (k .rows) h .0)
+
+      by : (j : ℕ) → j < n → keyIn t (orderIn t j) ≡ keyOf name → Three j p → (p < n) × (same (keyIn t (orderIn t p)) (keyOf name) ≡ true)
+      by j l w (lower a) = absurd (not-before (keyIn t (orderIn t j)) (keyOf name) w (f .lower j a))
+      by j l w (level a) = (omega arith, rw (← a, w) (same-refl (keyOf name)))
+      by j l w (higher a) =
+          let u : p ≤ p = omega arith in
+          let v : before (keyIn t (orderIn t p)) (keyOf name) ≡ true = rw (← w) (k .sorted .rising p j a l) in
+          clash-of (sym v ∙ f .upper p u (omega arith))
+
+  -- the search finds what is held under the name
+  pub find-held : Finds ms name (findIn t (keyOf name) n)
+  unfolding findIn rowAt placeOf
+  find-held = by (ltb p n) refl (same (keyIn t (orderIn t p)) (keyOf name)) refl (heldAs name ms) refl
+    where
+      p : ℕ
+      p = placeOf t (keyOf name) n
+
+      f : First (keyIn t) (orderIn t) (keyOf name) n p
+      f = place-first (keyIn t) (orderIn t) (keyOf name) n (k .sorted) (k .most)
+
+      by : (u : Bool) → ltb p n ≡ u → (v : Bool) → same (keyIn t (orderIn t p)) (keyOf name) ≡ v → (x : Held) → heldAs name ms ≡ x
+          → Finds ms name (pick u (pick v (At (orderIn t p)) Nowhere) Nowhere)
+      by true u true v x e = here p (ltb-true p n u) v
+      by true u false v Held.none e = finds-none e
+      by true u false v (Held.is m) e = clash-of (sym (only p f m e .1) ∙ v)
+      by false u v w Held.none e = finds-none e
+      by false u v w (Held.is m) e = absurd (omega (arith, ltb-false p n u, only p f m e .0))
 
 -- what a search through the rows in use promises
 pub found : (t name : List ℕ) (held n : ℕ) (r : Where) → Bytes name → (n ≡ few held) × ((n ≤ 64) × (held ≤ 64 → n ≡ held)) → r ≡ findIn t (keyOf name) n
     → Row r × ((r ≡ findIn t (keyOf name) (few held)) × ((ms : List Motif) → Keeps t held ms → Finds ms name r))
 found t name held n r q u e = (
-  rw e (find-row t (keyOf name) n (u .1 .0)),
-  (e ∙ ap (findIn t (keyOf name)) (u .0), λ ms k. rw (e, u .1 .1 (k .most)) (find-held name q (k .rows))),
+  rw e (find-row t (keyOf name) n),
+  (e ∙ ap (findIn t (keyOf name)) (u .0), λ ms k. rw (e, u .1 .1 (k .most)) (find-held k name q)),
 )

@@ -33,7 +33,7 @@ spread : (y p g : ℕ) → (y + p) * 256 + g ≡ y * 256 + (p * 256 + g)
 spread y p g = omega arith
 
 -- the first byte is the highest
-packed-cons : (x : ℕ) (xs : List ℕ) (k : ℕ) → packed (x ∷ xs) 0 (suc k) ≡ x * 256 ^ k + packed xs 0 k
+pub packed-cons : (x : ℕ) (xs : List ℕ) (k : ℕ) → packed (x ∷ xs) 0 (suc k) ≡ x * 256 ^ k + packed xs 0 k
 unfolding packed
 packed-cons x xs zero = rw (pow-zero, mul-one, zero-add) (sym (add-zero x))
 packed-cons x xs (suc k) =
@@ -41,7 +41,7 @@ packed-cons x xs (suc k) =
     rw (e, zero-add, zero-add, pow-suc, ← mul-assoc x (256 ^ k) 256) (spread (x * 256 ^ k) (packed xs 0 k) (getD xs k 0))
 
 -- the first sixteen are the first eight and the next eight
-packed-split : (s : List ℕ) (n k : ℕ) → packed s 0 (n + k) ≡ packed s 0 n * 256 ^ k + packed s n k
+pub packed-split : (s : List ℕ) (n k : ℕ) → packed s 0 (n + k) ≡ packed s 0 n * 256 ^ k + packed s n k
 unfolding packed
 packed-split s n zero = rw (add-zero n, pow-zero, mul-one) (sym (add-zero (packed s 0 n)))
 packed-split s n (suc k) =
@@ -50,7 +50,7 @@ packed-split s n (suc k) =
 
 -- numbers of two digits are the same only where both are
 module _ (x y w a b : ℕ) (e : x * w + a ≡ y * w + b) (h : a < w) (k : b < w) where
-  high-same : x ≡ y
+  pub high-same : x ≡ y
   high-same = by (ltb x y) (ltb y x) refl refl
     where
       by : (s t : Bool) → ltb x y ≡ s → ltb y x ≡ t → x ≡ y
@@ -58,7 +58,7 @@ module _ (x y w a b : ℕ) (e : x * w + a ≡ y * w + b) (h : a < w) (k : b < w)
       by false true p q = absurd (let z : y * w + w ≤ x * w = rw suc-mul at (mul-le-mul-right {m = suc y} {n = x} w (ltb-true y x q)) in omega arith)
       by false false p q = omega (arith, ltb-false x y p, ltb-false y x q)
 
-  low-same : a ≡ b
+  pub low-same : a ≡ b
   low-same = let z : x * w ≡ y * w = ap (λ v. v * w) high-same in omega arith
 
 -- bytes of one length, at most k of them, that come to the same number are the same
@@ -76,7 +76,7 @@ packed-same (suc k) (x ∷ xs) (y ∷ ys) p q a l e =
     λ j. c j ∷ d j
 
 -- the same key is the same name, of whatever length the other one is
-key-eq : (a b : List ℕ) → IsName a → Bytes b → keyOf a ≡ keyOf b → a ≡ b
+pub key-eq : (a b : List ℕ) → IsName a → Bytes b → keyOf a ≡ keyOf b → a ≡ b
 unfolding keyOf
 key-eq a b n q e =
     let c : packed a 0 8 ≡ packed b 0 8 = ap (λ (l : List ℕ). getD l 0 0) e in

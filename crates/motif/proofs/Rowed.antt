@@ -1,6 +1,7 @@
--- Laws of the rows that keep the held motifs: each row is that of one motif, and each motif has one row; numbers of the columns behind the first five may change.
+-- Laws of the rows that keep the held motifs: each row is that of one motif, and each motif has one row; numbers of the columns behind the first five may change,
+-- and leave the order of names as it was.
 -- Assumes nothing.
-use Prim.Native.Nat.{ℕ, suc, _+_, _-_, _*_, _≤_, _<_}
+use Prim.Native.Nat.{ℕ, suc, _+_, _-_, _*_, _%_, _≤_, _<_}
 use mathlib.Core.Logic.{_≢_}
 use mathlib.Core.Path.{_≡_, refl, sym, ap, _∙_}
 use mathlib.Core.Bool.{Bool, true, false}
@@ -13,7 +14,9 @@ use borrow.Author.Tests.{eqb-true, eqb-false}
 use Rattle.scope.specs.Choice.{same}
 use Rattle.scope.specs.Motif.{Motif, Held, heldAs}
 use Rattle.scope.proofs.Apart.{same-refl, same-eq}
-use Rattle.motif.specs.Held.{Rows, rows-none, rows-more, Keeps, InRow}
+use Rattle.motif.specs.Sorted.{Sorted}
+use Rattle.motif.specs.Held.{Rows, rows-none, rows-more, Keeps, InRow, keyIn, orderIn}
+use Rattle.motif.proofs.Sorting.{sorted-none, sorted-alike}
 
 -- which motif is held, if any
 abbrev heldOr : Motif → Held → Motif
@@ -113,6 +116,16 @@ row-one {t} {n = suc n} {i = i} {a = a} {b = b} (rows-more {m = x} {ms = xs} p q
     by false true c d ih = absurd (high b a v d u c)
     by false false c d ih = ih (under a u c) (under b v d)
 
+-- a number of a row that is not of its name changes nothing of the order
+pub sorted-beside : (t : List ℕ) {n : ℕ} (i k v : ℕ) → i < 64 → 3 ≤ k → k < 10 → Sorted (keyIn t) (orderIn t) n → Sorted (keyIn (set t (i * 10 + k) v)) (orderIn (set t (i * 10 + k) v)) n
+sorted-beside t i k v q l h s = sorted-alike (λ j w. λ x. other j 0 (omega arith) x ∷ other j 1 (omega arith) x ∷ other j 2 (omega arith) x ∷ []) (λ j w. ap (λ x. x % 64) (column j)) s
+  where
+    other : (j c : ℕ) → c < 3 → getD (set t (i * 10 + k) v) (j * 10 + c) 0 ≡ getD t (j * 10 + c) 0
+    other j c w = let z : j * 10 + c ≢ i * 10 + k = λ y. omega arith in getD-set-other t (i * 10 + k) (j * 10 + c) v 0 z
+
+    column : (j : ℕ) → getD (set t (i * 10 + k) v) (640 + j) 0 ≡ getD t (640 + j) 0
+    column j = let z : 640 + j ≢ i * 10 + k = λ y. omega arith in getD-set-other t (i * 10 + k) (640 + j) v 0 z
+
 -- a number of a column behind the first five may change
 pub rows-beside : {t : List ℕ} {n : ℕ} {ms : List Motif} (i k v : ℕ) → 5 ≤ k → k < 10 → Rows t n ms → Rows (set t (i * 10 + k) v) n ms
 rows-beside i k v l h rows-none = rows-none
@@ -125,5 +138,11 @@ rows-beside {t} i k v l h (rows-more {n = n} {m = m} {ms = ms} p q r s e f u) =
     ap3 : {a b c x y z : ℕ} → a ≡ x → b ≡ y → c ≡ z → a ∷ b ∷ c ∷ [] ≡ x ∷ y ∷ z ∷ []
     ap3 a b c = λ j. a j ∷ b j ∷ c j ∷ []
 
-pub keeps-beside : {t : List ℕ} {n : ℕ} {ms : List Motif} (i k v : ℕ) → 5 ≤ k → k < 10 → Keeps t n ms → Keeps (set t (i * 10 + k) v) n ms
-keeps-beside {t} i k v l h s = record { sized = simp length-set (s .sized); most = s .most; rows = rows-beside i k v l h (s .rows) }
+-- and the column is as it was
+pub keeps-beside : {t : List ℕ} {n : ℕ} {ms : List Motif} (i k v : ℕ) → i < 64 → 5 ≤ k → k < 10 → Keeps t n ms → Keeps (set t (i * 10 + k) v) n ms
+keeps-beside {t} i k v q l h s =
+    record { sized = simp length-set (s .sized); most = s .most; rows = rows-beside i k v l h (s .rows); sorted = sorted-beside t i k v q (omega arith) h (s .sorted) }
+
+-- no motif is held
+pub keeps-none : (t : List ℕ) → length t ≡ 704 → Keeps t 0 []
+keeps-none t h = record { sized = h; most = omega arith; rows = rows-none; sorted = sorted-none (keyIn t) (orderIn t) }

@@ -1,13 +1,14 @@
--- How the code keeps the held motifs: a table of 64 rows of ten numbers, row 0 for the first motif of the session. A row has the motif's name as three numbers
--- (Keys), where its bytes begin in the store and how many they are, its level, its summary, whom it calls, and whether it names one that is not held (Tables); one
--- number is spare.
+-- How the code keeps the held motifs: a table of 64 rows of ten numbers, row 0 for the first motif of the session, and behind the rows a column of 64 row numbers
+-- in the order of names. A row has the motif's name as three numbers (Keys), where its bytes begin in the store and how many they are, its level, its summary, whom
+-- it calls, and whether it names one that is not held (Tables); one number is spare.
 -- Assumes nothing.
-use Prim.Native.Nat.{ℕ, suc, _+_, _*_, _≤_}
+use Prim.Native.Nat.{ℕ, suc, _+_, _*_, _%_, _≤_}
 use mathlib.Core.Path.{_≡_}
 use mathlib.Core.List.{List, [], _∷_, _++_}
 use lib.ListN.{length, getD}
 use Rattle.scope.specs.Motif.{Motif, Held, heldAs, bytesHeld}
 use Rattle.motif.specs.Keys.{keyOf, IsName}
+use Rattle.motif.specs.Sorted.{Sorted}
 use Rattle.motif.specs.declared.held.Where.{Where}
 use Rattle.motif.specs.declared.held.Where.the-variants.{At, Nowhere}
 
@@ -37,6 +38,10 @@ callsIn t i = cell t i 7
 abbrev pub missingIn : List ℕ → ℕ → ℕ
 missingIn t i = cell t i 8
 
+-- the row at place k of the column
+abbrev pub orderIn : List ℕ → ℕ → ℕ
+orderIn t k = getD t (640 + k) 0 % 64
+
 -- the first n rows keep n motifs, which stand last one first: of each its name, which no other has, and the place of its bytes in the store, behind those of the
 -- motifs before it
 pub data Rows (t : List ℕ) : ℕ → List Motif → Type 0 where
@@ -44,11 +49,12 @@ pub data Rows (t : List ℕ) : ℕ → List Motif → Type 0 where
   rows-more : {n : ℕ} {m : Motif} {ms : List Motif} → keyIn t n ≡ keyOf (m .name) → IsName (m .name) → startIn t n ≡ bytesHeld ms → longIn t n ≡ length (m .bytes)
       → m .number ≡ suc n → heldAs (m .name) ms ≡ Held.none → Rows t n ms → Rows t (suc n) (m ∷ ms)
 
--- the table keeps n motifs by name
+-- the table keeps n motifs, and the column has them in the order of their names
 pub record Keeps (t : List ℕ) (n : ℕ) (ms : List Motif) : Type 0 where
-  pub sized : length t ≡ 640
+  pub sized : length t ≡ 704
   pub most : n ≤ 64
   pub rows : Rows t n ms
+  pub sorted : Sorted (keyIn t) (orderIn t) n
 
 -- m is the motif of row i
 pub record InRow (ms : List Motif) (i : ℕ) (m : Motif) : Type 0 where

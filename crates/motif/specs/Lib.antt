@@ -1,4 +1,6 @@
 pub mod Keys
+pub mod Before
+pub mod Sorted
 pub mod Views
 pub mod Held
 pub mod Search

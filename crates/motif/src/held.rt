@@ -8,6 +8,7 @@ ghost use Rattle.motif.specs.Keys.{keyOf};
 ghost use Rattle.motif.specs.Views.{keyAs};
 ghost use Rattle.motif.specs.Held.{keyIn, Keeps, Finds};
 ghost use Rattle.motif.specs.Search.{few, findIn, Row};
+use crate::column::place_of;
 use crate::key::Key;
 use crate::key::key_of;
 use names::limits::MOTIFS_MOST;
@@ -30,6 +31,9 @@ pub const CALLS: usize = 7;
 
 pub const MISSING: usize = 8;
 
+// Behind the 64 rows the column of their numbers in the order of names.
+pub const ORDER: usize = 640;
+
 // The row of a held motif, or none.
 pub enum Where {
     At(usize),
@@ -50,7 +54,7 @@ pub fn in_use(held: usize) -> usize
 }
 
 // Row i is that of a name: lengths first, most names differ there.
-fn is_name(motifs: &[usize; 640], i: usize, key: Key) -> bool
+fn is_name(motifs: &[usize; 704], i: usize, key: Key) -> bool
     requires { ⌜ i < 64 ⌝ }
     ensures { λ r. ⌜ r ≡ same (keyIn (now (motifs .entry)) i) (keyAs key) ⌝ }
 {
@@ -63,19 +67,21 @@ fn is_name(motifs: &[usize; 640], i: usize, key: Key) -> bool
     motifs[i * ROW + 1] == key.next
 }
 
-// The row of the motif held under a name.
-pub fn find(motifs: &[usize; 640], held: usize, name: &[u8]) -> Where
+// The row of the motif held under a name: it stands at the first place whose name is not before that one.
+pub fn find(motifs: &[usize; 704], held: usize, name: &[u8]) -> Where
     ensures { λ r. ⌜ Row r ⌝ }
     ensures { λ r. ⌜ r ≡ findIn (now (motifs .entry)) (keyOf (now (name .entry))) (few held) ⌝ }
     ensures { λ r. ⌜ ((ms : List Motif) → Keeps (now (motifs .entry)) held ms → Finds ms (now (name .entry)) r) ⌝ }
 {
     let key = key_of(name);
-    let mut i = in_use(held);
-    while 0 < i {
-        i -= 1;
-        if is_name(motifs, i, key) {
-            return Where::At(i);
-        }
+    let n = in_use(held);
+    let place = place_of(motifs, n, key);
+    if n <= place {
+        return Where::Nowhere;
+    }
+    let i = motifs[ORDER + place] % MOTIFS_MOST;
+    if is_name(motifs, i, key) {
+        return Where::At(i);
     }
     Where::Nowhere
 }

@@ -1,14 +1,17 @@
 // The held motifs: their table, and how a name finds its row.
+mod column;
 mod held;
 mod kept;
 mod key;
 mod marks;
 mod part;
 
+pub use column::enter;
 pub use held::CALLS;
 pub use held::LENGTH;
 pub use held::LEVEL;
 pub use held::MISSING;
+pub use held::ORDER;
 pub use held::ROW;
 pub use held::START;
 pub use held::SUM;

@@ -49,7 +49,7 @@ fn one(mark: usize) -> usize
 }
 
 // What the motif of a row adds to the way there: its ring's calls, or its own call of a motif not held.
-fn added(motifs: &[usize; 640], steps: &[usize; 64], row: usize, kind: Kind) -> usize
+fn added(motifs: &[usize; 704], steps: &[usize; 64], row: usize, kind: Kind) -> usize
     ensures { λ r. ⌜ r ≤ 1000 ⌝ }
 {
     if 63 < row {
@@ -62,7 +62,7 @@ fn added(motifs: &[usize; 640], steps: &[usize; 64], row: usize, kind: Kind) -> 
 }
 
 // The row to which the fewest calls lead from one, with those that it adds; NOBODY if there is none within what counts.
-fn nearest(motifs: &[usize; 640], held: usize, from: usize, kind: Kind) -> usize {
+fn nearest(motifs: &[usize; 704], held: usize, from: usize, kind: Kind) -> usize {
     let mut next = [0usize; 64];
     let mut steps = [0usize; 64];
     let many = in_use(held);
@@ -82,7 +82,7 @@ fn nearest(motifs: &[usize; 640], held: usize, from: usize, kind: Kind) -> usize
 }
 
 // The row where the nearest ring that a call of a row comes to begins, and in `next` whom each motif of it calls; NOBODY if there is none.
-pub fn ring(motifs: &[usize; 640], held: usize, from: usize, next: &mut [usize; 64]) -> usize {
+pub fn ring(motifs: &[usize; 704], held: usize, from: usize, next: &mut [usize; 64]) -> usize {
     let found = nearest(motifs, held, from, Kind::Ring);
     let mut steps = [0usize; 64];
     toward(motifs, held, found, next, &mut steps);
@@ -90,6 +90,6 @@ pub fn ring(motifs: &[usize; 640], held: usize, from: usize, next: &mut [usize; 
 }
 
 // The row of the nearest motif that a call of a row comes to and that names one not held; NOBODY if there is none.
-pub fn lacking(motifs: &[usize; 640], held: usize, from: usize) -> usize {
+pub fn lacking(motifs: &[usize; 704], held: usize, from: usize) -> usize {
     nearest(motifs, held, from, Kind::Lacks)
 }

@@ -8,7 +8,7 @@ use motif::in_use;
 pub const CALLS_MOST: usize = 32;
 
 // The motif of row x calls that of row y.
-fn calls(motifs: &[usize; 640], x: usize, y: usize) -> bool {
+fn calls(motifs: &[usize; 704], x: usize, y: usize) -> bool {
     if 63 < x {
         return false;
     }
@@ -17,7 +17,7 @@ fn calls(motifs: &[usize; 640], x: usize, y: usize) -> bool {
 
 // The motif of row x calls that of row y, which is t - 1 calls from the goal.
 fn leads(
-    motifs: &[usize; 640],
+    motifs: &[usize; 704],
     steps: &[usize; 64],
     goal: usize,
     x: usize,
@@ -38,7 +38,7 @@ fn leads(
 
 // Whom the motif of row x calls that is t - 1 calls from the goal; as many as are in use if none.
 fn nearer(
-    motifs: &[usize; 640],
+    motifs: &[usize; 704],
     held: usize,
     steps: &[usize; 64],
     goal: usize,
@@ -58,7 +58,7 @@ fn nearer(
 
 // Row x, if it has no number yet, gets t where it calls one that is t - 1 calls from the goal.
 fn mark(
-    motifs: &[usize; 640],
+    motifs: &[usize; 704],
     held: usize,
     goal: usize,
     x: usize,
@@ -81,7 +81,7 @@ fn mark(
 
 // Round t, over all rows.
 fn round(
-    motifs: &[usize; 640],
+    motifs: &[usize; 704],
     held: usize,
     goal: usize,
     t: usize,
@@ -98,7 +98,7 @@ fn round(
 
 // How many calls lead to the goal from each row, 0 if none do, and whom it calls first; of the goal itself the shortest ring through it.
 pub fn toward(
-    motifs: &[usize; 640],
+    motifs: &[usize; 704],
     held: usize,
     goal: usize,
     next: &mut [usize; 64],
@@ -114,7 +114,7 @@ pub fn toward(
 
 // All rounds.
 fn rounds(
-    motifs: &[usize; 640],
+    motifs: &[usize; 704],
     held: usize,
     goal: usize,
     next: &mut [usize; 64],

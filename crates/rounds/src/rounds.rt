@@ -31,7 +31,7 @@ fn earlier(called: bool, level: usize, t: usize) -> bool
 }
 
 // Every motif that motif i calls has its level from an earlier round.
-fn ready(motifs: &[usize; 640], n: usize, i: usize, t: usize) -> bool
+fn ready(motifs: &[usize; 704], n: usize, i: usize, t: usize) -> bool
     requires { ⌜ n ≤ 64 ⌝ }
     requires { ⌜ i < 64 ⌝ }
     ensures { λ r. ⌜ r ≡ readyOf (now (motifs .entry)) n i t ⌝ }
@@ -48,7 +48,7 @@ fn ready(motifs: &[usize; 640], n: usize, i: usize, t: usize) -> bool
 }
 
 // The level of the motif of row i after round t, where some have theirs from rounds before; 0 for none.
-pub fn next(motifs: &[usize; 640], held: usize, i: usize, t: usize) -> usize
+pub fn next(motifs: &[usize; 704], held: usize, i: usize, t: usize) -> usize
     ensures { λ r. ⌜ r ≡ nextOf (now (motifs .entry)) (few held) i t ⌝ }
 {
     if MOTIFS_MOST <= i {
@@ -66,7 +66,7 @@ pub fn next(motifs: &[usize; 640], held: usize, i: usize, t: usize) -> usize
 }
 
 // The level of the motif of row i, which has none yet, where all others have theirs.
-pub fn level_of(motifs: &[usize; 640], held: usize, i: usize) -> usize
+pub fn level_of(motifs: &[usize; 704], held: usize, i: usize) -> usize
     ensures { λ r. ⌜ ((ms : List Motif) (m : Motif) → Keeps (now (motifs .entry)) held ms → Noted (now (motifs .entry)) held ms → InRow ms i m
         → levelIn (now (motifs .entry)) i ≡ 0 → LevelsBut (now (motifs .entry)) ms i → callsRow ms (m .ops) i ≡ false → r ≡ levelOf ms 32 (m .name)) ⌝ }
 {

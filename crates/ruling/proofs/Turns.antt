@@ -201,7 +201,7 @@ module _ (job list₀ : List ℕ) (set : Setting) (end : Outcome) where
 
 -- before the first item
 pub starts : (set : Setting) (job list₀ : List ℕ) (l : Lent) (st : Code.State) (next : ℕ) → st .at ≡ next → PlaceHolds set job (l .work) (l .table) (st .place) (session.outside false)
-    → st .performed ≡ 0 → st .records ≡ 0 → l .list ≡ list₀ → length (l .table) ≡ 640 → Stands set job list₀ l st (starting next)
+    → st .performed ≡ 0 → st .records ≡ 0 → l .list ≡ list₀ → length (l .table) ≡ 704 → Stands set job list₀ l st (starting next)
 unfolding verdict.recordsBefore
 starts set job list₀ l st next a p b c e x =
     record { at = a; place = p; performed = b; records = c; counted = refl; listed = record { is = e }; table-long = x }
@@ -233,7 +233,7 @@ module _ (job list₀ : List ℕ) (l : Lent) (st : Code.State) (d : State) (set 
 
 -- what the session knows of an operator that was read
 pub comes-in : (job attrs work t list₀ : List ℕ) (set : Setting) (d : State) (o : Reader.Operator) (early : Early) (page : Page) (n : ℕ) (place : Place)
-    → PlaceHolds set job work t place (d .place) → Sized attrs (o .count) → length t ≡ 640 → 16384 ≤ length work → o .first + o .length ≤ length job
+    → PlaceHolds set job work t place (d .place) → Sized attrs (o .count) → length t ≡ 704 → 16384 ≤ length work → o .first + o .length ≤ length job
     → Comes t job list₀ set d (operatorAs o attrs) early page n → Afterwards.Comes job attrs set o early page work t place (d .place) d
 unfolding contextOf
 comes-in job attrs work t list₀ set d o early page n place h z x w i m =

@@ -11,7 +11,7 @@ use Rattle.motif.specs.Held.{cell}
 
 module _ (t : List ℕ) (i k v : ℕ) where
   -- the number that was stored
-  pub cell-there : length t ≡ 640 → i < 64 → k < 10 → cell (set t (i * 10 + k) v) i k ≡ v
+  pub cell-there : length t ≡ 704 → i < 64 → k < 10 → cell (set t (i * 10 + k) v) i k ≡ v
   cell-there l h w = let z : i * 10 + k < length t = omega arith in getD-set-same t (i * 10 + k) v 0 z
 
   -- a number of another row, or of another column

@@ -41,7 +41,7 @@ module _ (t : List ℕ) (i calls missing : ℕ) where
       cell-row three i 8 missing k c h (omega arith) l ∙ cell-row two i 7 calls k c h (omega arith) l ∙ cell-row one i 6 48 k c h (omega arith) l
       ∙ cell-row t i 5 0 k c h (omega arith) l
 
-  module _ (l : length t ≡ 640) (h : i < 64) where
+  module _ (l : length t ≡ 704) (h : i < 64) where
     -- and the row has what was stored
     its-level : levelIn (noted t i calls missing) i ≡ 0
     its-level =
@@ -65,15 +65,15 @@ pub noted-more : (t : List ℕ) (n : ℕ) (ms : List Motif) (i calls missing : �
     → NotedTo (noted t i calls missing) n ms (i + 1)
 noted-more t n ms i calls missing h w whom lacks =
     record {
-      keeps = keeps-beside i 8 missing (omega arith) (omega arith)
-          (keeps-beside i 7 calls (omega arith) (omega arith) (keeps-beside i 6 48 (omega arith) (omega arith) (keeps-beside i 5 0 (omega arith) (omega arith) (w .keeps))));
+      keeps = keeps-beside i 8 missing h (omega arith) (omega arith)
+          (keeps-beside i 7 calls h (omega arith) (omega arith) (keeps-beside i 6 48 h (omega arith) (omega arith) (keeps-beside i 5 0 h (omega arith) (omega arith) (w .keeps))));
       whom = λ k j m r l q. whom-at k j m r l q (eqb k i) refl;
       lacks = λ k m r l. lacks-at k m r l (eqb k i) refl;
       unsettled = λ k m r l. level-at k m r l (eqb k i) refl;
       empty = λ k m r l. sum-at k m r l (eqb k i) refl;
     }
   where
-    s : length t ≡ 640
+    s : length t ≡ 704
     s = w .keeps .sized
 
     below : (k : ℕ) → k < i + 1 → eqb k i ≡ false → k < i

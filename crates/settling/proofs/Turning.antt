@@ -55,7 +55,7 @@ module _ (t : List ℕ) (i level sum : ℕ) where
   other-column : (k c : ℕ) → 6 < c → c < 10 → cell (turned t i level sum) k c ≡ cell t k c
   other-column k c h l = cell-column one i 6 sum k c (λ y. omega arith) (omega arith) l ∙ cell-column t i 5 level k c (λ y. omega arith) (omega arith) l
 
-  module _ (l : length t ≡ 640) (h : i < 64) where
+  module _ (l : length t ≡ 704) (h : i < 64) where
     -- and the row has what was stored
     its-level : levelIn (turned t i level sum) i ≡ level
     its-level = cell-column one i 6 sum i 5 (λ y. omega arith) (omega arith) (omega arith) ∙ cell-there t i 5 level l h (omega arith)
@@ -115,7 +115,7 @@ module _ (t : List ℕ) (n : ℕ) (ms : List Motif) (d i : ℕ) (w : Turned t n 
     pub turned-more : Turned (turned t i level sum) n ms d (i + 1)
     turned-more =
         record {
-          keeps = keeps-beside i 6 sum (omega arith) (omega arith) (keeps-beside i 5 level (omega arith) (omega arith) (w .keeps));
+          keeps = keeps-beside i 6 sum h (omega arith) (omega arith) (keeps-beside i 5 level h (omega arith) (omega arith) (w .keeps));
           noted = record {
             whom = λ k j m r l. rw (other-column t i level sum k 7 (omega arith) (omega arith)) (w .noted .whom k j m r l);
             lacks = λ k m r. rw (other-column t i level sum k 8 (omega arith) (omega arith)) (w .noted .lacks k m r);

@@ -50,7 +50,7 @@ fn made_of(judged: Judged) -> Made
 }
 
 // The motif of row i as its bytes say; of one that does not lie in the store, nothing.
-fn read(work: &[u8], set: Setting, motifs: &[usize; 640], held: usize, i: usize) -> Made
+fn read(work: &[u8], set: Setting, motifs: &[usize; 704], held: usize, i: usize) -> Made
     requires { ⌜ i < 64 ⌝ }
     ensures { λ r. ⌜ ((ms : List Motif) (m : Motif) → Keeps (now (motifs .entry)) held ms → InStore (settingAs set) (now (work .entry)) ms → InRow ms i m
         → Makes (now (motifs .entry)) ms r (m .ops)) ⌝ }
@@ -75,7 +75,7 @@ fn number_of(b: bool) -> usize
 }
 
 // Whom the motif of row i calls, and whether it names one that is not held; it has no level yet.
-fn note(work: &[u8], set: Setting, motifs: &mut [usize; 640], held: usize, i: usize)
+fn note(work: &[u8], set: Setting, motifs: &mut [usize; 704], held: usize, i: usize)
     requires { ⌜ i < 64 ⌝ }
     ensures { λ _. ⌜ length (now (motifs .exit)) ≡ length (now (motifs .entry)) ⌝ }
     ensures { λ _. ⌜ ((ms : List Motif) → InStore (settingAs set) (now (work .entry)) ms → NotedTo (now (motifs .entry)) held ms i
@@ -90,7 +90,7 @@ fn note(work: &[u8], set: Setting, motifs: &mut [usize; 640], held: usize, i: us
 }
 
 // Every motif noted.
-fn note_all(work: &[u8], set: Setting, motifs: &mut [usize; 640], held: usize)
+fn note_all(work: &[u8], set: Setting, motifs: &mut [usize; 704], held: usize)
     requires { ⌜ held ≤ 64 ⌝ }
     ensures { λ _. ⌜ length (now (motifs .exit)) ≡ length (now (motifs .entry)) ⌝ }
     ensures { λ _. ⌜ ((ms : List Motif) → InStore (settingAs set) (now (work .entry)) ms → Keeps (now (motifs .entry)) held ms
@@ -107,7 +107,7 @@ fn note_all(work: &[u8], set: Setting, motifs: &mut [usize; 640], held: usize)
 fn sum_next(
     work: &[u8],
     set: Setting,
-    motifs: &[usize; 640],
+    motifs: &[usize; 704],
     held: usize,
     i: usize,
     level: usize,
@@ -129,7 +129,7 @@ fn sum_next(
 }
 
 // Round t: each motif that gets its level in it is summed up from those that it calls, which have theirs from earlier rounds.
-fn one_round(work: &[u8], set: Setting, motifs: &mut [usize; 640], held: usize, t: usize)
+fn one_round(work: &[u8], set: Setting, motifs: &mut [usize; 704], held: usize, t: usize)
     requires { ⌜ held ≤ 64 ⌝ }
     ensures { λ _. ⌜ length (now (motifs .exit)) ≡ length (now (motifs .entry)) ⌝ }
     ensures { λ _. ⌜ ((ms : List Motif) (d : ℕ) → t ≡ suc d → d < 32 → InStore (settingAs set) (now (work .entry)) ms → Rounded (now (motifs .entry)) held ms d
@@ -146,7 +146,7 @@ fn one_round(work: &[u8], set: Setting, motifs: &mut [usize; 640], held: usize, 
 }
 
 // The table made anew: whom each motif calls, its level, its summary.
-pub fn remake(work: &[u8], set: Setting, motifs: &mut [usize; 640], held: usize)
+pub fn remake(work: &[u8], set: Setting, motifs: &mut [usize; 704], held: usize)
     ensures { λ _. ⌜ length (now (motifs .exit)) ≡ length (now (motifs .entry)) ⌝ }
     ensures { λ _. ⌜ ((ms : List Motif) → Keeps (now (motifs .entry)) held ms → Stores (now (work .entry)) ms → Sound (settingAs set) ms
         → Tables (now (motifs .exit)) held ms) ⌝ }

@@ -41,7 +41,7 @@ pub record Stands (set : Setting) (job list₀ : List ℕ) (l : Lent) (st : Stat
   pub records : st .records ≡ d .records
   pub counted : length (verdict.recordsBefore (d .past) []) ≡ d .records * 16
   pub listed : Listed list₀ (d .past) (l .list)
-  pub table-long : length (l .table) ≡ 640
+  pub table-long : length (l .table) ≡ 704
 
 -- after a step the code stands where the definition goes on, or both have ended with the same verdict and list
 pub data Steps (set : Setting) (job list₀ : List ℕ) (l : Lent) : Step → Next scope.State scope.Outcome → Type 0 where

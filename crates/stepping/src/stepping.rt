@@ -74,7 +74,7 @@ fn go_on(
     set: Setting,
     work: &mut [u8],
     list: &mut [u8],
-    motifs: &mut [usize; 640],
+    motifs: &mut [usize; 704],
     attrs: &[usize; 80],
     st: State,
     o: Operator,
@@ -119,7 +119,7 @@ fn perform(
     set: Setting,
     work: &mut [u8],
     list: &mut [u8],
-    motifs: &mut [usize; 640],
+    motifs: &mut [usize; 704],
     attrs: &[usize; 80],
     st: State,
     o: Operator,
@@ -169,7 +169,7 @@ fn advance(
     set: Setting,
     work: &mut [u8],
     list: &mut [u8],
-    motifs: &mut [usize; 640],
+    motifs: &mut [usize; 704],
     attrs: &mut [usize; 80],
     st: State,
 ) -> Step
@@ -206,7 +206,7 @@ fn items_from(job: &[u8], set: Setting, next: usize, work: &mut [u8], list: &mut
     ensures { λ r. ⌜ (verdictAs r ≡ verdict.told (judgedFrom every (settingAs set) (now (job .entry)) (length (now (list .entry))) (scope.starting next)))
         × Listed (now (list .entry)) (judgedFrom every (settingAs set) (now (job .entry)) (length (now (list .entry))) (scope.starting next) .state .past) (now (list .exit)) ⌝ }
 {
-    let mut motifs = [0usize; 640];
+    let mut motifs = [0usize; 704];
     let mut attrs = [0usize; 80];
     let mut st = State {
         at: next,

@@ -121,7 +121,7 @@ fn call(
     o: Operator,
     attrs: &[usize; 80],
     inside: Inside,
-    motifs: &[usize; 640],
+    motifs: &[usize; 704],
     held: usize,
 ) -> Inside
     ensures { λ r. ⌜ (r .at ≡ o .next) × (r .saved ≤ inside .saved + 1) ⌝ }
@@ -202,7 +202,7 @@ fn advance(
     s: &[u8],
     set: Setting,
     inside: Inside,
-    motifs: &[usize; 640],
+    motifs: &[usize; 704],
     held: usize,
     attrs: &mut [usize; 80],
 ) -> Turn
@@ -261,7 +261,7 @@ fn operators(
     s: &[u8],
     set: Setting,
     next: usize,
-    motifs: &[usize; 640],
+    motifs: &[usize; 704],
     held: usize,
     attrs: &mut [usize; 80],
 ) -> Judged
@@ -308,7 +308,7 @@ fn same_class(a: Class, b: Class) -> bool
 }
 
 // A motif of a job with this setting, where the table keeps these. It has the job's class, else 4.
-pub fn judge_motif(s: &[u8], set: Setting, motifs: &[usize; 640], held: usize) -> Judged
+pub fn judge_motif(s: &[u8], set: Setting, motifs: &[usize; 704], held: usize) -> Judged
     ensures { λ r. ⌜ ((ms : List Motif) → Keeps (now (motifs .entry)) held ms → Judges (now (motifs .entry)) ms r (motifOf (settingAs set) (now (s .entry)))) ⌝ }
 {
     let mut attrs = [0usize; 80];

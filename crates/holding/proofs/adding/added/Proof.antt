@@ -1,10 +1,11 @@
--- `holding::adding::added` meets its contract: the row is written and the table settled, unless all rows are in use.
+-- `holding::adding::added` meets its contract: the row is written, comes into the column, and the table is settled, unless all rows are in use.
 -- Assumes nothing.
 use Prim.Native.Nat.{_+_, _*_, _≤_}
 use mathlib.Core.Path.{refl, ap, _∙_}
 use native.Mathlib.Omega.{arith}
 use lib.ListN.{length}
 use Rattle.motif.specs.Keys.{keyOf}
+use Rattle.motif.specs.Search.{enteredIn}
 use Rattle.holding.specs.Rowing.{newRow}
 use Rattle.holding.proofs.Cells.{written-length}
 use Rattle.holding.proofs.Added.{held-length, added-stored}
@@ -18,24 +19,29 @@ returns c = (refl, λ ms bytes ops k n l q. absurd (omega (arith, held-length k 
 write-row-requires : tie.Need-write-row-requires
 write-row-requires c κs = search needs
 
+enter-requires : tie.Need-enter-requires
+enter-requires c κs = search needs
+
 settle-requires : tie.Need-settle-requires
 settle-requires c κs = search needs
-
-add-t14 : tie.Need-add-t14
-add-t14 c = search needs
 
 add-t15 : tie.Need-add-t15
 add-t15 c = search needs
 
+add-t16 : tie.Need-add-t16
+add-t16 c = search needs
+
 returns-2 : tie.Need-returns-2
 returns-2 c =
-    let a = c .before .before .before .before .before .before .before .args in
-    let w = c .before .before .write-row in
-    let room : a .kept .used + a .joined ≤ length (a .work .now) = omega (arith, c .before .before .before .before .before .before .before .pre) in (
-      c .settle .ensures .0 ∙ ap length (w .ensures) ∙ written-length (newRow (keyOf (a .name .now)) (a .kept .used) (a .joined) (a .made)) (a .motifs .now) (a .kept .held * 10) 0,
-      λ ms bytes ops k n l q. added-stored k n (a .made) l q room _ (w .ensures) _ (c .settle .ensures .1),
+    let a = c .before .before .before .before .before .before .before .before .before .args in
+    let e = c .before .before .enter in
+    let w = c .before .before .before .before .write-row in
+    let room : a .kept .used + a .joined ≤ length (a .work .now) = omega (arith, c .before .before .before .before .before .before .before .before .before .pre) in (
+      c .settle .ensures .0 ∙ e .ensures .0 ∙ ap length (w .ensures) ∙ written-length (newRow (keyOf (a .name .now)) (a .kept .used) (a .joined) (a .made)) (a .motifs .now) (a .kept .held * 10) 0,
+      λ ms bytes ops k n l q. added-stored k n (a .made) l q room _ (e .ensures .1 ∙ ap (λ t. enteredIn t (a .kept .held) (keyOf (a .name .now))) (w .ensures)) _ (c .settle .ensures .1),
     )
 
 pub added-spec : {M : Type 1} → statement M
 added-spec =
-    tie.close (tie.spec returns write-row-requires settle-requires add-t14 add-t15 returns-2)
+    tie.close
+    (tie.spec returns write-row-requires enter-requires settle-requires add-t15 add-t16 returns-2)

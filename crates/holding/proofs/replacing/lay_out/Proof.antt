@@ -5,7 +5,7 @@ use mathlib.Core.Path.{_≡_, sym, subst}
 use Prim.Native.Nat.{_-_, _*_, _≤_, _<_}
 use Rattle.motif.specs.Held.{Rows}
 use Rattle.holding.specs.Rowing.{Named, Laid}
-use Rattle.holding.proofs.Laying.{laid-none, laid-more}
+use Rattle.holding.proofs.Laying.{laid-none, laid-more, laid-sorted}
 use borrow.Author.Needs.{needs}
 use Rattle.holding.proofs.replacing.lay_out.Statement.{statement}
 use Rattle.holding.proofs.replacing.lay_out.Tie as tie
@@ -71,9 +71,12 @@ returns c =
     let u = c .before .before .in-use in
     let a = c .before .before .before .args in (
       l .inv .3 .sized,
-      λ ms s h k b.
-          let e : l .i ≡ a .held = omega (arith, u .ensures .1 .1 h) in
-          subst (λ v. Rows (l .motifs) v ms) e (l .inv .3 .rows ms s (subst (λ v. Named (a .motifs .now) v ms) (sym e) k) b .0),
+      (
+        λ ms s h k b.
+            let e : l .i ≡ a .held = omega (arith, u .ensures .1 .1 h) in
+            subst (λ v. Rows (l .motifs) v ms) e (l .inv .3 .rows ms s (subst (λ v. Named (a .motifs .now) v ms) (sym e) k) b .0),
+        λ n. laid-sorted (a .motifs .now) (l .motifs) (l .i) (l .start) (omega arith) (l .inv .3),
+      ),
     )
 
 pub lay-out-spec : {M : Type 1} → statement M

@@ -94,7 +94,7 @@ returns-2 c =
         b .1,
         (
           c .before .remake .ensures .0 ∙ y .ensures .0 ∙ l,
-          λ name ms bytes ops m k h r. replaced-stored k h r small room within _ (y .ensures .0) (y .ensures .1) _ (p .ensures) _ (c .before .remake .ensures .1),
+          λ name ms bytes ops m k h r. replaced-stored k h r small room within _ (y .ensures .0) (y .ensures .1 .0) (y .ensures .1 .1) _ (p .ensures) _ (c .before .remake .ensures .1),
         ),
       ),
     )

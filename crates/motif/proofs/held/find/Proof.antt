@@ -1,84 +1,84 @@
--- `find` meets its contract: the search goes down from the last row in use, and what it finds is what is held.
+-- `find` meets its contract: the first place whose name is not before the asked one, and a test whether it is that name.
 -- Assumes nothing.
-use Prim.Native.Nat.{_-_, _≤_, _<_}
 use mathlib.Core.Path.{_≡_, sym, ap, _∙_}
 use native.Mathlib.Omega.{arith}
-use Rattle.motif.specs.Keys.{keyOf}
 use Rattle.scope.specs.Choice.{same}
+use Rattle.motif.specs.Keys.{keyOf}
 use Rattle.motif.specs.declared.held.Where.the-variants.{At, Nowhere}
-use Rattle.motif.specs.Held.{keyIn}
-use Rattle.motif.specs.Search.{findIn}
-use Rattle.motif.proofs.Finding.{find-down, find-end, found}
+use Rattle.motif.specs.Held.{keyIn, orderIn}
+use Rattle.motif.specs.Search.{placeOf}
+use Rattle.motif.proofs.Finding.{find-over, find-at, find-other, found}
 use borrow.Author.Needs.{needs}
 use Rattle.motif.proofs.held.find.Statement.{statement}
 use Rattle.motif.proofs.held.find.Tie as tie
 
-abbrev Inv-loop : tie.InvT-loop
-Inv-loop motifs held name key i₀ i = (i ≤ i₀) × (findIn motifs (keyOf name) i ≡ findIn motifs (keyOf name) i₀)
-
-abbrev μ-loop : tie.MeasureT-loop
-μ-loop motifs held name key i₀ i = i
-
-key-of-requires : tie.Need-key-of-requires Inv-loop μ-loop
+key-of-requires : tie.Need-key-of-requires
 key-of-requires c κs = search needs
 
-in-use-requires : tie.Need-in-use-requires Inv-loop μ-loop
+in-use-requires : tie.Need-in-use-requires
 in-use-requires c κs = search needs
 
-loop-holds : tie.Need-loop-holds Inv-loop μ-loop
-loop-holds c = search needs
+place-of-requires : tie.Need-place-of-requires
+place-of-requires c κs = search needs
 
-sub-i : tie.Need-sub-i Inv-loop μ-loop
-sub-i c = search needs
+returns : tie.Need-returns
+returns c =
+    let g = c .before in
+    let u = g .before in
+    let k = u .before in
+    let a = k .before .before .args in
+    let e : g .place-of .result ≡ placeOf (a .motifs .now) (keyOf (a .name .now)) (u .in-use .result) =
+    g .place-of .ensures .1 ∙ ap (λ x. placeOf (a .motifs .now) x (u .in-use .result)) (k .key-of .ensures) in
+    found (a .motifs .now) (a .name .now) (a .held) (u .in-use .result) Nowhere (λ i. omega (arith, k .before .shared-slice-known .given i)) (u .in-use .ensures)
+    (find-over (a .motifs .now) (keyOf (a .name .now)) (u .in-use .result) (g .place-of .result) e (c .if1 .taken))
 
-is-name-requires : tie.Need-is-name-requires Inv-loop μ-loop
+add-i : tie.Need-add-i
+add-i c = search needs
+
+mul-i : tie.Need-mul-i
+mul-i c = search needs
+
+element-copy-out-i : tie.Need-element-copy-out-i
+element-copy-out-i c = search needs
+
+is-name-requires : tie.Need-is-name-requires
 is-name-requires c κs = search needs
 
-returns : tie.Need-returns Inv-loop μ-loop
-returns c = let l = c .before .before .before in
-    let u = l .before in
+returns-2 : tie.Need-returns-2
+returns-2 c =
+    let g = c .before .before .before .before in
+    let u = g .before in
     let k = u .before in
     let a = k .before .before .args in
-    let h : 0 < l .loop .i = omega arith in
-    let d = find-down (a .motifs .now) (keyOf (a .name .now)) (l .loop .i) h in
-    let t = sym (ap (λ x. same (keyIn (a .motifs .now) (l .loop .i - 1)) x) (k .key-of .ensures)) ∙ sym (c .before .is-name .ensures) ∙ c .if1 .taken in
-    found (a .motifs .now) (a .name .now) (a .held) (u .in-use .result) (At (l .loop .i - 1)) (λ i. omega (arith, k .before .shared-slice-known .given i))
-    (u .in-use .ensures) (sym (sym (l .loop .inv .1) ∙ d ∙ rw t))
+    let e : g .place-of .result ≡ placeOf (a .motifs .now) (keyOf (a .name .now)) (u .in-use .result) =
+    g .place-of .ensures .1 ∙ ap (λ x. placeOf (a .motifs .now) x (u .in-use .result)) (k .key-of .ensures) in
+    let t = sym (ap (λ x. same (keyIn (a .motifs .now) (orderIn (a .motifs .now) (g .place-of .result))) x) (k .key-of .ensures)) ∙ sym (c .before .is-name .ensures) ∙ c .if2 .taken in
+    found (a .motifs .now) (a .name .now) (a .held) (u .in-use .result) (At (orderIn (a .motifs .now) (g .place-of .result))) (λ i. omega (arith, k .before .shared-slice-known .given i)) (u .in-use .ensures)
+    (find-at (a .motifs .now) (keyOf (a .name .now)) (u .in-use .result) (g .place-of .result) e (c .before .before .before .if1 .left) t)
 
-loop-less : tie.Need-loop-less Inv-loop μ-loop
-loop-less c = search needs
-
-loop-again : tie.Need-loop-again Inv-loop μ-loop
-loop-again c = let l = c .before .before .before in
-    let u = l .before in
+returns-3 : tie.Need-returns-3
+returns-3 c =
+    let g = c .before .before .before .before in
+    let u = g .before in
     let k = u .before in
     let a = k .before .before .args in
-    let h : 0 < l .loop .i = omega arith in
-    let d = find-down (a .motifs .now) (keyOf (a .name .now)) (l .loop .i) h in
-    let t = sym (ap (λ x. same (keyIn (a .motifs .now) (l .loop .i - 1)) x) (k .key-of .ensures)) ∙ sym (c .before .is-name .ensures) ∙ c .if1 .left in
-    (omega arith, sym (d ∙ rw t) ∙ l .loop .inv .1)
-
-returns-2 : tie.Need-returns-2 Inv-loop μ-loop
-returns-2 c = let l = c .before in
-    let u = l .before in
-    let k = u .before in
-    let a = k .before .before .args in
-    let z : l .loop .i ≡ 0 = omega arith in
+    let e : g .place-of .result ≡ placeOf (a .motifs .now) (keyOf (a .name .now)) (u .in-use .result) =
+    g .place-of .ensures .1 ∙ ap (λ x. placeOf (a .motifs .now) x (u .in-use .result)) (k .key-of .ensures) in
+    let t = sym (ap (λ x. same (keyIn (a .motifs .now) (orderIn (a .motifs .now) (g .place-of .result))) x) (k .key-of .ensures)) ∙ sym (c .before .is-name .ensures) ∙ c .if2 .left in
     found (a .motifs .now) (a .name .now) (a .held) (u .in-use .result) Nowhere (λ i. omega (arith, k .before .shared-slice-known .given i)) (u .in-use .ensures)
-    (sym (find-end (a .motifs .now) (keyOf (a .name .now))) ∙ (rw z at (l .loop .inv .1)))
+    (find-other (a .motifs .now) (keyOf (a .name .now)) (u .in-use .result) (g .place-of .result) e (c .before .before .before .if1 .left) t)
 
 pub find-spec : {M : Type 1} → statement M
 find-spec =
     tie.close
     (tie.spec
-    Inv-loop
-    μ-loop
     key-of-requires
     in-use-requires
-    loop-holds
-    sub-i
-    is-name-requires
+    place-of-requires
     returns
-    loop-less
-    loop-again
-    returns-2)
+    add-i
+    mul-i
+    element-copy-out-i
+    is-name-requires
+    returns-2
+    returns-3)
