@@ -1,7 +1,7 @@
 //! What a run of cases has reached: codes outside and inside motifs, and attribute rules broken.
 
 use crate::generate::{all_rules, class_of, shapes_of, Broken, Class, Need, Size, CLASSES};
-use crate::plain::{Profile, Verdict, NO_INNER};
+use crate::plain::{Profile, Verdict, MOTIFS_MAX, NO_INNER};
 use crate::text::{attribute_name, operator_name, read_header, read_statement, Piece, Statement};
 use std::collections::{BTreeMap, BTreeSet};
 use std::fmt::Write;
@@ -43,7 +43,7 @@ fn takes_real(number: u16, class: Class) -> bool {
 }
 
 /// What some passed job must have, and whether some motif of one too.
-pub const SHOWN: [(&str, bool); 9] = [
+pub const SHOWN: [(&str, bool); 22] = [
     ("zero bytes between items", true),
     ("class 2.1", true),
     ("SetDefaultGS", true),
@@ -53,6 +53,19 @@ pub const SHOWN: [(&str, bool); 9] = [
     ("MediaSize as a name", false),
     ("a replaced motif", false),
     ("a motif that names one not yet held", false),
+    ("a call of one replaced amid others", false),
+    ("a call of a name of 1 byte", false),
+    ("a call of a name of 16 bytes", false),
+    ("a call of a name that begins another", false),
+    ("a call of a name that another begins", false),
+    ("names told apart by zero bytes", false),
+    ("names told apart by the first byte", false),
+    ("names told apart by byte 8 of more", false),
+    ("names told apart by byte 9 of more", false),
+    ("names told apart by the last byte", false),
+    ("names told apart by the highest bit", false),
+    ("64 names held in rising order", false),
+    ("64 names held in falling order", false),
 ];
 
 /// The operators of a string of items, as far as they can be told.
@@ -100,23 +113,78 @@ fn name_of(s: &Statement) -> Vec<u8> {
     pairs.map_or_else(Vec::new, |v| v.numbers.iter().map(|&n| n as u8).collect())
 }
 
+/// What of SHOWN a called name has to do with another one that is held.
+fn shown_by_names(called: &[u8], other: &[u8]) -> Vec<&'static str> {
+    let Some(at) = called.iter().zip(other).position(|(a, b)| a != b) else {
+        let (begins, rest) = if called.len() < other.len() {
+            ("a call of a name that begins another", &other[called.len()..])
+        } else {
+            ("a call of a name that another begins", &called[other.len()..])
+        };
+        let zeros = rest.iter().all(|&b| b == 0).then_some("names told apart by zero bytes");
+        return [begins].into_iter().chain(zeros).collect();
+    };
+    let high = ((called[at] ^ other[at]) >= 0x80).then_some("names told apart by the highest bit");
+    let last = called.len() - 1;
+    let alone = called.len() == other.len() && called[at + 1..] == other[at + 1..];
+    let place = match at {
+        _ if !alone || last == 0 => None,
+        0 => Some("names told apart by the first byte"),
+        _ if at == last => Some("names told apart by the last byte"),
+        7 => Some("names told apart by byte 8 of more"),
+        8 => Some("names told apart by byte 9 of more"),
+        _ => None,
+    };
+    high.into_iter().chain(place).collect()
+}
+
+/// What of SHOWN a call has to do with the names held, which are in the order of their first definition.
+fn shown_by_call(called: &[u8], held: &[Vec<u8>], replaced: &BTreeSet<Vec<u8>>) -> Vec<&'static str> {
+    let mut shown: Vec<_> =
+        held.iter().filter(|other| **other != called).flat_map(|other| shown_by_names(called, other)).collect();
+    match called.len() {
+        1 => shown.push("a call of a name of 1 byte"),
+        16 => shown.push("a call of a name of 16 bytes"),
+        _ => {}
+    }
+    let amid = held.iter().any(|other| &other[..] < called) && held.iter().any(|other| &other[..] > called);
+    if amid && replaced.contains(called) {
+        shown.push("a call of one replaced amid others");
+    }
+    if held.len() == MOTIFS_MAX && held.is_sorted() {
+        shown.push("64 names held in rising order");
+    }
+    if held.len() == MOTIFS_MAX && held.is_sorted_by(|a, b| a > b) {
+        shown.push("64 names held in falling order");
+    }
+    shown
+}
+
 /// What of SHOWN the motifs of a job have to do with each other.
-fn shown_by_motifs(all: &[Statement]) -> Vec<&'static str> {
-    let (mut shown, mut held) = (Vec::new(), BTreeSet::new());
+fn shown_by_motifs(all: &[Statement]) -> BTreeSet<&'static str> {
+    let (mut shown, mut held, mut replaced) = (BTreeSet::new(), Vec::new(), BTreeSet::new());
     let mut bodies = motifs(all).into_iter();
     for s in all {
         match s.tag {
-            0x42 => held.clear(),
+            0x42 => {
+                held.clear();
+                replaced.clear();
+            }
             0x5b => {
                 let body = bodies.next().unwrap_or_default();
                 let calls = |s: &Statement| s.tag == 0x5e && !held.contains(&name_of(s));
                 if statements(&body).iter().any(calls) {
-                    shown.push("a motif that names one not yet held");
+                    shown.insert("a motif that names one not yet held");
                 }
-                if !held.insert(name_of(s)) {
-                    shown.push("a replaced motif");
+                let name = name_of(s);
+                if held.contains(&name) {
+                    shown.insert("a replaced motif");
+                    replaced.insert(name);
+                } else {
+                    held.push(name);
                 }
             }
+            0x5e => shown.extend(shown_by_call(&name_of(s), &held, &replaced)),
             _ => {}
         }
     }

@@ -1,5 +1,5 @@
 //! Jobs made from a seed: valid ones, edges of every limit, broken rules, mutants, rich states, padded ones, reals, rings and
-//! replacements of motifs, tags, truncations.
+//! replacements of motifs, names near one another, tags, truncations.
 //!
 //! `case(seed, index)` is the same for the same numbers, so a difference can be made again.
 
@@ -10,6 +10,7 @@ mod limits;
 mod maker;
 mod motifs;
 mod mutant;
+mod names;
 mod padding;
 mod reals;
 mod rng;
@@ -23,6 +24,7 @@ pub use limits::limit;
 pub use maker::{rich, valid};
 pub use motifs::motifs;
 pub use mutant::mutant;
+pub use names::names;
 pub use padding::padded;
 pub use reals::reals;
 pub use rng::Rng;
@@ -71,6 +73,7 @@ pub fn case(seed: u64, index: u64) -> Case {
             let rule = rules[(eighth / 2) as usize % rules.len()];
             ("broken rule", write(&broken(&mut rng, set.gray, rule, eighth % 2 == 1)))
         }
+        10 if sixteenth.is_multiple_of(2) => ("names", names(&mut rng, set)),
         2 | 3 | 10 => ("mutant", mutant(&mut rng, set)),
         13 => ("motifs", motifs(&mut rng, set)),
         4 | 5 | 12 => ("rich", write(&rich(&mut rng, set))),

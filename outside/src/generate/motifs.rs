@@ -52,7 +52,7 @@ fn row(rng: &mut Rng, nodes: &mut Vec<Node>) {
             motif_of(&[i as u8], body)
         })
         .collect();
-    shuffle(rng, &mut all);
+    rng.shuffle(&mut all);
     nodes.extend(all);
     let first = if rng.one_in(2) { 0 } else { rng.below(n) };
     for _ in 0..rng.below(4) {
@@ -145,12 +145,6 @@ fn room(rng: &mut Rng, nodes: &mut Vec<Node>) {
     nodes.push(begin_page());
     nodes.push(call_of(b"x"));
     nodes.extend(ends());
-}
-
-fn shuffle(rng: &mut Rng, all: &mut [Node]) {
-    for i in (1..all.len()).rev() {
-        all.swap(i, rng.below(i + 1));
-    }
 }
 
 #[cfg(test)]
