@@ -2,6 +2,7 @@
 #![deny(unsafe_code)]
 
 pub mod coverage;
+pub mod exchange;
 #[allow(unsafe_code)]
 #[cfg(all(feature = "linked", not(feature = "piped")))]
 pub mod ffi;

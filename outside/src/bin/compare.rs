@@ -1,8 +1,10 @@
 //! Holds the linked checker against the plain one: `compare N S` judges N generated cases from seed S by both.
 //!
-//! Verdict, every byte of both buffers and guard bytes around them must agree; the vectors come first.
+//! Verdict, every byte of both buffers and guard bytes around them must agree; the vectors come first. Of a passed job with several
+//! sessions two are exchanged, and both checkers must answer as request 14 says.
 
 use outside::coverage::Coverage;
+use outside::exchange::exchanged;
 use outside::generate::{case, Case};
 use outside::plain::{self, Verdict};
 use outside::{ffi, text, vectors};
@@ -60,6 +62,30 @@ fn numbers(v: &Verdict) -> String {
     format!("{} {} {} {} {}", v.code, v.position, v.inner, v.records, v.performed)
 }
 
+/// A passed case with two sessions exchanged, and the records that its list must have.
+fn twin_of(case: &Case, passed: &Verdict, list: &[u8], which: u64) -> Option<(Case, Vec<u8>)> {
+    if passed.code != 0 {
+        return None;
+    }
+    let twin = exchanged(&case.job, &list[..16 * passed.records as usize], which as usize)?;
+    Some((Case { job: twin.job, ..case.clone() }, twin.records))
+}
+
+fn report(what: &str, case: &Case, want: &Verdict, got: &Verdict) {
+    let start = if case.rgb == 0 { "gray" } else { "RGB" };
+    println!("{what} ({})", case.kind);
+    println!(
+        "work {} bytes, list {} bytes, job {} bytes, start in {start}",
+        case.work.len(),
+        case.list.len(),
+        case.job.len()
+    );
+    println!("due {}", numbers(want));
+    println!("got {}", numbers(got));
+    println!("job {}", text::hex(&case.job));
+    println!("{}", text::list(&case.job));
+}
+
 fn main() -> ExitCode {
     let mut args = std::env::args().skip(1).map(|a| a.parse::<u64>());
     let (n, seed) = match (args.next(), args.next()) {
@@ -88,6 +114,7 @@ fn main() -> ExitCode {
     }
 
     let mut coverage = Coverage::default();
+    let mut twins = 0;
     for index in 0..n {
         let lent = case(seed, index);
         let mut work = lent.work.clone();
@@ -95,18 +122,32 @@ fn main() -> ExitCode {
         let want = plain::check(&lent.job, &mut work, &mut list, lent.rgb);
         coverage.add(lent.kind, &lent.job, lent.rgb, &want);
         if let Some((what, got)) = differs(&lent, want, &work, &list) {
-            println!("difference in the {what}: seed {seed}, case {index} ({})", lent.kind);
-            let (job, start) = (&lent.job, if lent.rgb == 0 { "gray" } else { "RGB" });
-            println!("work {} bytes, list {} bytes, job {} bytes, start in {start}", work.len(), list.len(), job.len());
-            println!("plain  {}", numbers(&want));
-            println!("linked {}", numbers(&got));
-            println!("job {}", text::hex(&lent.job));
-            println!("{}", text::list(&lent.job));
+            report(&format!("difference in the {what}: seed {seed}, case {index}"), &lent, &want, &got);
             return ExitCode::FAILURE;
+        }
+        if let Some((twin, records)) = twin_of(&lent, &want, &list, index) {
+            list[..records.len()].copy_from_slice(&records);
+            let (mut own_work, mut own_list) = (twin.work.clone(), twin.list.clone());
+            let plain = plain::check(&twin.job, &mut own_work, &mut own_list, twin.rgb);
+            if (plain, &own_work, &own_list) != (want, &work, &list) {
+                report(
+                    &format!("two sessions exchanged, second checker: seed {seed}, case {index}"),
+                    &twin,
+                    &want,
+                    &plain,
+                );
+                return ExitCode::FAILURE;
+            }
+            if let Some((what, got)) = differs(&twin, want, &work, &list) {
+                report(&format!("two sessions exchanged, {what}: seed {seed}, case {index}"), &twin, &want, &got);
+                return ExitCode::FAILURE;
+            }
+            twins += 1;
         }
     }
     print!("{}", coverage.table());
     println!("not reached: {:?}", coverage.gaps());
+    println!("{twins} of them passed with several sessions, and with two of these exchanged as request 14 says");
     println!("{n} cases from seed {seed}: no difference");
     ExitCode::SUCCESS
 }
