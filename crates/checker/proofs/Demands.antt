@@ -3,12 +3,13 @@
 use Prim.Native.Nat.{ℕ, _+_, _*_, _≤_}
 use mathlib.Core.Path.{_≡_, sym, ap, _∙_, subst, subst₂, subst⁻¹}
 use mathlib.Core.Bool.{Bool}
-use mathlib.Core.List.{List, _++_}
+use mathlib.Core.List.{List, _++_, append-assoc}
 use lib.ListN.{length, take, drop}
 use native.Mathlib.Omega.{arith}
 use lib.Seq.{take-at, take-all}
-use Rattle.scope.specs.Verdict.{verdictOf, listOf, listAfter}
+use Rattle.scope.specs.Verdict.{verdictOf, listOf, listAfter, entryOf, clearedBy, workAfter}
 use Rattle.scope.specs.Claims.{limit, Further, Shifted, recordsFrom, RecordsMoved, moveBy, putIn}
+use Rattle.scope.specs.Exchange.{recordsOf, operators, exchanged}
 use Rattle.scope.proofs.Demand.{demand-3}
 use Rattle.scope.proofs.Whole.{verdict-placed, passes-exactly}
 use Rattle.scope.proofs.Sessions.{isolated, alike-same}
@@ -16,10 +17,13 @@ use Rattle.scope.proofs.Records.{list-long, reached-long, lists-moved, outcome-
 use Rattle.scope.proofs.White.{white-between}
 use Rattle.scope.proofs.WhiteItems.{white-between-items}
 use Rattle.scope.proofs.ByteOrder.{byte-order}
+use Rattle.scope.proofs.Exchange.{sessions-exchanged}
+use Rattle.scope.proofs.ExchangeList.{lists-exchanged}
+use Rattle.scope.proofs.ExchangeOrder.{any-order}
 use Rattle.scope.proofs.Buffers.{no-motif-left, zeroed}
 use Rattle.state.specs.Views.{verdictAs}
 use Rattle.state.specs.declared.verdict.Verdict.{Verdict}
-use Rattle.checker.specs.Claims.{Answer, Promised, OneAnswer, PlaceInJob, OldContents, NoMotifBehind, WorkCarriesNothing, SessionsIsolated, WhiteIgnored, WhiteIgnoredInside, OrderIgnored, PassesAsDrawn, PassesOnly}
+use Rattle.checker.specs.Claims.{Answer, Promised, OneAnswer, PlaceInJob, OldContents, NoMotifBehind, WorkCarriesNothing, SessionsIsolated, WhiteIgnored, WhiteIgnoredInside, OrderIgnored, SessionsExchanged, OrderOfPupils, PassesAsDrawn, PassesOnly}
 
 -- two verdicts whose five numbers agree are one
 same-verdict : (v w : Verdict) → verdictAs v ≡ verdictAs w → v ≡ w
@@ -121,6 +125,39 @@ order-of-check set other job turned work list next a b p q hw hl long class gray
     let w = p .worked ∙ no-motif-left job turned work hl (omega arith) ∙ sym (q .worked) in
     let l = p .listed ∙ (λ j. m j ++ drop (length (m j)) list) ∙ sym (q .listed) in
     λ j. record { verdict = v j; work = w j; list = l j }
+
+-- a list in four parts, and what stands behind it
+behind-four : (k l m n rest : List ℕ) → (k ++ (l ++ (m ++ n))) ++ rest ≡ k ++ (l ++ (m ++ (n ++ rest)))
+behind-four k l m n rest =
+    append-assoc k (l ++ (m ++ n)) rest ∙ ap (λ z. k ++ z) (append-assoc l (m ++ n) rest ∙ ap (λ z. l ++ z) (append-assoc m n rest))
+
+pub exchanged-of-check : SessionsExchanged
+unfolding listAfter workAfter
+exchanged-of-check gray job work list before first second rest a b p q e =
+    let n = length work in
+    let m = length list in
+    let other = exchanged first second job in
+    let x = sessions-exchanged gray job n m before first second rest e in
+    let y = lists-exchanged gray job n m before first second rest e in
+    let same-long : length (listOf gray other n m) ≡ length (listOf gray job n m) =
+    list-long gray other n m ∙ ap (λ z. z .records * 16) (x .verdict) ∙ sym (list-long gray job n m) in
+    record {
+      verdict = same-verdict (b .verdict) (a .verdict) (q .verdict ∙ x .verdict ∙ sym (p .verdict));
+      work = q .worked ∙ ap (λ k. clearedBy (entryOf k n) work) (x .long) ∙ sym (p .worked);
+      second′ = y .second′;
+      first′ = y .first′;
+      behind = recordsOf rest ++ drop (length (listOf gray job n m)) list;
+      was = p .listed ∙ ap (λ l. l ++ drop (length (listOf gray job n m)) list) (y .was)
+          ∙ behind-four (recordsOf before) (recordsOf (operators first)) (recordsOf (operators second)) (recordsOf rest) (drop (length (listOf gray job n m)) list);
+      is = q .listed ∙ (λ i. y .is i ++ drop (same-long i) list)
+          ∙ behind-four (recordsOf before) (y .second′) (y .first′) (recordsOf rest) (drop (length (listOf gray job n m)) list);
+      second-moved = y .second-moved;
+      first-moved = y .first-moved;
+    }
+
+pub order-of-pupils : OrderOfPupils
+order-of-pupils gray job work list sessions order a b p q e r =
+    same-verdict (b .verdict) (a .verdict) (q .verdict ∙ any-order gray job (length work) (length list) sessions order e r ∙ sym (p .verdict))
 
 pub demand-3-of-check : PassesAsDrawn
 demand-3-of-check gray job work list a p h k r =

@@ -9,10 +9,12 @@ use lib.ListN.{length, take, drop}
 use Rattle.scope.specs.Header.{headerOf}
 use Rattle.scope.specs.Setting.{Setting, headed}
 use Rattle.scope.specs.Item.{spaces, after}
+use Rattle.scope.specs.Reading.{Operator}
 use Rattle.scope.specs.Judge.{State}
 use Rattle.scope.specs.Verdict.{zeros, verdictOf, listAfter, workAfter}
 use Rattle.scope.specs.Plain.{unfoldingOf, comes, atStart}
 use Rattle.scope.specs.Claims.{Keeps, HasRoom, Reached, Between, limit, Further, Shifted, RecordsMoved, recordsFrom, moveBy, putIn, Gap, ItemFrom, SameItem}
+use Rattle.scope.specs.Exchange.{Lists, recordsOf, WholeSession, operators, exchanged, secondMoves, firstMoves, allOperators, bytesOf, around, woven, Reordered}
 use Rattle.state.specs.Views.{verdictAs}
 use Rattle.state.specs.declared.verdict.Verdict.{Verdict}
 
@@ -110,6 +112,33 @@ OrderIgnored =
     (set other : Setting) (job turned work list : List ℕ) (next : ℕ) (a b : Answer) → Promised (set .gray) job work list a → Promised (other .gray) turned work list b
     → 16384 ≤ length work → length job ≤ 61440 → length job ≡ length turned → set .class ≡ other .class → set .gray ≡ other .gray → headerOf job ≡ headed set next
     → headerOf turned ≡ headed other next → ((at : ℕ) → ItemFrom (set .high) job next at → SameItem (set .high) (other .high) job turned at) → a ≡ b
+
+-- two answers, to a job and to the job with two sessions exchanged, have the same verdict and the same work buffer; in the list the records before the two sessions
+-- stay, and so does all that stands behind the two; and each session's records are, record by record, the same but for the offsets
+pub record AnswersExchanged (before : List Operator) (first second : WholeSession) (a b : Answer) : Type 0 where
+  pub verdict : b .verdict ≡ a .verdict
+  pub work : b .work ≡ a .work
+  pub second′ : List ℕ
+  pub first′ : List ℕ
+  pub behind : List ℕ
+  pub was : a .list ≡ recordsOf before ++ (recordsOf (operators first) ++ (recordsOf (operators second) ++ behind))
+  pub is : b .list ≡ recordsOf before ++ (second′ ++ (first′ ++ behind))
+  pub second-moved : RecordsMoved (secondMoves first second) (recordsOf (operators second)) second′
+  pub first-moved : RecordsMoved (firstMoves first second) (recordsOf (operators first)) first′
+
+-- request 14: two neighbouring whole sessions of a job may change places, where the same buffers are lent
+abbrev pub SessionsExchanged : Type 0
+SessionsExchanged =
+    (gray : Bool) (job work list : List ℕ) (before : List Operator) (first second : WholeSession) (rest : List Operator) (a b : Answer) → Promised gray job work list a
+    → Promised gray (exchanged first second job) work list b → Lists gray job (length work) (length list) (before ++ (operators first ++ (operators second ++ rest)))
+    → AnswersExchanged before first second a b
+
+-- and the sessions of a job may come in any order: the verdict is the same
+abbrev pub OrderOfPupils : Type 0
+OrderOfPupils =
+    (gray : Bool) (job work list : List ℕ) (sessions : List WholeSession) (order : List (List ℕ)) (a b : Answer) → Promised gray job work list a
+    → Promised gray (woven (around job 0 sessions) order) work list b → Lists gray job (length work) (length list) (allOperators sessions)
+    → Reordered (bytesOf job sessions) order → b .verdict ≡ a .verdict
 
 -- demand 3: a job that keeps the layout rules, with room for its list, passes exactly if the plain arm comes to its end with no rule broken; and the number
 -- reported with a pass is the number of operators that the arm performs

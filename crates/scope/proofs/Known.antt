@@ -116,7 +116,7 @@ module _ (s : List ℕ) where
         draw-after (differs (mayCome (phaseBusy (drawing q (Picture.being i))) (x .opened)) (o .tag) 0x5d m refl) q (Picture.being i) x k
 
     -- inside a session no BeginSession may come
-    no-begin : (b : Busy) (opened : Bool) → mayCome (phaseBusy b) opened (o .tag) ≡ true → eqb (o .tag) 0x41 ≡ false
+    pub no-begin : (b : Busy) (opened : Bool) → mayCome (phaseBusy b) opened (o .tag) ≡ true → eqb (o .tag) 0x41 ≡ false
     unfolding phaseBusy phaseDrawing mayCome among drawn
     no-begin resting true m = differs (mayCome (phaseBusy resting) true) (o .tag) 0x41 m refl
     no-begin resting false m = differs (mayCome (phaseBusy resting) false) (o .tag) 0x41 m refl

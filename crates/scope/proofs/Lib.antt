@@ -48,6 +48,16 @@ pub mod ByteOrder
 pub mod Defined
 pub mod Known
 pub mod Replaces
+pub mod ExchangeEdges
+pub mod ExchangeRuns
+pub mod ExchangeSession
+pub mod ExchangeRest
+pub mod ExchangeParts
+pub mod ExchangeListed
+pub mod Exchange
+pub mod ExchangeList
+pub mod ExchangeAll
+pub mod ExchangeOrder
 pub mod Bounds
 pub mod Parts
 pub mod JobsRead
@@ -63,3 +73,4 @@ pub mod Jobs
 pub mod Shown
 pub mod ShownWhite
 pub mod ShownOrder
+pub mod ShownExchange

@@ -35,6 +35,31 @@ module _ (At Back : ℕ → ℕ → Type 0) (back : (x y : ℕ) → At x y → B
   starts-back Starts.none = Starts.none
   starts-back (Starts.more h k) = Starts.more (operator-back h) (starts-back k)
 
+-- what has moved by one measure has moved by another that follows from it
+module _ (At To : ℕ → ℕ → Type 0) (measure : (x y : ℕ) → At x y → To x y) where
+  attribute-by : {a b : Attribute} → AttributeMoved At a b → AttributeMoved To a b
+  attribute-by h = record { number = h .number; tag = h .tag; at = measure _ _ (h .at); count = h .count; first = h .first }
+
+  attributes-by : {l m : List Attribute} → AttributesMoved At l m → AttributesMoved To l m
+  attributes-by AttributesMoved.none = AttributesMoved.none
+  attributes-by (AttributesMoved.more h k) = AttributesMoved.more (attribute-by h) (attributes-by k)
+
+  operator-by : {a b : Operator} → OperatorMoved At a b → OperatorMoved To a b
+  operator-by h =
+      record {
+        tag = h .tag;
+        at = measure _ _ (h .at);
+        attrs = attributes-by (h .attrs);
+        length = h .length;
+        reads = h .reads;
+        reading = λ e. measure _ _ (h .reading e);
+        quiet = h .quiet;
+      }
+
+  pub operators-by : {os ps : List Operator} → Pairwise (OperatorMoved At) os ps → Pairwise (OperatorMoved To) os ps
+  operators-by Pairwise.none = Pairwise.none
+  operators-by (Pairwise.more h k) = Pairwise.more (operator-by h) (operators-by k)
+
 -- the operators of two runs, after those before
 pub pairwise-listed : {At : ℕ → ℕ → Type 0} {before other : List Operator} {os ps : List Operator} → Pairwise (OperatorMoved At) os ps → {l m : List Operator}
     → OperatorsMoved At before other l m → OperatorsMoved At before other (onto os l) (onto ps m)

@@ -18,7 +18,7 @@ use Rattle.scope.specs.Claims.{Further, AttributesMoved, OperatorMoved, 
 use Rattle.scope.proofs.Runs.{runs-of, ends-state}
 
 -- the records of some operators stand before what is there
-records-append : (past : List Operator) (rest : List ℕ) → recordsBefore past rest ≡ recordsBefore past [] ++ rest
+pub records-append : (past : List Operator) (rest : List ℕ) → recordsBefore past rest ≡ recordsBefore past [] ++ rest
 unfolding recordsBefore
 records-append [] rest = refl
 records-append (o ∷ past) rest =
@@ -83,7 +83,7 @@ unfolding listOf verdictOf outcomeOf
 list-long gray job work room = entry-long gray job room (entryOf (length job) work)
 
 -- the records of attributes that have moved, and behind them others that have
-attributes-moved : {At : ℕ → ℕ → Type 0} {l m : List Attribute} → AttributesMoved At l m → {x y : List ℕ} → RecordsMoved At x y
+pub attributes-moved : {At : ℕ → ℕ → Type 0} {l m : List Attribute} → AttributesMoved At l m → {x y : List ℕ} → RecordsMoved At x y
     → RecordsMoved At (attributeRecords l ++ x) (attributeRecords m ++ y)
 unfolding attributeRecords
 attributes-moved AttributesMoved.none h = h
@@ -150,34 +150,36 @@ same-list set job other work work′ room space a b x y h =
     lists-moved (Further (a .at) (b .at)) (set .gray) job other work work′ room space a b (h .listed) (reached-long set job room a (x .there)) (reached-long set other space b (y .there))
 
 -- at the same places, the same records
-same-attributes : {l m : List Attribute} → AttributesMoved (λ x y. x ≡ y) l m → l ≡ m
-same-attributes AttributesMoved.none = refl
-same-attributes (AttributesMoved.more {a = a} {b = b} h k) =
-    let x = h .at in
-    let y = h .first in
-    let f : a .first ≡ b .first = omega arith in
-    let ks = same-attributes k in
-    λ i. record { number = h .number i; tag = h .tag i; at = x i; count = h .count i; first = f i } ∷ ks i
+module _ (At : ℕ → ℕ → Type 0) (same : (x y : ℕ) → At x y → x ≡ y) where
+  pub same-attributes : {l m : List Attribute} → AttributesMoved At l m → l ≡ m
+  same-attributes AttributesMoved.none = refl
+  same-attributes (AttributesMoved.more {a = a} {b = b} h k) =
+      let x = same (a .at) (b .at) (h .at) in
+      let y = h .first in
+      let f : a .first ≡ b .first = omega arith in
+      let ks = same-attributes k in
+      λ i. record { number = h .number i; tag = h .tag i; at = x i; count = h .count i; first = f i } ∷ ks i
 
-same-data : {a b : Operator} → OperatorMoved (λ x y. x ≡ y) a b → (r : Bool) → a .reads ≡ r → a .first ≡ b .first
-same-data h true e = h .reading e
-same-data h false e = let k = h .quiet e in k .0 ∙ sym (k .1)
+  pub same-data : {a b : Operator} → OperatorMoved At a b → (r : Bool) → a .reads ≡ r → a .first ≡ b .first
+  same-data {a} {b} h true e = same (a .first) (b .first) (h .reading e)
+  same-data h false e = let k = h .quiet e in k .0 ∙ sym (k .1)
 
-same-operator : {a b : Operator} → OperatorMoved (λ x y. x ≡ y) a b → operatorRecord a ≡ operatorRecord b
-unfolding operatorRecord
-same-operator {a} {b} h =
-    let l = same-attributes (h .attrs) in
-    let f = same-data h (a .reads) refl in
-    λ i. 2 ∷ h .tag i ∷ length (l i) % 256 ∷ length (l i) / 256 ∷ (four (h .at i) ++ (four (h .length i) ++ four (f i)))
+  same-operator : {a b : Operator} → OperatorMoved At a b → operatorRecord a ≡ operatorRecord b
+  unfolding operatorRecord
+  same-operator {a} {b} h =
+      let l = same-attributes (h .attrs) in
+      let p = same (a .at) (b .at) (h .at) in
+      let f = same-data h (a .reads) refl in
+      λ i. 2 ∷ h .tag i ∷ length (l i) % 256 ∷ length (l i) / 256 ∷ (four (p i) ++ (four (h .length i) ++ four (f i)))
 
-same-records : {l m : List Operator} → OperatorsMoved (λ x y. x ≡ y) [] [] l m → (rest : List ℕ) → recordsBefore l rest ≡ recordsBefore m rest
-unfolding recordsBefore
-same-records OperatorsMoved.start rest = refl
-same-records (OperatorsMoved.more {a = a} {b = b} {m = m} h k) rest =
-    same-records k (attributeRecords (a .attrs) ++ (operatorRecord a ++ rest))
-    ∙ (λ i. recordsBefore m (attributeRecords (same-attributes (h .attrs) i) ++ (same-operator h i ++ rest)))
+  same-records : {l m : List Operator} → OperatorsMoved At [] [] l m → (rest : List ℕ) → recordsBefore l rest ≡ recordsBefore m rest
+  unfolding recordsBefore
+  same-records OperatorsMoved.start rest = refl
+  same-records (OperatorsMoved.more {a = a} {b = b} {m = m} h k) rest =
+      same-records k (attributeRecords (a .attrs) ++ (operatorRecord a ++ rest))
+      ∙ (λ i. recordsBefore m (attributeRecords (same-attributes (h .attrs) i) ++ (same-operator h i ++ rest)))
 
 pub outcome-list : (gray starts : Bool) (job other : List ℕ) (work room : ℕ) → SameOutcome (outcomeOf gray every job work room) (outcomeOf starts every other work room)
     → listOf gray job work room ≡ listOf starts other work room
 unfolding listOf
-outcome-list gray starts job other work room h = same-records (h .listed) []
+outcome-list gray starts job other work room h = same-records (λ x y. x ≡ y) (λ x y e. e) (h .listed) []

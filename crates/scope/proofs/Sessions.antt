@@ -35,7 +35,7 @@ judged-past given set s room st =
     ap (λ z. z .past) (ends-state given set s room (c .ends)) ∙ runs-past given set s room (c .runs)
 
 module _ (s t : List ℕ) (a b : State) (hp : a .at ≤ length s) (hq : b .at ≤ length t) (same-bytes : drop (a .at) s ≡ drop (b .at) t) (set : Setting) (room space : ℕ) where
-  abbrev F : ℕ → ℕ → Type 0
+  abbrev pub F : ℕ → ℕ → Type 0
   F = Far s t (a .at) (b .at) hp hq same-bytes
 
   alike-of : {os ps : List Operator} {e f : Outcome}
@@ -76,10 +76,10 @@ module _ (s t : List ℕ) (a b : State) (hp : a .at ≤ length s) (hq : b .at �
         differs = λ n r z. d (λ _. refl) (sym n) (sym r) (sym z);
       })
 
-  abbrev St : State → State → Type 0
+  abbrev pub St : State → State → Type 0
   St = LikeState every every (λ k _. refl) set set akin-refl s t F (a .performed) (b .performed) (a .records) (b .records)
 
-  reads-both : (x y : State) → St x y → LikeRead (set .high) (set .high) s t (Further (a .at) (b .at)) F (readAt every set s x) (readAt every set t y)
+  pub reads-both : (x y : State) → St x y → LikeRead (set .high) (set .high) s t (Further (a .at) (b .at)) F (readAt every set s x) (readAt every set t y)
   unfolding contextOf
   reads-both x y l =
       subst (λ c. LikeRead (set .high) (set .high) s t (Further (a .at) (b .at)) F (readAt every set s x) (operatorAt c t (y .at)))

@@ -27,7 +27,7 @@ part-within (suc i) zero w h = absurd (omega arith)
 part-within (suc i) (suc n) w h = let k = part-within i n w (omega arith) in omega arith
 
 -- a list that is white at least as far as its first part: that part is all white
-spaces-part : (x y : List ℕ) → length x ≤ spaces (x ++ y) → spaces x ≡ length x
+pub spaces-part : (x y : List ℕ) → length x ≤ spaces (x ++ y) → spaces x ≡ length x
 unfolding spaces
 spaces-part [] y h = refl
 spaces-part (b ∷ x) y h = by (white b) h (spaces-part x y)
@@ -38,7 +38,7 @@ spaces-part (b ∷ x) y h = by (white b) h (spaces-part x y)
     by false f k = absurd (omega arith)
 
 -- an attribute stands where its value's tag does
-abbrev PairAt : ℕ → Pair → Type 0
+abbrev pub PairAt : ℕ → Pair → Type 0
 PairAt at (Pair.is a n) = a .at ≡ at
 PairAt at (Pair.no code place) = Unit {0}
 PairAt at Pair.waits = Unit {0}
@@ -60,7 +60,7 @@ module _ (high : Bool) (s : List ℕ) (at : ℕ) where
   pair-of-at (Value.is c f n) = number-at c f (after s n)
   pair-of-at (Value.no code place) = tt
 
-  pair-at : (n : ℕ) → PairAt at (pairAt high s at n)
+  pub pair-at : (n : ℕ) → PairAt at (pairAt high s at n)
   unfolding pairAt
   pair-at n = pair-of-at (valueOf high s at n (kindOf (getD s at 0)))
 

@@ -49,7 +49,7 @@ module _ (high turned : Bool) (s t : List ℕ) (At On : ℕ → ℕ → Type 0) 
   quiet-moved nowhere e = (refl, refl)
   quiet-moved (read-from h) e = clash-of e
 
-  operator-moved : {a b : Operator} → Op a b → OperatorMoved At a b
+  pub operator-moved : {a b : Operator} → Op a b → OperatorMoved At a b
   operator-moved h =
       record {
         tag = h .says .tag;
@@ -177,7 +177,7 @@ module _ (given other : ℕ → Bool) (alike : AlikeGiven given other) (set turn
     one-more h (second-ends c k d) = second-ends c (Starts.more h k) d
 
     -- two judgings, operator by operator
-    two-runs : {x x′ y y′ : State} {os ps : List Operator} {e f : Outcome} → St x y → Runs given set s room x os x′ → Ends given set s room x′ e
+    pub two-runs : {x x′ y y′ : State} {os ps : List Operator} {e f : Outcome} → St x y → Runs given set s room x os x′ → Ends given set s room x′ e
         → Runs other turned t space y ps y′ → Ends other turned t space y′ f → TwoEnds os ps e f
     two-runs l here u here v = ends-two l u v
     two-runs l here u (then k rest) v = first-only l u k

@@ -28,7 +28,7 @@ use Rattle.scope.proofs.Ahead.{broken-same, next-same, HeaderPast, Head
 
 -- what is performed within u is performed there whatever stands behind u
 module _ (u x y : List ℕ) (set : Setting) (room : ℕ) where
-  shared-runs : {a b : State} {os : List Operator} → Runs every set (u ++ x) room a os b → b .at ≤ length u → Runs every set (u ++ y) room a os b
+  pub shared-runs : {a b : State} {os : List Operator} → Runs every set (u ++ x) room a os b → b .at ≤ length u → Runs every set (u ++ y) room a os b
   unfolding after caseOf contextOf
   shared-runs here h = here
   shared-runs {b = b} (then {a = a} {o = o} {os = os} p r) h =
@@ -42,7 +42,7 @@ module _ (u x y : List ℕ) (set : Setting) (room : ℕ) where
       (subst (λ z. Runs every set (u ++ y) room z os b) e (shared-runs r h))
 
 -- and a header that ends within u too
-shared-header : (u x y : List ℕ) (class : Class) (high : Bool) (next : ℕ) → headerOf (u ++ x) ≡ Header.is class high next → next ≤ length u → headerOf (u ++ y) ≡ Header.is class high next
+pub shared-header : (u x y : List ℕ) (class : Class) (high : Bool) (next : ℕ) → headerOf (u ++ x) ≡ Header.is class high next → next ≤ length u → headerOf (u ++ y) ≡ Header.is class high next
 shared-header u x y class high next e h = sym (second (headerOf u) (header-cut u y) (first (headerOf u) (header-cut u x) e))
   where
     IsHeader : Header → Type 0
@@ -60,14 +60,14 @@ shared-header u x y class high next e h = sym (second (headerOf u) (header-cut u
     second g (HeaderCut.header-short l) f = absurd (subst⁻¹ IsHeader f tt)
 
 -- the header of a job ends within it
-header-within : (job : List ℕ) (class : Class) (high : Bool) (next : ℕ) → headerOf job ≡ Header.is class high next → next ≤ length job
+pub header-within : (job : List ℕ) (class : Class) (high : Bool) (next : ℕ) → headerOf job ≡ Header.is class high next → next ≤ length job
 header-within job class high next e = by (subst (λ g. HeaderCut job g (headerOf (job ++ []))) e (header-cut job []))
   where
     by : {k : Header} → HeaderCut job (Header.is class high next) k → next ≤ length job
     by (HeaderCut.alike l) = l
 
 -- reading looks at nothing before the first place that is not white
-read-after : (c : Context) (s : List ℕ) (m n : ℕ) → blackAfter s m ≡ blackAfter s n → operatorAt c s m ≡ operatorAt c s n
+pub read-after : (c : Context) (s : List ℕ) (m n : ℕ) → blackAfter s m ≡ blackAfter s n → operatorAt c s m ≡ operatorAt c s n
 unfolding operatorAt scanAt scanStep
 read-after c s m n e =
     ap (scanned c s)

@@ -22,3 +22,4 @@ pub mod Verdict
 pub mod Plain
 pub mod Runs
 pub mod Claims
+pub mod Exchange
