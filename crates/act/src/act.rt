@@ -1,17 +1,20 @@
 // What an operator needs of the arm and does to it.
 ghost use mathlib.Core.Path.{_≡_};
 ghost use Rattle.items.specs.Rows.{rowsOf, Sized};
-ghost use Rattle.scope.specs.Arm.{needsCursor, needsSpace, effectOf};
-ghost use Rattle.arm.specs.Views.{spaceAs, effectAs, actAs};
+ghost use Rattle.scope.specs.Arm.{needsCursor, needsSpace, selectOf, effectOf};
+ghost use Rattle.arm.specs.Views.{spaceAs, selectAs, effectAs, actAs};
 ghost use Rattle.act.specs.Acts.{read, actFor, brushSpace, spaceEffect, plain};
 use arm::page::Act;
 use arm::page::Effect;
 use arm::page::Mark;
+use arm::page::Select;
 use arm::page::Space;
 use names::attributes::COLOR_SPACE;
 use names::attributes::GRAY_LEVEL;
+use names::attributes::PATTERN_SELECT_ID;
 use names::attributes::RGB_COLOR;
 use names::operators::BEGIN_IMAGE;
+use names::operators::BEGIN_RAST_PATTERN;
 use names::operators::LINE_PATH;
 use names::operators::LINE_REL_PATH;
 use names::operators::NEW_PATH;
@@ -24,7 +27,7 @@ use names::operators::SET_CURSOR_REL;
 use names::operators::SET_DEFAULT_GS;
 use names::operators::SET_PEN_SOURCE;
 
-// The operator needs no colour space and does nothing to the page, as most.
+// The operator needs no colour space, selects no pattern and does nothing to the page, as most.
 pub fn is_plain(tag: u8) -> bool
     ensures { λ r. ⌜ r ≡ plain tag ⌝ }
 {
@@ -38,6 +41,7 @@ pub fn is_plain(tag: u8) -> bool
         SET_PEN_SOURCE => false,
         NEW_PATH => false,
         BEGIN_IMAGE => false,
+        BEGIN_RAST_PATTERN => false,
         _ => true,
     }
 }
@@ -71,10 +75,14 @@ fn brush_space(attrs: &[usize; 80], n: usize) -> Space
     Space::Any
 }
 
+// The colour space that an operator needs.
 fn needs_space(tag: u8, attrs: &[usize; 80], n: usize) -> Space
     ensures { λ r. ⌜ (Sized (now (attrs .entry)) n → spaceAs r ≡ needsSpace tag (rowsOf (now (attrs .entry)) n)) ⌝ }
 {
     if tag == BEGIN_IMAGE {
+        return Space::Gray;
+    }
+    if tag == BEGIN_RAST_PATTERN {
         return Space::Gray;
     }
     if tag == SET_BRUSH_SOURCE {
@@ -84,6 +92,20 @@ fn needs_space(tag: u8, attrs: &[usize; 80], n: usize) -> Space
         return brush_space(attrs, n);
     }
     Space::Any
+}
+
+// SetBrushSource selects a pattern by PatternSelectID.
+fn select_of(s: &[u8], high: bool, tag: u8, attrs: &[usize; 80], n: usize) -> Select
+    ensures { λ r. ⌜ (Sized (now (attrs .entry)) n → selectAs r ≡ selectOf high (now (s .entry)) tag (rowsOf (now (attrs .entry)) n)) ⌝ }
+{
+    if tag != SET_BRUSH_SOURCE {
+        return Select::Nothing;
+    }
+    if !attributes::has(attrs, n, PATTERN_SELECT_ID) {
+        return Select::Nothing;
+    }
+    let number = attributes::value_in(s, high, attrs, n, PATTERN_SELECT_ID) as u16;
+    Select::Pattern(number)
 }
 
 // SetColorSpace sets the colour space.
@@ -132,11 +154,13 @@ pub fn act_of(
 {
     let cursor = needs_cursor(tag);
     let space = needs_space(tag, attrs, n);
+    let select = select_of(s, high, tag, attrs, n);
     let effect = effect_of(s, high, gray, tag, attrs, n);
     Act {
         source: reads,
         cursor,
         space,
+        select,
         effect,
     }
 }

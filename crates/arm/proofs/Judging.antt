@@ -33,6 +33,7 @@ pop-finds : (p : Picture) (n tag : ℕ) → mayCome (phaseIn n p) true tag ≡ t
 unfolding mayCome phaseIn
 pop-finds Picture.none n tag h e = drawn-pop n tag h e
 pop-finds (Picture.being i) n tag h e = absurd (true≢false (sym (rw e at h)))
+pop-finds (Picture.hatching k i) n tag h e = absurd (true≢false (sym (rw e at h)))
 
 call-saves : (n : ℕ) → savedAfter 0x5e n ≡ n
 unfolding savedAfter
@@ -53,6 +54,7 @@ own-even set s o os n h p =
 end-even : (s : List ℕ) (w : Inside) (p : Picture) → OwnLevel 0 (w .ops) (w .saved) → Even (onEnd s w p)
 unfolding onEnd
 end-even s w (Picture.being i) h = even-faulty
+end-even s w (Picture.hatching k i) h = even-faulty
 end-even s w Picture.none h = pick-all Even (eqb (w .saved) 0) (λ t. even-valid (rw (eqb-true (w .saved) 0 t) at h)) (λ _. even-faulty)
 
 read-even : (set : Setting) (s : List ℕ) (w : Inside) {r : Read} → OwnLevel 0 (w .ops) (w .saved)

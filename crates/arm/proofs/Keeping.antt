@@ -140,20 +140,20 @@ unfolding walk
 call-holds s r m w x row h i k n o z = rw (i, walk-both row (step idle w) (k .balanced)) (call-inst s r m w row h k n o z)
 
 -- the code, from what the code keeps
-abbrev pub codeKept : Bool → Seen → ℕ
-codeKept o s =
+abbrev pub codeKept : (opened bare : Bool) → Seen → ℕ
+codeKept o b s =
     pick (s .source && not o) 17
-    (pick (leb 25 (s .most)) 23 (pick (s .lost) 24 (pick (s .wrong) 25 (pick (leb 1_000_001 (s .count)) 26 0))))
+    (pick (leb 25 (s .most)) 23 (pick (s .lost) 24 (pick (s .wrong) 25 (pick b 34 (pick (leb 1_000_001 (s .count)) 26 0)))))
 
 cap-same : (k m : ℕ) → leb k (min m k) ≡ leb k m
 cap-same k m = elim (decLe k m) [ yes p ↦ le-leb k (min m k) (omega arith) ∙ sym (le-leb k m p) | no p ↦ lt-leb k (min m k) (omega arith) ∙ sym (lt-leb k m (omega arith)) ]
 
-pub code-kept : (o : Bool) (s : Seen) (w : scope.Seen) → Holds s w → codeKept o s ≡ codeOf o w
+pub code-kept : (o b : Bool) (s : Seen) (w : scope.Seen) → Holds s w → codeKept o b s ≡ codeOf o b w
 unfolding codeOf
-code-kept o s w h = ap₂ (λ (b : Bool) (x : ℕ). pick (b && not o) 17 x) (h .source) rest
+code-kept o b s w h = ap₂ (λ (a : Bool) (x : ℕ). pick (a && not o) 17 x) (h .source) rest
   where
-    rest : pick {A = ℕ} (leb 25 (s .most)) 23 (pick (s .lost) 24 (pick (s .wrong) 25 (pick (leb 1_000_001 (s .count)) 26 0)))
-        ≡ pick {A = ℕ} (ltb 24 (w .most)) 23 (pick (w .lost) 24 (pick (w .wrong) 25 (pick (ltb 1_000_000 (w .count)) 26 0)))
+    rest : pick {A = ℕ} (leb 25 (s .most)) 23 (pick (s .lost) 24 (pick (s .wrong) 25 (pick b 34 (pick (leb 1_000_001 (s .count)) 26 0))))
+        ≡ pick {A = ℕ} (ltb 24 (w .most)) 23 (pick (w .lost) 24 (pick (w .wrong) 25 (pick b 34 (pick (ltb 1_000_000 (w .count)) 26 0))))
     rest =
         elim (decLe (w .most) 24) [
           | yes p ↦ (let t = h .exact p in rw (h .most, cap-same 25 (w .most), t .lost, t .wrong, h .count, cap-same 1_000_001 (w .count)) refl)
@@ -161,10 +161,10 @@ code-kept o s w h = ap₂ (λ (b : Bool) (x : ℕ). pick (b && not o) 17 x) (h .
         ]
 
 -- the answer where no rule was broken
-pub answer-to : (o : Bool) (s : Seen) (q : scope.Page) (n : ℕ) (row : List Stroke) → length (q .saved) ≤ 24 → Holds s (walk row (from q n))
-    → codeOf o (walk row (from q n)) ≡ 0 → Moves o (To (s .page) (s .count)) (walk row (from q n))
-answer-to o s q n row l h z =
-    let k = clean-code o (walk row (from q n)) z in
+pub answer-to : (o b : Bool) (s : Seen) (q : scope.Page) (n : ℕ) (row : List Stroke) → length (q .saved) ≤ 24 → Holds s (walk row (from q n))
+    → codeOf o b (walk row (from q n)) ≡ 0 → Moves o b (To (s .page) (s .count)) (walk row (from q n))
+answer-to o b s q n row l h z =
+    let k = clean-code o b (walk row (from q n)) z in
     let m : walk row (from q n) .most ≤ 24 = k .most in
     let u : length (walk row (from q n) .page .saved) ≤ max 24 (walk row (from q n) .most) = within row (from q n) 24 (unfold from in omega arith) in
     let x : walk row (from q n) .count ≤ 1_000_000 = k .count in
@@ -174,8 +174,8 @@ answer-to o s q n row l h z =
     moves-to z (record { same = h .exact m .page; few = f }) e
 
 -- what each answer says
-pub moved-to : {o : Bool} {p : Page} {n : ℕ} {w : scope.Seen} → Moves o (To p n) w → (codeOf o w ≡ 0) × PageHolds p (w .page) × (n ≡ w .count)
+pub moved-to : {o b : Bool} {p : Page} {n : ℕ} {w : scope.Seen} → Moves o b (To p n) w → (codeOf o b w ≡ 0) × PageHolds p (w .page) × (n ≡ w .count)
 moved-to (moves-to z h e) = (z, h, e)
 
-pub moved-no : {o : Bool} {k : ℕ} {w : scope.Seen} → Moves o (No k) w → (k ≡ codeOf o w) × (k ≡ 0 → ⊥)
+pub moved-no : {o b : Bool} {k : ℕ} {w : scope.Seen} → Moves o b (No k) w → (k ≡ codeOf o b w) × (k ≡ 0 → ⊥)
 moved-no (moves-no e z) = (e, z)

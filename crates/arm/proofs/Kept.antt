@@ -18,7 +18,7 @@ use Rattle.arm.proofs.Ways.{or-false}
 -- the arm after n such operators
 abbrev after : (cursor : Bool) → ℕ → scope.Seen → scope.Seen
 after c n w =
-    record { page = w .page; count = w .count + n; most = w .most; source = w .source; lost = w .lost || (c && not (w .page .cursor)); wrong = w .wrong }
+    record { page = w .page; count = w .count + n; most = w .most; source = w .source; lost = w .lost || (c && not (w .page .cursor)); wrong = w .wrong; wants = w .wants }
 
 lost-more : (l c d n : Bool) → ((l || (c && n)) || (d && n)) ≡ (l || ((c || d) && n))
 lost-more true c d n = refl
@@ -39,12 +39,13 @@ step-after c d n w =
       source = or-false (w .source) i;
       lost = lost-more (w .lost) c d (not (w .page .cursor)) i;
       wrong = or-false (w .wrong) i;
+      wants = w .wants;
     }
 
 none-after : (w : scope.Seen) → w ≡ after false 0 w
 none-after w =
     let e : w .count ≡ w .count + 0 = omega arith in
-    λ i. record { page = w .page; count = e i; most = w .most; source = w .source; lost = sym (or-false (w .lost)) i; wrong = w .wrong }
+    λ i. record { page = w .page; count = e i; most = w .most; source = w .source; lost = sym (or-false (w .lost)) i; wrong = w .wrong; wants = w .wants }
 
 kept-walk : {c : Bool} {row : List Stroke} → Kept c row → (w : scope.Seen) → walk row w ≡ after c (length row) w
 unfolding walk

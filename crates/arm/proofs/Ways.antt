@@ -6,15 +6,15 @@ use mathlib.Core.Bool.{Bool, true, false, not, _&&_, _||_, or-assoc}
 use mathlib.Core.List.{List, [], _∷_, _++_}
 use lib.ListN.{length, length-append}
 use Rattle.scope.specs.Choice.{pick}
-use Rattle.scope.specs.Arm.{Saved, Page, Mark, kept, to, marked, restored, done, Effect, push, pop, put, clash, risen, Act, Seen, step, Stroke, walk, from}
+use Rattle.scope.specs.Arm.{Saved, Page, Mark, kept, to, marked, restored, done, Effect, push, pop, put, Select, no-pattern, pattern, clash, risen, wanted, Act, Seen, step, Stroke, walk, from}
 use Rattle.summary.specs.Balance.{mayDo, depthAfter, Level, Balanced}
 use Rattle.summary.specs.Sums.{fresh}
 
 pub page-eq : {p q : Page} → p .cursor ≡ q .cursor → p .gray ≡ q .gray → p .saved ≡ q .saved → p ≡ q
 page-eq a b c i = record { cursor = a i; gray = b i; saved = c i }
 
-seen-eq : {u v : Seen} → u .page ≡ v .page → u .count ≡ v .count → u .most ≡ v .most → u .source ≡ v .source → u .lost ≡ v .lost → u .wrong ≡ v .wrong → u ≡ v
-seen-eq a b c d e f i = record { page = a i; count = b i; most = c i; source = d i; lost = e i; wrong = f i }
+seen-eq : {u v : Seen} → u .page ≡ v .page → u .count ≡ v .count → u .most ≡ v .most → u .source ≡ v .source → u .lost ≡ v .lost → u .wrong ≡ v .wrong → u .wants ≡ v .wants → u ≡ v
+seen-eq a b c d e f g i = record { page = a i; count = b i; most = c i; source = d i; lost = e i; wrong = f i; wants = g i }
 
 -- a number of saved states, put on top of l others; none stays none
 abbrev pub rise : ℕ → ℕ → ℕ
@@ -45,6 +45,7 @@ inst a b w =
       source = w .source || a .source;
       lost = w .lost || pick (w .page .cursor) (a .lost) (b .lost);
       wrong = w .wrong || pick (w .page .gray) (a .wrong) (b .wrong);
+      wants = a .wants ++ w .wants;
     }
 
 -- the two rows of saved states are of one length
@@ -104,6 +105,11 @@ mixed-risen push a b p wm am s =
 mixed-risen pop a b p wm am s = refl
 mixed-risen (put c g) a b p wm am s = refl
 
+-- one number more behind those selected before
+wanted-append : (s : Select) (ns ms : List ℕ) → wanted s (ns ++ ms) ≡ wanted s ns ++ ms
+wanted-append no-pattern ns ms = refl
+wanted-append (pattern n) ns ms = refl
+
 inst-step : (x : Act) (a b w : Seen) → Same (a .page .saved) (b .page .saved) → mayDo (x .effect) (length (a .page .saved))
     → step x (inst a b w) ≡ inst (step x a) (step x b) w
 unfolding step inst
@@ -113,6 +119,7 @@ inst-step x a b w s m =
     (or-assoc (w .source) (a .source) (x .source))
     (unfold mixed in seen-more (λ (c : Bool). x .cursor && not c) (w .lost) (w .page .cursor) (a .lost) (b .lost) (a .page .cursor) (b .page .cursor))
     (unfold mixed in seen-more (λ (g : Bool). clash (x .space) g) (w .wrong) (w .page .gray) (a .wrong) (b .wrong) (a .page .gray) (b .page .gray))
+    (wanted-append (x .select) (a .wants) (w .wants))
 
 same-restored : (sa sb : List Saved) (a b : Page) → Same sa sb → Same (a .saved) (b .saved) → Same (restored sa a .saved) (restored sb b .saved)
 same-restored [] [] a b s t = t
@@ -162,7 +169,7 @@ inst-fresh : (w : Seen) → inst (fresh true) (fresh false) w ≡ w
 unfolding inst mixed fresh from
 inst-fresh w =
     seen-eq (page-eq (pick-id (w .page .cursor)) (pick-id (w .page .gray)) refl) (omega arith) (omega arith) (or-false (w .source))
-    (rw (pick-false (w .page .cursor)) (or-false (w .lost))) (rw (pick-false (w .page .gray)) (or-false (w .wrong)))
+    (rw (pick-false (w .page .cursor)) (or-false (w .lost))) (rw (pick-false (w .page .gray)) (or-false (w .wrong))) refl
 
 -- THE SUMMARY IS RIGHT: a balanced row, from any page
 pub walk-both : (l : List Stroke) (w : Seen) → Balanced l → walk l w ≡ inst (walk l (fresh true)) (walk l (fresh false)) w

@@ -23,7 +23,7 @@ pub record Exact (s : Seen) (w : scope.Seen) : Type 0 where
   pub lost : s .lost ≡ w .lost
   pub wrong : s .wrong ≡ w .wrong
 
--- the code's s keeps what the arm w has seen
+-- the code's s keeps what the arm w has seen, but for the patterns selected
 pub record Holds (s : Seen) (w : scope.Seen) : Type 0 where
   pub count : s .count ≡ min (w .count) 1_000_001
   pub most : s .most ≡ min (w .most) 25
@@ -32,6 +32,6 @@ pub record Holds (s : Seen) (w : scope.Seen) : Type 0 where
 
 -- the answer to operators that take the arm to w: the page after them and the number performed, where no rule is broken; or the code of the first rule
 -- that is
-pub data Moves (opened : Bool) : Moved → scope.Seen → Type 0 where
-  moves-to : {p : Page} {n : ℕ} {w : scope.Seen} → codeOf opened w ≡ 0 → PageHolds p (w .page) → n ≡ w .count → Moves opened (To p n) w
-  moves-no : {k : ℕ} {w : scope.Seen} → k ≡ codeOf opened w → (k ≡ 0 → ⊥) → Moves opened (No k) w
+pub data Moves (opened bare : Bool) : Moved → scope.Seen → Type 0 where
+  moves-to : {p : Page} {n : ℕ} {w : scope.Seen} → codeOf opened bare w ≡ 0 → PageHolds p (w .page) → n ≡ w .count → Moves opened bare (To p n) w
+  moves-no : {k : ℕ} {w : scope.Seen} → k ≡ codeOf opened bare w → (k ≡ 0 → ⊥) → Moves opened bare (No k) w

@@ -11,6 +11,8 @@ use Rattle.arm.specs.declared.page.Effect.{Effect}
 use Rattle.arm.specs.declared.page.Effect.the-variants.{Push, Pop, Put}
 use Rattle.arm.specs.declared.page.Space.{Space}
 use Rattle.arm.specs.declared.page.Space.the-variants.{Any, Gray, Rgb}
+use Rattle.arm.specs.declared.page.Select.{Select}
+use Rattle.arm.specs.declared.page.Select.the-variants.{Nothing, Pattern}
 use Rattle.arm.specs.declared.page.Act.{Act}
 use Rattle.arm.specs.declared.page.Page.{Page}
 
@@ -47,10 +49,15 @@ spaceAs Any = scope.any
 spaceAs Gray = scope.gray
 spaceAs Rgb = scope.rgb
 
+-- the pattern that an operator selects, or none
+abbrev pub selectAs : Select → scope.Select
+selectAs Nothing = scope.no-pattern
+selectAs (Pattern n) = scope.pattern n
+
 -- what an operator needs and does
 abbrev pub actAs : Act → scope.Act
-actAs a = record { source = a .source; cursor = a .cursor; space = spaceAs (a .space); effect = effectAs (a .effect) }
+actAs a = record { source = a .source; cursor = a .cursor; space = spaceAs (a .space); select = selectAs (a .select); effect = effectAs (a .effect) }
 
--- what an operator needs and does that leaves the page as it is, and needs at most an open source and a set cursor
+-- what an operator needs and does that leaves the page as it is, selects no pattern, and needs at most an open source and a set cursor
 abbrev pub keeping : (source cursor : Bool) → scope.Act
-keeping s c = record { source = s; cursor = c; space = scope.any; effect = scope.put scope.kept scope.kept }
+keeping s c = record { source = s; cursor = c; space = scope.any; select = scope.no-pattern; effect = scope.put scope.kept scope.kept }

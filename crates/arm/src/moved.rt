@@ -1,5 +1,6 @@
 // An operator or a call in a page of the job: the page after it and the number performed, or a refusal.
 ghost use mathlib.Core.Path.{_≡_};
+ghost use mathlib.Core.Bool.{false};
 ghost use Prim.Native.Nat.{ℕ, _≤_};
 ghost use lib.ListN.{length};
 ghost use mathlib.Core.List.{List, [], _∷_};
@@ -22,10 +23,10 @@ pub enum Moved {
 }
 
 // The answer, from what was seen.
-fn answer(seen: Seen, opened: bool) -> Moved
-    ensures { λ r. ⌜ ((q : Arm·Page) (n : ℕ) (row : List Stroke) → length (q .saved) ≤ 24 → Holds seen (walk row (from q n)) → Moves opened r (walk row (from q n))) ⌝ }
+fn answer(seen: Seen, opened: bool, bare: bool) -> Moved
+    ensures { λ r. ⌜ ((q : Arm·Page) (n : ℕ) (row : List Stroke) → length (q .saved) ≤ 24 → Holds seen (walk row (from q n)) → Moves opened bare r (walk row (from q n))) ⌝ }
 {
-    let k = seen.code(opened);
+    let k = seen.code(opened, bare);
     if k != 0 {
         return Moved::No(k);
     }
@@ -34,17 +35,17 @@ fn answer(seen: Seen, opened: bool) -> Moved
 }
 
 impl Page {
-    // An operator that is no call.
-    pub fn perform(self, act: Act, opened: bool, performed: u32) -> Moved
-        ensures { λ r. ⌜ ((q : Arm·Page) (x : Stroke) → PageHolds self q → x .act ≡ actAs act → Moves opened r (walk (x ∷ []) (from q performed))) ⌝ }
+    // An operator that is no call; `bare` says whether it selects a pattern that is not defined.
+    pub fn perform(self, act: Act, opened: bool, bare: bool, performed: u32) -> Moved
+        ensures { λ r. ⌜ ((q : Arm·Page) (x : Stroke) → PageHolds self q → x .act ≡ actAs act → Moves opened bare r (walk (x ∷ []) (from q performed))) ⌝ }
     {
         let seen = Seen::from(self, performed);
-        answer(seen.step(act), opened)
+        answer(seen.step(act), opened, bare)
     }
 
-    // An operator that leaves the page as it is and needs at most an open source and a set cursor: most are so.
+    // An operator that leaves the page as it is, selects no pattern, and needs at most an open source and a set cursor: most are so.
     pub fn keep(self, source: bool, cursor: bool, opened: bool, performed: u32) -> Moved
-        ensures { λ r. ⌜ ((q : Arm·Page) (x : Stroke) → PageHolds self q → x .act ≡ keeping source cursor → Moves opened r (walk (x ∷ []) (from q performed))) ⌝ }
+        ensures { λ r. ⌜ ((q : Arm·Page) (x : Stroke) → PageHolds self q → x .act ≡ keeping source cursor → Moves opened false r (walk (x ∷ []) (from q performed))) ⌝ }
     {
         if lacks(source, opened) {
             return Moved::No(17);
@@ -58,11 +59,11 @@ impl Page {
         Moved::To(self, performed + 1)
     }
 
-    // A call, from what its motif comes to.
-    pub fn call(self, summary: Summary, opened: bool, performed: u32) -> Moved
-        ensures { λ r. ⌜ ((q : Arm·Page) (x : Stroke) (row : List Stroke) → PageHolds self q → x .act ≡ idle → Sums summary row → Moves opened r (walk (x ∷ row) (from q performed))) ⌝ }
+    // A call, from what its motif comes to; `bare` says whether that selects a pattern that is not defined.
+    pub fn call(self, summary: Summary, opened: bool, bare: bool, performed: u32) -> Moved
+        ensures { λ r. ⌜ ((q : Arm·Page) (x : Stroke) (row : List Stroke) → PageHolds self q → x .act ≡ idle → Sums summary row → Moves opened bare r (walk (x ∷ row) (from q performed))) ⌝ }
     {
         let seen = Seen::from(self, performed);
-        answer(seen.call(summary), opened)
+        answer(seen.call(summary), opened, bare)
     }
 }

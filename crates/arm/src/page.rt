@@ -34,11 +34,18 @@ pub enum Space {
     Rgb,
 }
 
+// The pattern that an operator selects, by its number; or none.
+pub enum Select {
+    Nothing,
+    Pattern(u16),
+}
+
 // What an operator needs, and then does.
 pub struct Act {
     pub source: bool,
     pub cursor: bool,
     pub space: Space,
+    pub select: Select,
     pub effect: Effect,
 }
 

@@ -21,7 +21,7 @@ use summary::Ending;
 use summary::Summary;
 
 // The page; the operators performed (past 1,000,000 always 1,000,001); the most states saved right after a PushGS (past 24 always 25); whether an open source
-// was needed, a cursor needed and not set, a colour space needed and another set.
+// was needed, a cursor needed and not set, a colour space needed and another set. The patterns that were selected are not kept here.
 pub struct Seen {
     pub page: Page,
     pub count: u32,
@@ -157,9 +157,9 @@ impl Seen {
         }
     }
 
-    // The code of the first rule broken on the way, or 0.
-    pub fn code(self, opened: bool) -> u32
-        ensures { λ r. ⌜ ((w : Arm·Seen) → Holds self w → r ≡ codeOf opened w) ⌝ }
+    // The code of the first rule broken on the way, or 0; `bare` says whether a pattern that was selected is not defined.
+    pub fn code(self, opened: bool, bare: bool) -> u32
+        ensures { λ r. ⌜ ((w : Arm·Seen) → Holds self w → r ≡ codeOf opened bare w) ⌝ }
     {
         if lacks(self.source, opened) {
             return 17;
@@ -172,6 +172,9 @@ impl Seen {
         }
         if self.wrong {
             return 25;
+        }
+        if bare {
+            return 34;
         }
         if 1_000_001 <= self.count {
             return 26;

@@ -5,6 +5,8 @@ pub const NULL_BRUSH: u8 = 4;
 
 pub const NULL_PEN: u8 = 5;
 
+pub const PATTERN_SELECT_ID: u8 = 8;
+
 pub const GRAY_LEVEL: u8 = 9;
 
 pub const RGB_COLOR: u8 = 11;
@@ -40,6 +42,10 @@ pub const COLOR_MAPPING: u8 = 100;
 pub const COMPRESS_MODE: u8 = 101;
 
 pub const DESTINATION_SIZE: u8 = 103;
+
+pub const PATTERN_PERSISTENCE: u8 = 104;
+
+pub const PATTERN_DEFINE_ID: u8 = 105;
 
 pub const SOURCE_HEIGHT: u8 = 107;
 

@@ -56,3 +56,9 @@ pub const BEGIN_IMAGE: u8 = 0xb0;
 pub const READ_IMAGE: u8 = 0xb1;
 
 pub const END_IMAGE: u8 = 0xb2;
+
+pub const BEGIN_RAST_PATTERN: u8 = 0xb3;
+
+pub const READ_RAST_PATTERN: u8 = 0xb4;
+
+pub const END_RAST_PATTERN: u8 = 0xb5;

@@ -11,9 +11,9 @@ use Rattle.scope.specs.Order as Def-order
 use Rattle.order.specs.declared.due.Due as Code-due
 use Rattle.order.specs.declared.order.Image.{Image}
 use Rattle.order.specs.declared.order.Phase.{Phase}
-use Rattle.order.specs.declared.order.Phase.the-variants.{BetweenSessions, InSession, InStream, InPage, InMotif, InImage}
+use Rattle.order.specs.declared.order.Phase.the-variants.{BetweenSessions, InSession, InStream, InPage, InMotif, InImage, InPattern}
 
--- an image that is being read
+-- an image that is being read, or a pattern
 abbrev pub imageAs : Image → Def.Image
 imageAs i = record { width = i .width; depth = i .depth; height = i .height; rows = i .rows }
 
@@ -25,6 +25,7 @@ phaseAs InStream = Def-order.in-stream
 phaseAs (InPage n) = Def-order.in-page n
 phaseAs (InMotif n) = Def-order.in-motif n
 phaseAs (InImage i) = Def-order.in-image (imageAs i)
+phaseAs (InPattern i) = Def-order.in-pattern (imageAs i)
 
 -- how much data an operator reads
 abbrev pub dueAs : Code-due.Due → Def.Due

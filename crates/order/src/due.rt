@@ -3,7 +3,7 @@ ghost use mathlib.Core.Path.{_≡_};
 ghost use Prim.Native.Nat.{_+_, _*_, _≤_};
 ghost use Rattle.items.specs.Rows.{rowsOf, Sized};
 ghost use Rattle.scope.specs.Attributes.{has};
-ghost use Rattle.scope.specs.Data.{bitsOf, rowOf, padOf, blockDue, pointBytes, dueOf};
+ghost use Rattle.scope.specs.Data.{bitsOf, rowOf, padOf, readsRows, blockDue, pointBytes, dueOf};
 ghost use Rattle.scope.specs.Order.{lengthFits, rowsFit};
 ghost use Rattle.order.specs.Views.{dueAs, imageAs, pointsDue};
 use crate::order::Image;
@@ -17,6 +17,7 @@ use names::attributes::STREAM_DATA_LENGTH;
 use names::operators::LINE_PATH;
 use names::operators::LINE_REL_PATH;
 use names::operators::READ_IMAGE;
+use names::operators::READ_RAST_PATTERN;
 use names::operators::READ_STREAM;
 
 // So many bytes, or none if the operator reads none.
@@ -58,7 +59,17 @@ pub fn pad_of(s: &[u8], high: bool, attrs: &[usize; 80], n: usize) -> u16
     if pad == 0 { 4 } else { pad as u16 }
 }
 
-// The data of a ReadImage: BlockHeight rows.
+// ReadImage and ReadRastPattern read rows.
+pub fn reads_rows(tag: u8) -> bool
+    ensures { λ r. ⌜ r ≡ readsRows tag ⌝ }
+{
+    if tag == READ_IMAGE {
+        return true;
+    }
+    tag == READ_RAST_PATTERN
+}
+
+// Their data: BlockHeight rows.
 fn block_due(s: &[u8], high: bool, image: Image, attrs: &[usize; 80], n: usize) -> usize
     ensures { λ r. ⌜ (Sized (now (attrs .entry)) n → r ≡ blockDue high (now (s .entry)) (imageAs image) (rowsOf (now (attrs .entry)) n)) ⌝ }
 {
@@ -94,7 +105,7 @@ pub fn due_of(s: &[u8], high: bool, image: Image, tag: u8, attrs: &[usize; 80], 
     if tag == READ_STREAM {
         return Due::Reads(attributes::value_in(s, high, attrs, n, STREAM_DATA_LENGTH) as usize);
     }
-    if tag == READ_IMAGE {
+    if reads_rows(tag) {
         return Due::Reads(block_due(s, high, image, attrs, n));
     }
     if tag != LINE_PATH {
@@ -120,7 +131,7 @@ fn length_fits(s: &[u8], high: bool, image: Image, attrs: &[usize; 80], n: usize
 pub fn rows_fit(s: &[u8], high: bool, image: Image, tag: u8, attrs: &[usize; 80], n: usize) -> bool
     ensures { λ r. ⌜ (Sized (now (attrs .entry)) n → r ≡ rowsFit high (now (s .entry)) (imageAs image) tag (rowsOf (now (attrs .entry)) n)) ⌝ }
 {
-    if tag != READ_IMAGE {
+    if !reads_rows(tag) {
         return true;
     }
     let start = attributes::value_in(s, high, attrs, n, START_LINE);

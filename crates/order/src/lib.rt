@@ -1,4 +1,4 @@
-// What may come where, how much data is due, and the image that is open.
+// What may come where, how much data is due, and the image or pattern that is open.
 mod due;
 mod order;
 mod picture;
@@ -11,5 +11,8 @@ pub use due::rows_fit;
 pub use order::Image;
 pub use order::Phase;
 pub use order::may_come;
+pub use picture::Hatch;
 pub use picture::Picture;
+pub use picture::hatch_of;
 pub use picture::picture_after;
+pub use picture::unpacked;

@@ -1,15 +1,19 @@
 // Which operator may come where.
 ghost use mathlib.Core.Path.{_≡_};
-ghost use Rattle.scope.specs.Order.{mayCome, drawn, in-session, in-stream, in-page, in-image};
-ghost use Rattle.order.specs.Views.{phaseAs, imageAs};
+ghost use lib.Dec.{eqb};
+ghost use Rattle.scope.specs.Choice.{pick};
+ghost use Rattle.scope.specs.Order.{mayCome, drawn, in-session, in-stream, in-page};
+ghost use Rattle.order.specs.Views.{phaseAs};
 use names::operators::BEGIN_IMAGE;
 use names::operators::BEGIN_PAGE;
+use names::operators::BEGIN_RAST_PATTERN;
 use names::operators::BEGIN_SESSION;
 use names::operators::BEGIN_STREAM;
 use names::operators::CLOSE_DATA_SOURCE;
 use names::operators::COMMENT;
 use names::operators::END_IMAGE;
 use names::operators::END_PAGE;
+use names::operators::END_RAST_PATTERN;
 use names::operators::END_SESSION;
 use names::operators::END_STREAM;
 use names::operators::EXEC_STREAM;
@@ -17,11 +21,12 @@ use names::operators::OPEN_DATA_SOURCE;
 use names::operators::POP_GS;
 use names::operators::PUSH_GS;
 use names::operators::READ_IMAGE;
+use names::operators::READ_RAST_PATTERN;
 use names::operators::READ_STREAM;
 use names::operators::SET_BRUSH_SOURCE;
 use names::operators::SET_DEFAULT_GS;
 
-// An image that is being read.
+// An image that is being read, or a pattern.
 pub struct Image {
     pub width: u16,
     pub depth: u16,
@@ -37,6 +42,7 @@ pub enum Phase {
     InPage(usize),
     InMotif(usize),
     InImage(Image),
+    InPattern(Image),
 }
 
 // In a page and in a motif.
@@ -100,18 +106,22 @@ fn in_page(saved: usize, opened: bool, tag: u8) -> bool
     if tag == END_PAGE {
         return saved == 0;
     }
+    if tag == BEGIN_RAST_PATTERN {
+        return true;
+    }
     is_drawn(saved, tag)
 }
 
-fn in_image(image: Image, opened: bool, tag: u8) -> bool
-    ensures { λ r. ⌜ r ≡ mayCome (in-image (imageAs image)) opened tag ⌝ }
+// In an image or a pattern: its operator that reads rows; the one that ends it when all are read.
+fn in_rows(image: Image, end: u8, read: u8, tag: u8) -> bool
+    ensures { λ r. ⌜ r ≡ pick (eqb tag end) (eqb (image .rows) (image .height)) (eqb tag read) ⌝ }
 {
     let rows = image.rows;
     let height = image.height as u32;
-    if tag == END_IMAGE {
+    if tag == end {
         return rows == height;
     }
-    tag == READ_IMAGE
+    tag == read
 }
 
 // Whether an operator of the table may come, where the source is open or not.
@@ -124,6 +134,7 @@ pub fn may_come(phase: Phase, opened: bool, tag: u8) -> bool
         Phase::InStream => in_stream(opened, tag),
         Phase::InPage(saved) => in_page(saved, opened, tag),
         Phase::InMotif(saved) => is_drawn(saved, tag),
-        Phase::InImage(image) => in_image(image, opened, tag),
+        Phase::InImage(image) => in_rows(image, END_IMAGE, READ_IMAGE, tag),
+        Phase::InPattern(image) => in_rows(image, END_RAST_PATTERN, READ_RAST_PATTERN, tag),
     }
 }

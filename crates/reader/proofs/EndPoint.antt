@@ -15,7 +15,7 @@ use Rattle.scope.specs.Header.{Class, one, two}
 use Rattle.scope.specs.Setting.{Setting}
 use Rattle.scope.specs.Table.{tableOne, tableTwo, table, lineIn, ruleIn}
 use Rattle.scope.specs.Attributes.{has, twoAt, pointIn, typeTaken, inRange, attributeCode, oneByOne, formCode}
-use Rattle.scope.specs.Data.{dueOf}
+use Rattle.scope.specs.Data.{dueOf, readsRows}
 use Rattle.scope.specs.Order.{Phase, in-page, in-motif, drawn, mayCome, rowsFit}
 use Rattle.scope.specs.Reading.{Context, Read, withData, asWhole, withAttributes, withLine, scanned, operatorAt}
 use Rattle.number.proofs.Digits.{one-digit}
@@ -101,7 +101,7 @@ module _ (high gray opened asked : Bool) (phase : Phase) (s : List ℕ) (at op :
   lined : (class : Class) {point tag bytes : ℕ} → 0 < bytes → Point point bytes → pointIn (twoAt high s point (at + 1)) ≡ true → Drawn tag → mayCome phase opened tag ≡ true
       → withLine (record { set = record { class = class; high = high; gray = gray }; phase = phase; opened = opened; asked = asked }) s tag op (endPoint point at ∷ []) (lineIn (table class) tag)
       ≡ Read.operator (lineOf point tag at op)
-  unfolding withLine lineIn tableOne tableTwo table among withAttributes oneByOne attributeCode ruleIn has twoAt typeTaken inRange asWhole formCode rowsFit withData dueOf
+  unfolding withLine lineIn tableOne tableTwo table among withAttributes oneByOne attributeCode ruleIn has twoAt typeTaken inRange asWhole formCode rowsFit withData dueOf readsRows
   lined one h point-ubyte e drawn-path m = rw m
   lined one h point-ubyte e drawn-rel m = rw m
   lined one h point-uint16 e drawn-path m = rw m

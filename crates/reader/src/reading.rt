@@ -56,7 +56,7 @@ fn lacks(need: bool, has: bool) -> bool
     if need { !has } else { false }
 }
 
-// The image of a phase; one without rows where there is none.
+// The image of a phase, or the pattern; one without rows where there is none.
 fn image_of(phase: Phase) -> Image
     ensures { λ r. ⌜ imageAs r ≡ imageOf (phaseAs phase) ⌝ }
 {
@@ -73,6 +73,7 @@ fn image_of(phase: Phase) -> Image
         Phase::InPage(_) => none,
         Phase::InMotif(_) => none,
         Phase::InImage(image) => image,
+        Phase::InPattern(image) => image,
     }
 }
 

@@ -54,6 +54,7 @@ kindIn (scope.D l) = 5
 kindIn scope.M = 6
 kindIn scope.M2 = 7
 kindIn scope.L = 8
+kindIn scope.I = 9
 
 lowIn : Takes → ℕ
 lowIn (scope.E l h) = l
@@ -65,6 +66,7 @@ lowIn (scope.D l) = l
 lowIn scope.M = 0
 lowIn scope.M2 = 0
 lowIn scope.L = 0
+lowIn scope.I = 0
 
 highIn : Takes → ℕ
 highIn (scope.E l h) = h
@@ -76,12 +78,13 @@ highIn (scope.D l) = 0
 highIn scope.M = 0
 highIn scope.M2 = 0
 highIn scope.L = 0
+highIn scope.I = 0
 
 back : ℕ → ℕ → ℕ → Takes
 back k l h =
     pick (eqb k 0) (scope.E l h)
     (pick (eqb k 1) (scope.N l h)
-    (pick (eqb k 2) scope.P (pick (eqb k 3) scope.B (pick (eqb k 4) (scope.A l h) (pick (eqb k 5) (scope.D l) (pick (eqb k 6) scope.M (pick (eqb k 7) scope.M2 scope.L)))))))
+    (pick (eqb k 2) scope.P (pick (eqb k 3) scope.B (pick (eqb k 4) (scope.A l h) (pick (eqb k 5) (scope.D l) (pick (eqb k 6) scope.M (pick (eqb k 7) scope.M2 (pick (eqb k 8) scope.L scope.I))))))))
 
 there-and-back : (t : Takes) → back (kindIn t) (lowIn t) (highIn t) ≡ t
 unfolding kindIn lowIn highIn back
@@ -94,6 +97,7 @@ there-and-back (scope.D l) = refl
 there-and-back scope.M = refl
 there-and-back scope.M2 = refl
 there-and-back scope.L = refl
+there-and-back scope.I = refl
 
 same-takes : (t u : Takes) → kindIn t ≡ kindIn u → lowIn t ≡ lowIn u → highIn t ≡ highIn u → t ≡ u
 same-takes t u k l h = sym (there-and-back t) ∙ rw (k, l, h) (there-and-back u)

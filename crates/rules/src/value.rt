@@ -76,6 +76,7 @@ pub fn type_taken(kind: Kind, tag: usize) -> bool
         Kind::M => tag == 0xc0,
         Kind::M2 => either(tag, 0xc0, 0xc8),
         Kind::L => any_of(tag, 0xc0, 0xc1, 0xc2),
+        Kind::I => tag == 0xc3,
     }
 }
 
@@ -180,5 +181,6 @@ pub fn in_range(s: &[u8], high: bool, kind: Kind, low: usize, top: usize, a: Att
         Kind::M => media_size(first_number(s, high, a)),
         Kind::M2 => media_size_two(s, high, a),
         Kind::L => true,
+        Kind::I => true,
     }
 }

@@ -58,6 +58,7 @@ module _ (call : List ℕ → List Stroke) (k : ℕ) where
       ended-again : (w : Inside) (p : Picture) → onEnd s w p ≡ valid ops → flat call k (w .ops) ≡ flat call k ops
       unfolding onEnd
       ended-again w (Picture.being i) e = not-valid e
+      ended-again w (Picture.hatching h i) e = not-valid e
       ended-again w Picture.none e = by (eqb (w .saved) 0) e
         where
           by : (b : Bool) → pick b (valid (w .ops)) (faulty 27 (length s)) ≡ valid ops → flat call k (w .ops) ≡ flat call k ops

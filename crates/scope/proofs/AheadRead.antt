@@ -90,6 +90,7 @@ module _ (u v : List ℕ) where
     range-cut M a i e = ap (λ z. between 0 12 z || between 14 16 z) (first-cut i)
     range-cut M2 a i e = ap (λ z. pick (eqb (a .tag) 0xc8) (between 1 1024 (a .count)) (between 0 21 z || eqb z 96)) (first-cut i)
     range-cut L a i e = refl
+    range-cut Takes.I a i e = refl
 
     code-cut : (before : List Attribute) (a : Attribute) → Inside (length u) a → (r : Ruled) → attributeCode high u before a r ≡ attributeCode high w before a r
     unfolding attributeCode

@@ -103,8 +103,14 @@ module _ (h k : Bool) (s t : List ℕ) (At On : ℕ → ℕ → Type 0) where
     unfolding firstOf twoAt kindOf widthOf
     word-like e = rw (sym (x .tag), e) (first-word 0xc1 2 e refl)
 
-    whole-like : eqb (a .tag) 0xc0 || eqb (a .tag) 0xc1 ≡ true → firstOf h s a ≡ firstOf k t b
-    whole-like e = either (eqb (a .tag) 0xc0) (eqb (a .tag) 0xc1) e (λ f. ubyte-like (eqb-true (a .tag) 0xc0 f)) (λ f. word-like (eqb-true (a .tag) 0xc1 f))
+    short-like : a .tag ≡ 0xc3 → firstOf h s a ≡ firstOf k t b
+    unfolding firstOf twoAt kindOf widthOf
+    short-like e = rw (sym (x .tag), e) (first-word 0xc3 2 e refl)
+
+    whole-like : eqb (a .tag) 0xc0 || (eqb (a .tag) 0xc1 || eqb (a .tag) 0xc3) ≡ true → firstOf h s a ≡ firstOf k t b
+    whole-like e =
+        either (eqb (a .tag) 0xc0) _ e (λ f. ubyte-like (eqb-true (a .tag) 0xc0 f))
+        (λ e2. either (eqb (a .tag) 0xc1) _ e2 (λ f. word-like (eqb-true (a .tag) 0xc1 f)) (λ f. short-like (eqb-true (a .tag) 0xc3 f)))
 
     long-like : eqb (a .tag) 0xc0 || (eqb (a .tag) 0xc1 || eqb (a .tag) 0xc2) ≡ true → numberOf h (longBytes (a .tag)) s (a .first) ≡ numberOf k (longBytes (b .tag)) t (b .first)
     unfolding kindOf widthOf
@@ -138,7 +144,8 @@ module _ (h k : Bool) (s t : List ℕ) (At On : ℕ → ℕ → Type 0) where
     range-like : (r : Takes) → typeTaken r (a .tag) ≡ true → inRange h s r a ≡ inRange k t r b
     unfolding inRange typeTaken
     range-like (E low up) e = ap (between low up) (ubyte-like (eqb-true (a .tag) 0xc0 e))
-    range-like (N low up) e = ap (between low up) (whole-like e)
+    range-like (N low up) e =
+        ap (between low up) (either (eqb (a .tag) 0xc0) _ e (λ f. ubyte-like (eqb-true (a .tag) 0xc0 f)) (λ f. word-like (eqb-true (a .tag) 0xc1 f)))
     range-like P e = point-like
     range-like B e = refl
     range-like (A low up) e = ap (between low up) (x .count)
@@ -150,6 +157,7 @@ module _ (h k : Bool) (s t : List ℕ) (At On : ℕ → ℕ → Type 0) where
         (λ f. let g = ubyte-like (eqb-true (a .tag) 0xc0 f) in λ i. pick (eqb (x .tag i) 0xc8) (between 1 1024 (x .count i)) (between 0 21 (g i) || eqb (g i) 96))
         (λ f. rw (sym (x .tag), f) (ap (between 1 1024) (x .count)))
     range-like L e = refl
+    range-like Takes.I e = refl
 
     code-like : {l m : List Attribute} → LikeAttrs l m → (r : Ruled) → attributeCode h s l a r ≡ attributeCode k t m b r
     unfolding attributeCode

@@ -11,7 +11,7 @@ use Rattle.scope.specs.Choice.{pick}
 use Rattle.scope.specs.Item.{Attribute, Scan, scanAt}
 use Rattle.scope.specs.Table.{Row, Line}
 use Rattle.scope.specs.Attributes.{Fault, fine, bad, has}
-use Rattle.scope.specs.Data.{Image, Due, Found, dueOf}
+use Rattle.scope.specs.Data.{Image, Due, Found, dueOf, readsRows}
 use Rattle.scope.specs.Order.{Phase, mayCome, imageOf, rowsFit}
 use Rattle.scope.proofs.Ends.{pick-all}
 use Rattle.scope.specs.Setting.{Setting}
@@ -49,11 +49,16 @@ line-too tag true b e f t = another tag 0x9b e refl
 line-too tag false true e f t = another tag 0x9d f refl
 line-too tag false false e f t = absurd (let z : _≡_ {A = ℕ} 0 1 = cc in omega arith)
 
+rows-too : (tag : ℕ) (a b : Bool) → eqb tag 0xb1 ≡ a → eqb tag 0xb4 ≡ b → (a || b) ≡ true → eqb tag 0x5e ≡ false
+rows-too tag true b e f t = another tag 0xb1 e refl
+rows-too tag false true e f t = another tag 0xb4 f refl
+rows-too tag false false e f t = absurd (let z : _≡_ {A = ℕ} 0 1 = cc in omega arith)
+
 due-no-call : (high : Bool) (s : List ℕ) (i : Image) (tag : ℕ) (l : List Attribute) → NoCall tag (dueOf high s i tag l)
-unfolding dueOf
+unfolding dueOf readsRows
 due-no-call high s i tag l =
     pick-all (NoCall tag) (eqb tag 0x5c) (λ t. reading (another tag 0x5c t refl))
-    (λ _. pick-all (NoCall tag) (eqb tag 0xb1) (λ t. reading (another tag 0xb1 t refl))
+    (λ _. pick-all (NoCall tag) (eqb tag 0xb1 || eqb tag 0xb4) (λ t. reading (rows-too tag (eqb tag 0xb1) (eqb tag 0xb4) refl refl t))
     (λ _. pick-all (NoCall tag) (eqb tag 0x9b || eqb tag 0x9d)
     (λ t. pick-all (NoCall tag) (has 77 l) (λ _. reading (line-too tag (eqb tag 0x9b) (eqb tag 0x9d) refl refl t)) (λ _. quiet)) (λ _. quiet)))
 

@@ -31,7 +31,7 @@ use Rattle.scope.proofs.Replaces.{kept-replaced}
 abbrev Spare : Busy → List Motif → Type 0
 Spare resting l = Unit {0}
 Spare (reading n j) l = isHeld (heldAs n l) ≡ false → length l < 64
-Spare (drawing p i) l = Unit {0}
+Spare (drawing p ns i) l = Unit {0}
 
 record Roomy (x : Session) : Type 0 where
   few : length (x .held) ≤ 64
@@ -72,7 +72,7 @@ module _ (set : Setting) (s : List ℕ) (o : Operator) (p : Page) where
     reads : eqb (o .tag) 0x5c ≡ true → bytesHeld (x .held) + (length (joinedOf (x .busy)) + o .length) ≤ 16384
 
   by-resting : (x : Session) → length (x .held) ≤ 64 → bytesHeld (x .held) ≤ 16384 → (b c d : Bool) → (c ≡ true → isHeld (heldAs name (x .held)) ≡ false → length (x .held) < 64)
-      → Roomy (record { held = x .held; opened = d; busy = pick b (drawing (blank (set .gray)) Picture.none) (pick c (reading name []) resting) })
+      → Roomy (record { held = x .held; opened = d; patterns = x .patterns; busy = pick b (drawing (blank (set .gray)) [] Picture.none) (pick c (reading name []) resting) })
   by-resting x h k true c d f = record { few = h; spare = tt; bytes = omega arith }
   by-resting x h k false true d f = record { few = h; spare = f refl; bytes = omega arith }
   by-resting x h k false false d f = record { few = h; spare = tt; bytes = omega arith }
@@ -90,7 +90,7 @@ module _ (set : Setting) (s : List ℕ) (o : Operator) (p : Page) where
         bytes = let e = length-append j (take (o .length) (drop (o .first) s)) in let a = take-short (o .length) (drop (o .first) s) in let b = g t in omega arith;
       })
       (λ _. record { few = kept-few n j (motifOf set j) (x .held) h k; spare = tt; bytes = let e = kept-bytes n j (motifOf set j) (x .held) in omega arith })
-  session-roomy (drawing q i) x h k l f g =
+  session-roomy (drawing q ns i) x h k l f g =
       pick-all Roomy (eqb (o .tag) 0x44) (λ _. record { few = h; spare = tt; bytes = l }) (λ _. record { few = h; spare = tt; bytes = l })
 
   place-roomy : (q : Place) → Roomy (sessionOf q) → Fits (sessionOf q) → Roomy (sessionOf (placeAfter set s o p q))

@@ -13,14 +13,14 @@ use Rattle.scope.specs.Setting.{Setting, ofMotif, sameClass}
 use Rattle.scope.specs.Reading.{Read}
 use Rattle.scope.specs.Motif.{Own, Inside, Picture, Judged, valid, faulty, contextIn, onEnd, onRead, motifStep, judgedInside, motifFrom, motifOf}
 use Rattle.scope.specs.Calls.{nothing}
-use Rattle.scope.specs.Session.{Place, outside, inside}
-use Rattle.scope.specs.Judge.{State, endAt, Case, Rule, rule, motifs-own, Refusal, early, armed, limits, rules, firstBroken, ownOr, outer, judgedAt, tooMuch, nameMissing, callsItself, tooDeep, sourceClosed, savedOver, cursorUnset, spaceWrong, countOver, roomOver}
+use Rattle.scope.specs.Session.{Session, Place, outside, inside, pagePatterns}
+use Rattle.scope.specs.Judge.{State, endAt, Case, Rule, rule, motifs-own, Refusal, early, armed, limits, rules, firstBroken, ownOr, outer, judgedAt, tooMuch, noPlace, nameMissing, callsItself, tooDeep, sourceClosed, savedOver, cursorUnset, spaceWrong, patternMissing, countOver, roomOver}
 use Rattle.scope.specs.Verdict.{every, layout}
 use Rattle.scope.specs.Claims.{BreaksNone}
 use Rattle.scope.proofs.Ends.{pick-all, Kept, kept-go, kept-stop, iterate-holds, given-here, Coded, GoodRead, read-good}
 use Rattle.scope.proofs.Apart.{clash-of}
 use Rattle.scope.proofs.Broken.{orElse, first-none, second-none, first-append, breaks-none}
-use Rattle.scope.proofs.Rows.{Clean}
+use Rattle.scope.proofs.Rows.{Around, Clean}
 
 pub data GoodJudged : Judged → Type 0 where
   good : {ops : List Own} → GoodJudged (valid ops)
@@ -47,6 +47,7 @@ module _ (set : Setting) (s : List ℕ) where
   end-good : (w : Inside) (p : Picture) → GoodJudged (onEnd s w p)
   unfolding onEnd
   end-good w (Picture.being i) = ill tt
+  end-good w (Picture.hatching h i) = ill tt
   end-good w Picture.none = pick-all GoodJudged (eqb (w .saved) 0) (λ _. good) (λ _. ill tt)
 
   on-read-good : (w : Inside) {at len : ℕ} {may : ℕ → Bool} {r : Read} → GoodRead len at may r → Kept Any GoodJudged (onRead set s w r)
@@ -146,19 +147,20 @@ none-layout room c e =
     let f = first-none (firstBroken every c early) _ (sym (first-append every c early (armed ++ limits room)) ∙ e) in
     first-append layout c early (armed ++ limits 0) ∙ ap (λ r. orElse r (firstBroken layout c (armed ++ limits 0))) (early-layout c ∙ f) ∙ others-none c
 
--- what an operator keeps to that breaks no layout rule: there is room for its motif, no motif is faulty, and its call meets nothing
+-- what an operator keeps to that breaks no layout rule: there is room for its motif and a place for its pattern, no motif is faulty, and its call meets nothing
 pub data Valid : Judged → Type 0 where
   fine : {ops : List Own} → Valid (valid ops)
 
 pub record Laid (c : Case) : Type 0 where
   pub fits : tooMuch c ≡ false
+  pub spare : noPlace c ≡ false
   pub made : Valid (c .made)
   pub met : c .met ≡ nothing
 
 pub early-laid : (c : Case) → BreaksNone c early → Laid c
 unfolding early nameMissing callsItself tooDeep
-early-laid c (BreaksNone.kept a (BreaksNone.sound v (BreaksNone.kept m (BreaksNone.kept r (BreaksNone.kept d BreaksNone.none))))) =
-    record { fits = a; made = subst⁻¹ Valid v fine; met = λ i. record { missing = m i; again = r i; deep = d i } }
+early-laid c (BreaksNone.kept a (BreaksNone.kept b (BreaksNone.sound v (BreaksNone.kept m (BreaksNone.kept r (BreaksNone.kept d BreaksNone.none)))))) =
+    record { fits = a; spare = b; made = subst⁻¹ Valid v fine; met = λ i. record { missing = m i; again = r i; deep = d i } }
 
 pub laid : (c : Case) → firstBroken layout c (rules 0) ≡ Refusal.none → Laid c
 laid c e = early-laid c (breaks-none c early (early-none c e))
@@ -173,16 +175,20 @@ none-fits room c e =
     let k = sym (layout-none room c (none-layout room c e)) ∙ e in
     fits-of room c (breaks-none c (limits room) (second-none (firstBroken every c armed) _ (sym (first-append every c armed (limits room)) ∙ k)))
 
-pub clean-none : (room : ℕ) (c : Case) → Clean (c .session .opened) (c .seen) → c .records * 16 ≤ room → stateCode room c ≡ Refusal.none
-unfolding stateCode firstBroken armed limits sourceClosed savedOver cursorUnset spaceWrong countOver roomOver
+-- what is around the operators that are performed for an operator of a session
+abbrev pub around : Session → Around
+around x = record { opened = x .opened; ofPage = pagePatterns (x .busy); ofSession = x .patterns }
+
+pub clean-none : (room : ℕ) (c : Case) → Clean (around (c .session)) (c .seen) → c .records * 16 ≤ room → stateCode room c ≡ Refusal.none
+unfolding stateCode firstBroken armed limits sourceClosed savedOver cursorUnset spaceWrong patternMissing countOver roomOver
 clean-none room c h r =
-    rw (h .source, le-ltb 24 (c .seen .most) (h .most), h .lost, h .wrong, le-ltb 1_000_000 (c .seen .count) (h .count), le-ltb room (c .records * 16) r)
+    rw (h .source, le-ltb 24 (c .seen .most) (h .most), h .lost, h .wrong, h .there, le-ltb 1_000_000 (c .seen .count) (h .count), le-ltb room (c .records * 16) r)
 
-clean-of : (room : ℕ) (c : Case) → BreaksNone c (armed ++ limits room) → Clean (c .session .opened) (c .seen)
-unfolding armed limits sourceClosed savedOver cursorUnset spaceWrong countOver
-clean-of room c (BreaksNone.kept a (BreaksNone.kept b (BreaksNone.kept d (BreaksNone.kept f (BreaksNone.kept g r))))) =
-    record { source = a; most = ltb-false 24 (c .seen .most) b; lost = d; wrong = f; count = ltb-false 1_000_000 (c .seen .count) g }
+clean-of : (room : ℕ) (c : Case) → BreaksNone c (armed ++ limits room) → Clean (around (c .session)) (c .seen)
+unfolding armed limits sourceClosed savedOver cursorUnset spaceWrong patternMissing countOver
+clean-of room c (BreaksNone.kept a (BreaksNone.kept b (BreaksNone.kept d (BreaksNone.kept f (BreaksNone.kept n (BreaksNone.kept g r)))))) =
+    record { source = a; most = ltb-false 24 (c .seen .most) b; lost = d; wrong = f; there = n; count = ltb-false 1_000_000 (c .seen .count) g }
 
-pub none-clean : (room : ℕ) (c : Case) → stateCode room c ≡ Refusal.none → Clean (c .session .opened) (c .seen)
+pub none-clean : (room : ℕ) (c : Case) → stateCode room c ≡ Refusal.none → Clean (around (c .session)) (c .seen)
 unfolding stateCode
 none-clean room c e = clean-of room c (breaks-none c (armed ++ limits room) e)

@@ -19,7 +19,7 @@ use Rattle.scope.specs.Arm.{Page, Seen, actOf, step, walk, from, Stroke}
 use Rattle.scope.specs.Motif.{Motif}
 use Rattle.scope.specs.Setting.{Setting}
 use Rattle.scope.specs.Session.{sessionOf, phaseOf, pageOf, rowFor}
-use Rattle.scope.specs.Judge.{State, Outcome, refusedAt, outer, Case, Refusal, starting, caseOf, after, endAt, rules, firstBroken, onRefusal, onCase, onRead, contextOf, jobStep, judgedFrom}
+use Rattle.scope.specs.Judge.{State, Outcome, refusedAt, outer, Case, Refusal, starting, caseOf, after, endAt, rules, firstBroken, someMissing, onRefusal, onCase, onRead, contextOf, jobStep, judgedFrom}
 use Rattle.scope.specs.Verdict.{every, layout, judgedAfter, Entry, entryOf, outcomeAt, outcomeOf, verdictOf}
 use Rattle.scope.specs.Plain.{Turn, Deed, comes, deeds, turnOf, performed, contextAt, onOperator, onNext, unrollStep, unfoldedAfter, unfoldingOf, atStart}
 use Rattle.scope.specs.Claims.{Demand3}
@@ -29,9 +29,9 @@ use native.Mathlib.Nat.{zero-add}
 use mathlib.Core.Logic.{_↔_}
 use Rattle.scope.proofs.Falls.{judged-step}
 use Rattle.scope.proofs.Asks.{Asks, alike, failed, closed, read-asks}
-use Rattle.scope.proofs.Rows.{Clean, armOf, row-clean, clean-row, comes-append, deeds-length, walk-count}
-use Rattle.scope.proofs.Codes.{end-state, not-coded, GoodJudged, judged-good, Refuses, not-so, so, broken-coded, stateCode, Laid, laid, layout-none, clean-none, none-clean, GoodHeader, header-good}
-use Rattle.scope.proofs.Stands.{Shaped, shaped, row-shaped, standing, stands}
+use Rattle.scope.proofs.Rows.{Around, Clean, armOf, row-clean, clean-row, comes-append, deeds-length, walk-count}
+use Rattle.scope.proofs.Codes.{end-state, not-coded, GoodJudged, judged-good, Refuses, not-so, so, broken-coded, stateCode, around, Laid, laid, layout-none, clean-none, none-clean, GoodHeader, header-good}
+use Rattle.scope.proofs.Stands.{doingOf, Shaped, shaped, row-shaped, standing, stands}
 use Rattle.scope.specs.Sound.{Sound, sound-none}
 use Rattle.scope.proofs.Sound.{knownOf}
 use Rattle.scope.proofs.Runs.{runs-of, ends-state, runs-grow}
@@ -57,15 +57,15 @@ module _ (set : Setting) (s : List ℕ) where
       subst⁻¹ (λ w. st .records ≤ w .records) (ends-state layout set s 0 (c .ends)) (runs-grow layout set s 0 (c .runs) .1)
 
 -- what an operator's row says of the plain arm, for rows of either shape
-shaped-clean : (o : Bool) {t : Turn} {r : List Stroke} (w : Seen) → Shaped t r → Clean o w → comes (deeds t r) (armOf o w) ≡ true → Clean o (walk r w)
+shaped-clean : (o : Around) {t : Turn} {r : List Stroke} (w : Seen) → Shaped t r → Clean o w → comes (deeds t r) (armOf o w) ≡ true → Clean o (walk r w)
 shaped-clean o {t} w (shaped {a = a} {l = l} f) h e = row-clean o t a l w f h e
 
-clean-shaped : (o : Bool) {t : Turn} {r : List Stroke} (w : Seen) → Shaped t r → Clean o (walk r w) → comes (deeds t r) (armOf o w) ≡ true
+clean-shaped : (o : Around) {t : Turn} {r : List Stroke} (w : Seen) → Shaped t r → Clean o (walk r w) → comes (deeds t r) (armOf o w) ≡ true
 clean-shaped o {t} w (shaped {a = a} {l = l} f) h = clean-row o t a l w f h
 
-start-clean : (o : Bool) (p : Page) (n : ℕ) → n ≤ 1_000_000 → Clean o (from p n)
-unfolding from
-start-clean o p n h = record { source = refl; most = omega arith; lost = refl; wrong = refl; count = h }
+start-clean : (o : Around) (p : Page) (n : ℕ) → n ≤ 1_000_000 → Clean o (from p n)
+unfolding from someMissing
+start-clean o p n h = record { source = refl; most = omega arith; lost = refl; wrong = refl; there = refl; count = h }
 
 both-true : (a b : Bool) → pick a b false ≡ true → a ≡ true
 both-true true b e = refl
@@ -102,7 +102,7 @@ module _ (set : Setting) (s : List ℕ) (room : ℕ) where
     st′ = next set s st o
 
     abbrev own : List Deed
-    own = deeds (turnOf (set .gray) (o .tag)) (rowOf set s st o)
+    own = deeds (turnOf (set .gray) (doingOf (st .place)) (o .tag)) (rowOf set s st o)
 
     abbrev later : List Deed
     later = unrolled set s (at-state st′ [])
@@ -118,34 +118,34 @@ module _ (set : Setting) (s : List ℕ) (room : ℕ) where
         ap (λ l. comes l (standing st)) all-is ∙ comes-append own later (standing st)
         ∙ ap (λ w. pick (comes own (standing st)) (comes later w) false) (stands set s st o may)
 
-    own-clean : st .performed ≤ 1_000_000 → comes all (standing st) ≡ true → Clean (case-of .session .opened) (case-of .seen)
+    own-clean : st .performed ≤ 1_000_000 → comes all (standing st) ≡ true → Clean (around (case-of .session)) (case-of .seen)
     unfolding caseOf from
     own-clean h e =
         let x = sessionOf (st .place) in
-        shaped-clean (x .opened) (from (pageOf (x .busy)) (st .performed)) (row-shaped set s (x .held) o) (start-clean (x .opened) (pageOf (x .busy)) (st .performed) h)
+        shaped-clean (around x) (from (pageOf (x .busy)) (st .performed)) (row-shaped set s (doingOf (st .place)) (x .held) o) (start-clean (around x) (pageOf (x .busy)) (st .performed) h)
         (both-true (comes own (standing st)) (comes later (standing st′)) (sym comes-all ∙ e))
 
-    clean-own : Clean (case-of .session .opened) (case-of .seen) → comes own (standing st) ≡ true
+    clean-own : Clean (around (case-of .session)) (case-of .seen) → comes own (standing st) ≡ true
     unfolding caseOf from
     clean-own h =
         let x = sessionOf (st .place) in
-        clean-shaped (x .opened) (from (pageOf (x .busy)) (st .performed)) (row-shaped set s (x .held) o) h
+        clean-shaped (around x) (from (pageOf (x .busy)) (st .performed)) (row-shaped set s (doingOf (st .place)) (x .held) o) h
 
     counted : st′ .performed ≡ st .performed + length (rowOf set s st o)
     unfolding after caseOf from
     counted = walk-count (rowOf set s st o) (from (pageOf (sessionOf (st .place) .busy)) (st .performed))
 
     all-length : length all ≡ length (rowOf set s st o) + length later
-    all-length = ap length all-is ∙ length-append own later ∙ ap (λ k. k + length later) (deeds-length (turnOf (set .gray) (o .tag)) (rowOf set s st o))
+    all-length = ap length all-is ∙ length-append own later ∙ ap (λ k. k + length later) (deeds-length (turnOf (set .gray) (doingOf (st .place)) (o .tag)) (rowOf set s st o))
 
     -- the operator is refused: the plain arm breaks a rule in its row
-    stopped : (code place inner : ℕ) → Coded code → (Clean (case-of .session .opened) (case-of .seen) → ⊥) → st .performed ≤ 1_000_000
+    stopped : (code place inner : ℕ) → Coded code → (Clean (around (case-of .session)) (case-of .seen) → ⊥) → st .performed ≤ 1_000_000
         → Result (refusedAt code place inner st) all st
     stopped code place inner k d h =
         record { passes = λ e. not-coded code k e; back = λ e. absurd (d (own-clean h e)); count = λ e. not-coded code k e }
 
     -- it is performed
-    performed-on : Clean (case-of .session .opened) (case-of .seen) → Result (full st′) later st′ → Result (full st′) all st
+    performed-on : Clean (around (case-of .session)) (case-of .seen) → Result (full st′) later st′ → Result (full st′) all st
     performed-on h r =
         let e = comes-all ∙ ap (λ b. pick b (comes later (standing st′)) false) (clean-own h) in
         record {

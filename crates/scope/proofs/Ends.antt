@@ -46,7 +46,7 @@ module _ {S R : Type 0} (step : S → Next S R) (d : R) (I : S → Type 0) (Q : 
 
 -- a code that is given here is one of 2 to 28 but 20, or 32: not 0, which is a pass, nor 1 or 29, which only the entry gives
 abbrev pub given-here : ℕ → Bool
-given-here k = between 2 19 k || (between 21 28 k || between 32 32 k)
+given-here k = between 2 19 k || (between 21 28 k || between 32 34 k)
 
 abbrev pub Coded : ℕ → Type 0
 Coded k = T (given-here k)

@@ -15,7 +15,7 @@ use Rattle.scope.specs.Iterate.{onward}
 use Rattle.scope.specs.Item.{Attribute, Pair, pairAt, Scan, Walk, onPair, endedWith, scanItem, scanStep, scanFrom, scanAt, white, spaces, after as blackAfter}
 use Rattle.scope.specs.Table.{Row, Line, table, lineIn}
 use Rattle.scope.specs.Attributes.{Fault, fine, bad}
-use Rattle.scope.specs.Data.{dueOf}
+use Rattle.scope.specs.Data.{dueOf, readsRows}
 use Rattle.scope.specs.Order.{mayCome, imageOf, rowsFit}
 use Rattle.scope.specs.Reading.{Context, Operator, Read, withData, asWhole, withAttributes, withLine, scanned, operatorAt}
 use Rattle.scope.specs.Setting.{Setting}
@@ -119,7 +119,7 @@ Short (Read.no code place) = Unit {0}
 
 module _ (c : Context) (s : List ℕ) (at : ℕ) (l : List Attribute) where
   whole-short : (code : ℕ) → Short (asWhole c s 0x42 at l code)
-  unfolding asWhole withData dueOf
+  unfolding asWhole withData dueOf readsRows
   whole-short code =
       pick-all Short (eqb code 0) (λ _. pick-all Short (rowsFit (c .set .high) s (imageOf (c .phase)) 0x42 l) (λ _. λ _. refl) (λ _. tt)) (λ _. tt)
 

@@ -9,7 +9,7 @@ use lib.ListN.{length, take, drop}
 use lib.Dec.{eqb}
 use Rattle.scope.specs.Choice.{pick, among}
 use Rattle.scope.specs.Attributes.{bytesIn}
-use Rattle.scope.specs.Order.{mayCome, drawn, in-stream, in-page, in-image}
+use Rattle.scope.specs.Order.{mayCome, drawn, in-stream, in-page, in-image, in-pattern}
 use Rattle.scope.specs.Reading.{Operator}
 use Rattle.scope.specs.Arm.{Page}
 use Rattle.scope.specs.Motif.{Picture, Judged, valid, motifOf}
@@ -19,18 +19,9 @@ use Rattle.scope.specs.Judge.{State, caseOf, after, judgedAt}
 use Rattle.scope.specs.Plain.{Known, Doing, doingAfter, learnt, knownAfter, Unrolled, deeds, turnOf, Deed, deedsFor, onOperator, phaseAt, performed}
 use Rattle.scope.proofs.Codes.{Valid, Laid}
 use Rattle.scope.proofs.Apart.{clash-of, differs}
-use Rattle.scope.proofs.Stands.{standing, stands}
+use Rattle.scope.proofs.Stands.{doingBusy, doingOf, standing, stands}
 use Rattle.scope.specs.Sound.{Sound, sound-none}
 use Rattle.scope.proofs.Sound.{knownOf, row-again, kept-known, kept-sound}
-
-abbrev pub doingBusy : Busy → Doing
-doingBusy resting = Doing.resting
-doingBusy (reading n j) = Doing.reading n j
-doingBusy (drawing p i) = Doing.drawing i
-
-abbrev pub doingOf : Place → Doing
-doingOf (outside b) = Doing.outside
-doingOf (inside x) = doingBusy (x .busy)
 
 -- where the arm stands in a state
 abbrev pub at-state : State → List Deed → Unrolled
@@ -41,8 +32,9 @@ phase-busy : (b : Busy) → phaseAt (doingBusy b) (pageOf b) ≡ phaseBusy b
 unfolding phaseAt phaseBusy phaseDrawing
 phase-busy resting = refl
 phase-busy (reading n j) = refl
-phase-busy (drawing p Picture.none) = refl
-phase-busy (drawing p (Picture.being i)) = refl
+phase-busy (drawing p ns Picture.none) = refl
+phase-busy (drawing p ns (Picture.being i)) = refl
+phase-busy (drawing p ns (Picture.hatching h i)) = refl
 
 pub phase-same : (p : Place) → phaseAt (doingOf p) (pageOf (sessionOf p .busy)) ≡ phaseOf p
 unfolding phaseOf phaseAt
@@ -58,29 +50,29 @@ record Follows (set : Setting) (d : Doing) (l : List Known) (q : Place) : Type 0
 module _ (set : Setting) (s : List ℕ) (o : Operator) (p : Page) where
   by-reading : (n j : List ℕ) (x : Session) → Sound set (x .held) → (b : Bool) → {m : Judged} → motifOf set j ≡ m → (b ≡ false → Valid m)
       → Follows set (pick b (Doing.reading n (j ++ take (o .length) (drop (o .first) s))) Doing.resting) (pick b (knownOf (x .held)) (learnt n j (knownOf (x .held))))
-      (inside (pick b (record { held = x .held; opened = x .opened; busy = reading n (j ++ take (o .length) (drop (o .first) s)) })
-      (record { held = keptAs n j m (x .held); opened = x .opened; busy = resting })))
+      (inside (pick b (record { held = x .held; opened = x .opened; patterns = x .patterns; busy = reading n (j ++ take (o .length) (drop (o .first) s)) })
+      (record { held = keptAs n j m (x .held); opened = x .opened; patterns = x .patterns; busy = resting })))
   by-reading n j x k true e v = record { doing = refl; known = refl; sound = k }
   by-reading n j x k false {m} e v = ended m e (v refl)
     where
       ended : (m : Judged) → motifOf set j ≡ m → Valid m
-          → Follows set Doing.resting (learnt n j (knownOf (x .held))) (inside (record { held = keptAs n j m (x .held); opened = x .opened; busy = resting }))
+          → Follows set Doing.resting (learnt n j (knownOf (x .held))) (inside (record { held = keptAs n j m (x .held); opened = x .opened; patterns = x .patterns; busy = resting }))
       ended (valid ops) g h = record { doing = refl; known = kept-known n j ops k; sound = kept-sound n j ops g k }
 
   by-resting : (x : Session) → Sound set (x .held) → (a b c d : Bool)
       → Follows set (pick a Doing.outside (pick b (Doing.drawing Picture.none) (pick c (Doing.reading (bytesIn s (o .attrs) 139) []) Doing.resting))) (pick a [] (knownOf (x .held)))
-      (pick a (outside true) (inside (record { held = x .held; opened = d; busy = pick b (drawing (record { cursor = false; gray = set .gray; saved = [] }) Picture.none) (pick c (reading (bytesIn s (o .attrs) 139) []) resting) })))
+      (pick a (outside true) (inside (record { held = x .held; opened = d; patterns = x .patterns; busy = pick b (drawing (record { cursor = false; gray = set .gray; saved = [] }) [] Picture.none) (pick c (reading (bytesIn s (o .attrs) 139) []) resting) })))
   unfolding knownOf
   by-resting x k true b c d = record { doing = refl; known = refl; sound = sound-none }
   by-resting x k false true c d = record { doing = refl; known = refl; sound = k }
   by-resting x k false false true d = record { doing = refl; known = refl; sound = k }
   by-resting x k false false false d = record { doing = refl; known = refl; sound = k }
 
-  by-drawing : (x : Session) → Sound set (x .held) → (i : Picture) (b : Bool)
+  by-drawing : (x : Session) → Sound set (x .held) → (ns ms : List ℕ) (i : Picture) (b : Bool)
       → Follows set (pick b Doing.resting (Doing.drawing i)) (knownOf (x .held))
-      (inside (pick b (record { held = x .held; opened = x .opened; busy = resting }) (record { held = x .held; opened = x .opened; busy = drawing p i })))
-  by-drawing x k i true = record { doing = refl; known = refl; sound = k }
-  by-drawing x k i false = record { doing = refl; known = refl; sound = k }
+      (inside (pick b (record { held = x .held; opened = x .opened; patterns = x .patterns; busy = resting }) (record { held = x .held; opened = x .opened; patterns = ns; busy = drawing p ms i })))
+  by-drawing x k ns ms i true = record { doing = refl; known = refl; sound = k }
+  by-drawing x k ns ms i false = record { doing = refl; known = refl; sound = k }
 
   either : (a b : Bool) → (a || b) ≡ true → a ≡ false → b ≡ true
   either true b e f = clash-of f
@@ -95,10 +87,12 @@ module _ (set : Setting) (s : List ℕ) (o : Operator) (p : Page) where
   follow-busy x (reading n j) k h v =
       rw (differs (mayCome in-stream (x .opened)) (o .tag) 0x42 h refl)
       (by-reading n j x k (eqb (o .tag) 0x5c) refl (λ t. rw (either (eqb (o .tag) 0x5c) (eqb (o .tag) 0x5d) h t) at v))
-  follow-busy x (drawing q Picture.none) k h v =
-      rw (differs (mayCome (in-page (length (q .saved))) (x .opened)) (o .tag) 0x42 h refl) (by-drawing x k _ (eqb (o .tag) 0x44))
-  follow-busy x (drawing q (Picture.being i)) k h v =
-      rw (differs (mayCome (in-image i) (x .opened)) (o .tag) 0x42 h refl) (by-drawing x k _ (eqb (o .tag) 0x44))
+  follow-busy x (drawing q ms Picture.none) k h v =
+      rw (differs (mayCome (in-page (length (q .saved))) (x .opened)) (o .tag) 0x42 h refl) (by-drawing x k _ _ _ (eqb (o .tag) 0x44))
+  follow-busy x (drawing q ms (Picture.being i)) k h v =
+      rw (differs (mayCome (in-image i) (x .opened)) (o .tag) 0x42 h refl) (by-drawing x k _ _ _ (eqb (o .tag) 0x44))
+  follow-busy x (drawing q ms (Picture.hatching c i)) k h v =
+      rw (differs (mayCome (in-pattern i) (x .opened)) (o .tag) 0x42 h refl) (by-drawing x k _ _ _ (eqb (o .tag) 0x44))
 
   follow : (q : Place) → Sound set (sessionOf q .held) → mayCome (phaseOf q) (sessionOf q .opened) (o .tag) ≡ true
       → Valid (judgedAt set (joinedOf (sessionOf q .busy)) (o .tag))
@@ -119,14 +113,14 @@ module _ (set : Setting) (s : List ℕ) (st : State) (o : Operator) (k : Sound s
   pub sound-after : Sound set (sessionOf (next .place) .held)
   sound-after = followed .sound
 
-  row-found : deedsFor set s (knownOf (sessionOf (st .place) .held)) o
-      ≡ deeds (turnOf (set .gray) (o .tag)) (rowFor set s (sessionOf (st .place) .held) o)
+  row-found : deedsFor set s (doingOf (st .place)) (knownOf (sessionOf (st .place) .held)) o
+      ≡ deeds (turnOf (set .gray) (doingOf (st .place)) (o .tag)) (rowFor set s (sessionOf (st .place) .held) o)
   unfolding deedsFor caseOf
-  row-found = ap (deeds (turnOf (set .gray) (o .tag))) (row-again k s o (l .met))
+  row-found = ap (deeds (turnOf (set .gray) (doingOf (st .place)) (o .tag))) (row-again k s o (l .met))
 
   -- the plain arm after an operator
   pub operator-on : (row : List Deed) → onOperator set s (at-state st row) o
-      ≡ at-state next (row ++ deeds (turnOf (set .gray) (o .tag)) (rowFor set s (sessionOf (st .place) .held) o))
+      ≡ at-state next (row ++ deeds (turnOf (set .gray) (doingOf (st .place)) (o .tag)) (rowFor set s (sessionOf (st .place) .held) o))
   unfolding onOperator after caseOf
   operator-on row =
       let a = ap (λ d. performed d (standing st)) row-found ∙ stands set s st o may in

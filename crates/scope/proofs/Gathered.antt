@@ -30,7 +30,7 @@ module _ (set : Setting) (s : List ℕ) where
         → onward unrolled (onNext set s (with-row u row) r) ≡ row ++ onward unrolled (onNext set s (with-row u []) r)
     unfolding onNext onOperator
     gather-on u row h (GoodRead.operator {o = o} p q m) =
-        let d = deedsFor set s (u .known) o in
+        let d = deedsFor set s (u .doing) (u .known) o in
         let v = onOperator set s u o in
         let k : length s - o .next < n = omega arith in
         ih v (row ++ d) k ∙ append-assoc row d (unrolled (with-row v [])) ∙ ap (λ t. row ++ t) (sym (ih v d k))

@@ -34,6 +34,8 @@ use Rattle.scope.proofs.Starts.{starts}
 use Rattle.scope.proofs.Halves.{halves}
 use Rattle.scope.proofs.Classes.{classes}
 use Rattle.scope.proofs.Replaced.{replacements}
+use Rattle.scope.proofs.Named.{named}
+use Rattle.scope.proofs.Patterned.{upTo, SEL, patterns, crowds}
 use Rattle.scope.proofs.Rings.{Begun, chain, rings}
 
 -- the table
@@ -48,6 +50,8 @@ tables =
     ∷ halves
     ∷ classes
     ∷ replacements
+    ∷ named
+    ∷ patterns
     ∷ []
 
 joined : List (List Tried) → List Tried
@@ -89,7 +93,7 @@ nearTheLimit codes =
 
 -- the plain arm with so many operators performed
 abbrev armBehind : ℕ → Plain.PlainArm
-armBehind n = record { opened = false; page = Arm.blank false; count = n }
+armBehind n = record { opened = false; page = Arm.blank false; ofSession = []; ofPage = []; count = n }
 
 -- each operator that the plain arm performs, by its motif and the place of its tag there
 traceOf : List Plain.Deed → List ℕ
@@ -110,7 +114,7 @@ mended =
 begunIn : Begun → Judge.Outcome
 begunIn x =
     Judge.judgedFrom Verd.every ordinary (x .items) 65536
-    (record { at = 0; place = Session.inside (record { held = x .held; opened = x .opened; busy = x .busy }); performed = 0; records = 0; past = [] })
+    (record { at = 0; place = Session.inside (record { held = x .held; opened = x .opened; patterns = x .patterns; busy = x .busy }); performed = 0; records = 0; past = [] })
 
 -- the code and the position with which each ends; and those expected
 endings : List Begun → List ℕ
@@ -121,7 +125,7 @@ endingsOf : List Begun → List ℕ
 endingsOf [] = []
 endingsOf (x ∷ l) = x .code ∷ x .position ∷ endingsOf l
 
--- jobs that keep the layout rules and break another: 23, 24, 25, 17, and 24 inside a call
+-- jobs that keep the layout rules and break another: 23, 24, 25, 17, 24 inside a call, and 34
 abbrev broken : List (List (List ℕ))
 broken =
     (H ∷ S ∷ P ∷ (times 25 (op PushGS)) ∷ (times 25 (op PopGS)) ∷ (op EndPage) ∷ E ∷ [])
@@ -129,9 +133,10 @@ broken =
     ∷ (H ∷ S ∷ P ∷ GL ∷ (op EndPage) ∷ E ∷ [])
     ∷ (H ∷ S ∷ P ∷ CUR ∷ LD ∷ (D (0x00 ∷ 0x00 ∷ [])) ∷ (op EndPage) ∷ E ∷ [])
     ∷ (H ∷ S ∷ O ∷ (M 0x61 (op PushGS ++ (LN ++ op PopGS))) ∷ P ∷ (X 0x61) ∷ Z ∷ [])
+    ∷ (H ∷ S ∷ O ∷ (M 0x61 (SEL 1)) ∷ P ∷ (X 0x61) ∷ Z ∷ [])
     ∷ []
 
--- what a job gets; what it gets where 17, 23 to 26 and 28 are never given; and whether the plain arm comes to its end with no rule broken
+-- what a job gets; what it gets where 17, 23 to 26, 28 and 34 are never given; and whether the plain arm comes to its end with no rule broken
 record Looked : Type 0 where
   code : ℕ
   kept : ℕ
@@ -152,7 +157,7 @@ abbrev breaking : ℕ → Looked
 breaking code = record { code = code; kept = 0; came = false }
 
 -- the table; J's records; (i) of 01; 26; the record of an operator with data; 26 is no layout rule, and the plain arm meets it; the order in which that arm
--- performs, and that it means the new motif, under the old number; calls in long chains and rings; the layout rules kept and another broken
+-- performs, and that it means the new motif, under the old number; calls in long chains and rings, and patterns where 32 are defined; the layout rules kept and another broken
 proved-jobs : (answers (joined tables) ≡ expecteds (joined tables))
     × (listOf false J 16384 65536 ≡ recordsOfJ)
     × (Data.rowOf 32 0 4 ∷ Data.rowOf 33 0 4 ∷ Data.rowOf 33 1 4 ∷ Data.rowOf 33 2 4 ∷ [] ≡ 4 ∷ 8 ∷ 20 ∷ 36 ∷ [])
@@ -167,7 +172,7 @@ proved-jobs : (answers (joined tables) ≡ expecteds (joined tables))
     × (traceOf (Plain.unfoldingOf false mended)
     ≡ 0 ∷ 27 ∷ 0 ∷ 36 ∷ 0 ∷ 43 ∷ 0 ∷ 49 ∷ 0 ∷ 73 ∷ 0 ∷ 80 ∷ 0 ∷ 86 ∷ 0 ∷ 112 ∷ 0 ∷ 121 ∷ 0 ∷ 128 ∷ 1 ∷ 20 ∷ 0 ∷ 129
     ∷ 0 ∷ 136 ∷ 0 ∷ 142 ∷ 0 ∷ 163 ∷ 0 ∷ 172 ∷ 0 ∷ 179 ∷ 2 ∷ 22 ∷ 1 ∷ 16 ∷ 1 ∷ 17 ∷ 0 ∷ 180 ∷ 0 ∷ 181 ∷ 0 ∷ 182 ∷ [])
-    × (endings rings ≡ endingsOf rings)
-    × (looked broken ≡ breaking 23 ∷ breaking 24 ∷ breaking 25 ∷ breaking 17 ∷ breaking 24 ∷ [])
-unfolding Choice.among Choice.same Iterate.run Iterate.iterate Number.digits Number.number Header.mayStand Header.formFrom Header.classed Header.headerOf Item.white Item.spaces Item.after Item.widthOf Item.kindOf Item.numbersAt Item.elementsAt Item.countedAt Item.arrayAt Item.valueOf Item.numbered Item.numberAt Item.pairOf Item.pairAt Item.endedWith Item.onPair Item.scanItem Item.scanStep Item.scanFrom Item.scanAt Table.tableOne Table.tableTwo Table.table Table.lineIn Table.ruleIn Attributes.has Attributes.twoAt Attributes.finite Attributes.above Attributes.firstOf Attributes.typeTaken Attributes.inRange Attributes.attributeCode Attributes.oneByOne Attributes.allThere Attributes.howMany Attributes.choiceCode Attributes.formCode Attributes.valueIn Attributes.longIn Attributes.bytesIn Data.bitsOf Data.rowOf Data.padOf Data.blockDue Data.pointBytes Data.dueOf Data.blockOf Data.blockAt Order.drawn Order.mayCome Order.lengthFits Order.rowsFit Reading.withBlock Reading.withData Reading.asWhole Reading.withAttributes Reading.withLine Reading.scanned Reading.operatorAt Arm.needsCursor Arm.needsSpace Arm.effectOf Arm.actOf Arm.done Arm.risen Arm.step Arm.walk Arm.from Motif.heldAs Motif.isHeld Motif.bytesHeld Motif.begun Motif.readOn Motif.pictureAfter Motif.savedAfter Motif.phaseIn Motif.contextIn Motif.ownBy Motif.onEnd Motif.onRead Motif.motifStep Motif.judgedInside Motif.motifFrom Motif.motifOf Calls.flat Calls.isOne Calls.callBy Calls.callOf Calls.through Calls.unfolded Calls.metIn Calls.metBy Calls.met Session.phaseDrawing Session.phaseBusy Session.phaseOf Session.rowFor Session.replaced Session.keptAs Session.sessionAfter Session.placeAfter Judge.judgedAt Judge.metAt Judge.caseOf Judge.tooMuch Judge.nameMissing Judge.callsItself Judge.tooDeep Judge.sourceClosed Judge.savedOver Judge.cursorUnset Judge.spaceWrong Judge.countOver Judge.roomOver Judge.early Judge.armed Judge.limits Judge.rules Judge.firstBroken Judge.after Judge.endAt Judge.onRefusal Judge.onCase Judge.onRead Judge.contextOf Judge.jobStep Judge.judgedFrom Verd.layout Verd.judgedAfter Verd.entryOf Verd.outcomeAt Verd.outcomeOf Verd.verdictOf Verd.four Verd.attributeRecord Verd.operatorRecord Verd.attributeRecords Verd.recordsBefore Verd.listOf Verd.listAfter Verd.zeros Verd.clearedBy Verd.workAfter Plain.turnOf Plain.performs Plain.performed Plain.deeds Plain.knownAs Plain.strokesOf Plain.onOwn Plain.ownStep Plain.ownFrom Plain.ownAfter Plain.ownOf Plain.called Plain.doingAfter Plain.isKnown Plain.relearnt Plain.learnt Plain.knownAfter Plain.deedsFor Plain.onOperator Plain.onNext Plain.phaseAt Plain.contextAt Plain.unrollStep Plain.unfoldedAfter Plain.unfoldingOf Plain.breaks Plain.comes all times chain joined answers expecteds traceOf begunIn endings endingsOf looked
+    × (endings (rings ++ crowds) ≡ endingsOf (rings ++ crowds))
+    × (looked broken ≡ breaking 23 ∷ breaking 24 ∷ breaking 25 ∷ breaking 17 ∷ breaking 24 ∷ breaking 34 ∷ [])
+unfolding Choice.among Choice.same Iterate.run Iterate.iterate Number.digits Number.number Header.mayStand Header.formFrom Header.classed Header.headerOf Item.white Item.spaces Item.after Item.widthOf Item.kindOf Item.numbersAt Item.elementsAt Item.countedAt Item.arrayAt Item.valueOf Item.numbered Item.numberAt Item.pairOf Item.pairAt Item.endedWith Item.onPair Item.scanItem Item.scanStep Item.scanFrom Item.scanAt Table.tableOne Table.tableTwo Table.table Table.lineIn Table.ruleIn Attributes.has Attributes.twoAt Attributes.finite Attributes.above Attributes.firstOf Attributes.typeTaken Attributes.inRange Attributes.attributeCode Attributes.oneByOne Attributes.allThere Attributes.howMany Attributes.choiceCode Attributes.formCode Attributes.valueIn Attributes.longIn Attributes.bytesIn Data.bitsOf Data.rowOf Data.padOf Data.readsRows Data.blockDue Data.pointBytes Data.dueOf Data.blockOf Data.blockAt Order.drawn Order.mayCome Order.lengthFits Order.rowsFit Reading.withBlock Reading.withData Reading.asWhole Reading.withAttributes Reading.withLine Reading.scanned Reading.operatorAt Arm.needsCursor Arm.needsSpace Arm.selectOf Arm.effectOf Arm.actOf Arm.done Arm.risen Arm.step Arm.walk Arm.from Motif.heldAs Motif.isHeld Motif.bytesHeld Motif.hatchOf Motif.begun Motif.readOn Motif.pictureAfter Motif.savedAfter Motif.phaseIn Motif.contextIn Motif.ownBy Motif.onEnd Motif.onRead Motif.motifStep Motif.judgedInside Motif.motifFrom Motif.motifOf Calls.flat Calls.isOne Calls.callBy Calls.callOf Calls.through Calls.unfolded Calls.metIn Calls.metBy Calls.met Session.phaseDrawing Session.phaseBusy Session.phaseOf Session.defined Session.definedAfter Session.rowFor Session.replaced Session.keptAs Session.sessionAfter Session.placeAfter Judge.judgedAt Judge.metAt Judge.caseOf Judge.tooMuch Judge.noPlace Judge.nameMissing Judge.callsItself Judge.tooDeep Judge.sourceClosed Judge.savedOver Judge.cursorUnset Judge.spaceWrong Judge.someMissing Judge.patternMissing Judge.countOver Judge.roomOver Judge.early Judge.armed Judge.limits Judge.rules Judge.firstBroken Judge.after Judge.endAt Judge.onRefusal Judge.onCase Judge.onRead Judge.contextOf Judge.jobStep Judge.judgedFrom Verd.layout Verd.judgedAfter Verd.entryOf Verd.outcomeAt Verd.outcomeOf Verd.verdictOf Verd.four Verd.attributeRecord Verd.operatorRecord Verd.attributeRecords Verd.recordsBefore Verd.listOf Verd.listAfter Verd.zeros Verd.clearedBy Verd.workAfter Plain.endsPattern Plain.turnOf Plain.performs Plain.performed Plain.deeds Plain.knownAs Plain.strokesOf Plain.onOwn Plain.ownStep Plain.ownFrom Plain.ownAfter Plain.ownOf Plain.called Plain.doingAfter Plain.isKnown Plain.relearnt Plain.learnt Plain.knownAfter Plain.deedsFor Plain.onOperator Plain.onNext Plain.phaseAt Plain.contextAt Plain.unrollStep Plain.unfoldedAfter Plain.unfoldingOf Plain.breaks Plain.comes all times upTo chain joined answers expecteds traceOf begunIn endings endingsOf looked
 proved-jobs = (refl, refl, refl, refl, refl, refl, refl, refl, refl, refl, refl, refl)

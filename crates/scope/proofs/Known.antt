@@ -33,7 +33,7 @@ module _ (s : List ℕ) where
   abbrev Collected : List Operator → Busy → Type 0
   Collected since resting = Unit {0}
   Collected since (reading n j) = Collects s n j since
-  Collected since (drawing p i) = Unit {0}
+  Collected since (drawing p ns i) = Unit {0}
 
   -- every call among some operators names a motif defined in its own session
   pub data Owned : List Operator → Type 0 where
@@ -73,14 +73,14 @@ module _ (s : List ℕ) where
       rest-after x k = record { known = known-later s o quiet k; collected = by (eqb (o .tag) 0x43) (eqb (o .tag) 0x5b) refl }
         where
           by : (a b : Bool) → eqb (o .tag) 0x5b ≡ b
-              → Collected (o ∷ since) (pick a (drawing (record { cursor = false; gray = set .gray; saved = [] }) Picture.none) (pick b (reading (bytesIn s (o .attrs) 139) []) resting))
+              → Collected (o ∷ since) (pick a (drawing (record { cursor = false; gray = set .gray; saved = [] }) [] Picture.none) (pick b (reading (bytesIn s (o .attrs) 139) []) resting))
           by true b e = tt
           by false true e = Collects.begins (eqb-true (o .tag) 0x5b e) refl
           by false false e = tt
 
-      draw-after : (q : Page) (i : Picture) (x : Session) → AllDefined set s since (x .held) → After (sessionAfter set s o p (drawing q i) x)
+      draw-after : (q : Page) (ns : List ℕ) (i : Picture) (x : Session) → AllDefined set s since (x .held) → After (sessionAfter set s o p (drawing q ns i) x)
       unfolding sessionAfter
-      draw-after q i x k =
+      draw-after q ns i x k =
           pick-all After (eqb (o .tag) 0x44) (λ _. record { known = known-later s o quiet k; collected = tt }) (λ _. record { known = known-later s o quiet k; collected = tt })
 
     kept-after : (n j : List ℕ) (held : List Motif) → o .tag ≡ 0x5d → AllDefined set s since held → Collects s n j since → (w : Judged) → motifOf set j ≡ w → Valid w
@@ -93,8 +93,8 @@ module _ (s : List ℕ) where
     read-after n j x m v k c = by (eqb (o .tag) 0x5c) (eqb (o .tag) 0x5d) refl refl m v
       where
         by : (a b : Bool) → eqb (o .tag) 0x5c ≡ a → eqb (o .tag) 0x5d ≡ b → (a || b) ≡ true → Valid (pick b (motifOf set j) (Judged.valid []))
-            → After (pick a (record { held = x .held; opened = x .opened; busy = reading n (j ++ take (o .length) (drop (o .first) s)) })
-            (record { held = keptAs n j (motifOf set j) (x .held); opened = x .opened; busy = resting }))
+            → After (pick a (record { held = x .held; opened = x .opened; patterns = x .patterns; busy = reading n (j ++ take (o .length) (drop (o .first) s)) })
+            (record { held = keptAs n j (motifOf set j) (x .held); opened = x .opened; patterns = x .patterns; busy = resting }))
         by true b e f g h =
             let t = eqb-true (o .tag) 0x5c e in
             record { known = known-later s o (ne-eqb (o .tag) 0x5d (λ z. omega arith)) k; collected = Collects.reads t c }
@@ -110,10 +110,12 @@ module _ (s : List ℕ) where
         no-end true h = differs (mayCome (phaseBusy resting) true) (o .tag) 0x5d h refl
         no-end false h = differs (mayCome (phaseBusy resting) false) (o .tag) 0x5d h refl
     session-after (reading n j) x m v k c = read-after n j x m v k c
-    session-after (drawing q Picture.none) x m v k c =
-        draw-after (differs (mayCome (phaseBusy (drawing q Picture.none)) (x .opened)) (o .tag) 0x5d m refl) q Picture.none x k
-    session-after (drawing q (Picture.being i)) x m v k c =
-        draw-after (differs (mayCome (phaseBusy (drawing q (Picture.being i))) (x .opened)) (o .tag) 0x5d m refl) q (Picture.being i) x k
+    session-after (drawing q ns Picture.none) x m v k c =
+        draw-after (differs (mayCome (phaseBusy (drawing q ns Picture.none)) (x .opened)) (o .tag) 0x5d m refl) q ns Picture.none x k
+    session-after (drawing q ns (Picture.being i)) x m v k c =
+        draw-after (differs (mayCome (phaseBusy (drawing q ns (Picture.being i))) (x .opened)) (o .tag) 0x5d m refl) q ns (Picture.being i) x k
+    session-after (drawing q ns (Picture.hatching h i)) x m v k c =
+        draw-after (differs (mayCome (phaseBusy (drawing q ns (Picture.hatching h i))) (x .opened)) (o .tag) 0x5d m refl) q ns (Picture.hatching h i) x k
 
     -- inside a session no BeginSession may come
     pub no-begin : (b : Busy) (opened : Bool) → mayCome (phaseBusy b) opened (o .tag) ≡ true → eqb (o .tag) 0x41 ≡ false
@@ -121,8 +123,9 @@ module _ (s : List ℕ) where
     no-begin resting true m = differs (mayCome (phaseBusy resting) true) (o .tag) 0x41 m refl
     no-begin resting false m = differs (mayCome (phaseBusy resting) false) (o .tag) 0x41 m refl
     no-begin (reading n j) opened m = differs (mayCome (phaseBusy (reading n j)) opened) (o .tag) 0x41 m refl
-    no-begin (drawing q Picture.none) opened m = differs (mayCome (phaseBusy (drawing q Picture.none)) opened) (o .tag) 0x41 m refl
-    no-begin (drawing q (Picture.being i)) opened m = differs (mayCome (phaseBusy (drawing q (Picture.being i))) opened) (o .tag) 0x41 m refl
+    no-begin (drawing q ns Picture.none) opened m = differs (mayCome (phaseBusy (drawing q ns Picture.none)) opened) (o .tag) 0x41 m refl
+    no-begin (drawing q ns (Picture.being i)) opened m = differs (mayCome (phaseBusy (drawing q ns (Picture.being i))) opened) (o .tag) 0x41 m refl
+    no-begin (drawing q ns (Picture.hatching h i)) opened m = differs (mayCome (phaseBusy (drawing q ns (Picture.hatching h i))) opened) (o .tag) 0x41 m refl
 
     abbrev Stays : Place → Type 0
     Stays w = AllDefined set s (ofSession (o ∷ past)) (sessionOf w .held) × Collected (ofSession (o ∷ past)) (sessionOf w .busy)

@@ -68,6 +68,8 @@ pub mod Copies
 pub mod Starts
 pub mod Halves
 pub mod Replaced
+pub mod Named
+pub mod Patterned
 pub mod Rings
 pub mod Jobs
 pub mod Shown

@@ -266,6 +266,7 @@ module _ (set : Setting) (s : List ℕ) where
   end-in : (w : Inside) (p : Picture) → JudgedIn (length s) (onEnd s w p)
   unfolding onEnd
   end-in w (Picture.being i) = let k : length s ≤ length s = omega arith in ill k
+  end-in w (Picture.hatching h i) = let k : length s ≤ length s = omega arith in ill k
   end-in w Picture.none = let k : length s ≤ length s = omega arith in pick-all (JudgedIn (length s)) (eqb (w .saved) 0) (λ _. good) (λ _. ill k)
 
   on-read-in : (w : Inside) {r : Read} → ReadIn (length s) r → Kept Any (JudgedIn (length s)) (onRead set s w r)

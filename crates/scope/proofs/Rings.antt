@@ -6,17 +6,18 @@ use mathlib.Core.Bool.{Bool, true, false}
 use mathlib.Core.List.{List, [], _∷_}
 use lib.ListN.{length}
 use Rattle.scope.specs.Reading.{Operator}
-use Rattle.scope.specs.Arm.{blank, any, put, kept}
+use Rattle.scope.specs.Arm.{blank, any, no-pattern, put, kept}
 use Rattle.scope.specs.Motif.{Own, does, calls, Motif, Picture}
 use Rattle.scope.specs.Session.{Busy, resting, reading, drawing}
 use Rattle.scope.specs.Names.{ExecStream, LinePath}
 use Rattle.scope.specs.Verdict.{zeros}
 use Rattle.scope.proofs.Parts.{D, N, X}
 
--- judging that begins in a session: the source open or not, these motifs held, at this, before these items; and how it ends
+-- judging that begins in a session: the source open or not, these motifs held, these patterns defined, at this, before these items; and how it ends
 pub record Begun : Type 0 where
   pub opened : Bool
   pub held : List Motif
+  pub patterns : List ℕ
   pub busy : Busy
   pub items : List ℕ
   pub code : ℕ
@@ -30,7 +31,7 @@ abbrev calling : ℕ → Own
 calling n = calls (operator ExecStream false) (n ∷ [])
 
 abbrev line : Own
-line = does (operator LinePath true) (record { source = true; cursor = false; space = any; effect = put kept kept })
+line = does (operator LinePath true) (record { source = true; cursor = false; space = any; select = no-pattern; effect = put kept kept })
 
 -- a motif of a name of one byte, which is its number too
 abbrev motif : ℕ → List Own → Motif
@@ -44,11 +45,11 @@ chain i (suc k) ops = motif i (calling (suc i) ∷ []) ∷ chain (suc i) k ops
 -- a page calls motif n, with the source closed; a call that is performed is followed by 27 at 7, as the items end in the page
 abbrev called : List Motif → (n code position : ℕ) → Begun
 called held n code position =
-    record { opened = false; held = held; busy = drawing (blank false) Picture.none; items = X n; code = code; position = position }
+    record { opened = false; held = held; patterns = []; busy = drawing (blank false) [] Picture.none; items = X n; code = code; position = position }
 
 -- a motif is begun, where 64 are held
 abbrev among64 : (n code position : ℕ) → Begun
-among64 n code position = record { opened = true; held = chain 1 63 []; busy = resting; items = N n; code = code; position = position }
+among64 n code position = record { opened = true; held = chain 1 63 []; patterns = []; busy = resting; items = N n; code = code; position = position }
 
 -- a motif of 16,380 bytes is being replaced, and a ReadStream reads so many of the new one
 abbrev replacing : (bytes : List ℕ) → (code position : ℕ) → Begun
@@ -56,6 +57,7 @@ replacing bytes code position =
     record {
       opened = true;
       held = record { name = 0x61 ∷ []; bytes = zeros 16380; number = 1; ops = [] } ∷ [];
+      patterns = [];
       busy = reading (0x61 ∷ []) [];
       items = 0xc0 ∷ length bytes ∷ 0xf8 ∷ 0x8c ∷ 0x5c ∷ D bytes;
       code = code;

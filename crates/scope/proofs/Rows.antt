@@ -8,20 +8,28 @@ use native.Mathlib.Omega.{arith}
 use borrow.Author.Tests.{leb-false, lt-leb}
 use lib.ListN.{length}
 use Rattle.scope.specs.Choice.{pick}
-use Rattle.scope.specs.Arm.{Effect, push, pop, put, Page, Seen, clash, risen, step, walk, Stroke}
-use Rattle.scope.specs.Plain.{Turn, stays, Deed, PlainArm, overSaved, openedBy, pageBy, breaks, performs, comes, performed, deeds}
+use Rattle.scope.specs.Arm.{Effect, push, pop, put, Select, no-pattern, pattern, Page, Seen, clash, risen, wanted, step, walk, Stroke}
+use Rattle.scope.specs.Judge.{someMissing}
+use Rattle.scope.specs.Plain.{Turn, stays, Deed, PlainArm, overSaved, selectsNone, openedBy, pageBy, ofSessionBy, ofPageBy, breaks, performs, comes, performed, deeds}
 
--- no rule broken so far, where the source is open or not
-pub record Clean (opened : Bool) (w : Seen) : Type 0 where
-  pub source : (w .source && not opened) ≡ false
+-- what is around a row of operators, and stays: the source open or not, the patterns defined for the page and for the session
+pub record Around : Type 0 where
+  pub opened : Bool
+  pub ofPage : List ℕ
+  pub ofSession : List ℕ
+
+-- no rule broken so far, with this around it
+pub record Clean (o : Around) (w : Seen) : Type 0 where
+  pub source : (w .source && not (o .opened)) ≡ false
   pub most : w .most ≤ 24
   pub lost : w .lost ≡ false
   pub wrong : w .wrong ≡ false
+  pub there : someMissing (o .ofPage) (o .ofSession) (w .wants) ≡ false
   pub count : w .count ≤ 1_000_000
 
 -- the plain arm where the judge's stands
-abbrev pub armOf : Bool → Seen → PlainArm
-armOf opened w = record { opened = opened; page = w .page; count = w .count }
+abbrev pub armOf : Around → Seen → PlainArm
+armOf o w = record { opened = o .opened; page = w .page; ofSession = o .ofSession; ofPage = o .ofPage; count = w .count }
 
 pub or-left : (a b : Bool) → (a || b) ≡ false → a ≡ false
 or-left true b e = e
@@ -58,43 +66,56 @@ le-risen (put c g) p m h = (h, refl)
 abbrev pub deed : Turn → Stroke → Deed
 deed t x = record { turn = t; stroke = x }
 
-module _ (o : Bool) (x : Stroke) (w : Seen) where
+-- a pattern selected that is not defined, among those selected before
+missing-more : (o : Around) (e : Select) (p : PlainArm) (ns : List ℕ) → p .ofPage ≡ o .ofPage → p .ofSession ≡ o .ofSession
+    → someMissing (o .ofPage) (o .ofSession) (wanted e ns) ≡ (selectsNone e p || someMissing (o .ofPage) (o .ofSession) ns)
+unfolding someMissing
+missing-more o no-pattern p ns f g = refl
+missing-more o (pattern n) p ns f g = rw (f, g) refl
+
+module _ (o : Around) (x : Stroke) (w : Seen) where
   pub step-keeps : (t : Turn) → Clean o w → breaks (deed t x) (armOf o w) ≡ false → Clean o (step (x .act) w)
   unfolding step breaks
   step-keeps t h b =
-      let b1 = or-left (x .act .source && not o) _ b in
-      let c1 = or-right (x .act .source && not o) _ b in
+      let b1 = or-left (x .act .source && not (o .opened)) _ b in
+      let c1 = or-right (x .act .source && not (o .opened)) _ b in
       let b2 = or-left (overSaved (x .act .effect) (w .page)) _ c1 in
       let c2 = or-right (overSaved (x .act .effect) (w .page)) _ c1 in
       let b3 = or-left (x .act .cursor && not (w .page .cursor)) _ c2 in
       let c3 = or-right (x .act .cursor && not (w .page .cursor)) _ c2 in
       let b4 = or-left (clash (x .act .space) (w .page .gray)) _ c3 in
-      let b5 = or-right (clash (x .act .space) (w .page .gray)) _ c3 in
+      let c4 = or-right (clash (x .act .space) (w .page .gray)) _ c3 in
+      let b5 = or-left (selectsNone (x .act .select) (armOf o w)) _ c4 in
+      let b6 = or-right (selectsNone (x .act .select) (armOf o w)) _ c4 in
       record {
-        source = and-or (w .source) (x .act .source) (not o) ∙ or-both (w .source && not o) (x .act .source && not o) (h .source) b1;
+        source = and-or (w .source) (x .act .source) (not (o .opened)) ∙ or-both (w .source && not (o .opened)) (x .act .source && not (o .opened)) (h .source) b1;
         most = risen-le (x .act .effect) (w .page) (w .most) (h .most) b2;
         lost = or-both (w .lost) (x .act .cursor && not (w .page .cursor)) (h .lost) b3;
         wrong = or-both (w .wrong) (clash (x .act .space) (w .page .gray)) (h .wrong) b4;
-        count = leb-false 1_000_000 (w .count) b5;
+        there = missing-more o (x .act .select) (armOf o w) (w .wants) refl refl ∙ or-both (selectsNone (x .act .select) (armOf o w)) _ b5 (h .there);
+        count = leb-false 1_000_000 (w .count) b6;
       }
 
   pub keeps-step : (t : Turn) → Clean o (step (x .act) w) → Clean o w × (breaks (deed t x) (armOf o w) ≡ false)
   unfolding step breaks
   keeps-step t h =
-      let s = sym (and-or (w .source) (x .act .source) (not o)) ∙ h .source in
+      let s = sym (and-or (w .source) (x .act .source) (not (o .opened))) ∙ h .source in
       let (m, r) = le-risen (x .act .effect) (w .page) (w .most) (h .most) in
+      let d = sym (missing-more o (x .act .select) (armOf o w) (w .wants) refl refl) ∙ h .there in
       let n : w .count < 1_000_000 = h .count in (
         record {
-          source = or-left (w .source && not o) (x .act .source && not o) s;
+          source = or-left (w .source && not (o .opened)) (x .act .source && not (o .opened)) s;
           most = m;
           lost = or-left (w .lost) (x .act .cursor && not (w .page .cursor)) (h .lost);
           wrong = or-left (w .wrong) (clash (x .act .space) (w .page .gray)) (h .wrong);
+          there = or-right (selectsNone (x .act .select) (armOf o w)) _ d;
           count = omega (arith, n);
         },
-        or-both _ _ (or-right (w .source && not o) (x .act .source && not o) s)
+        or-both _ _ (or-right (w .source && not (o .opened)) (x .act .source && not (o .opened)) s)
             (or-both _ _ r
             (or-both _ _ (or-right (w .lost) (x .act .cursor && not (w .page .cursor)) (h .lost))
-            (or-both _ _ (or-right (w .wrong) (clash (x .act .space) (w .page .gray)) (h .wrong)) (lt-leb 1_000_000 (w .count) n)))),
+            (or-both _ _ (or-right (w .wrong) (clash (x .act .space) (w .page .gray)) (h .wrong))
+            (or-both _ _ (or-left (selectsNone (x .act .select) (armOf o w)) _ d) (lt-leb 1_000_000 (w .count) n))))),
       )
 
 comes-both : (b x y z : Bool) → x ≡ pick y z false → pick b false x ≡ pick (pick b false y) z false
@@ -121,9 +142,16 @@ pub data Fits : Turn → List Stroke → Type 0 where
 
 -- what a turn does to the arm
 abbrev pub turned : Turn → PlainArm → PlainArm
-turned t v = record { opened = openedBy t (v .opened); page = pageBy t (v .page); count = v .count }
+turned t v =
+    record {
+      opened = openedBy t (v .opened);
+      page = pageBy t (v .page);
+      ofSession = ofSessionBy t (v .ofSession);
+      ofPage = ofPageBy t (v .ofPage);
+      count = v .count;
+    }
 
-module _ (o : Bool) where
+module _ (o : Around) where
   stay-clean : (l : List Stroke) (w : Seen) → Clean o w → comes (deeds stays l) (armOf o w) ≡ true → Clean o (walk l w)
   unfolding walk comes deeds performs step
   stay-clean [] w h e = h

@@ -7,24 +7,26 @@ use mathlib.Core.List.{List, [], _∷_, _++_, append-assoc}
 use native.Mathlib.Omega.{arith}
 use lib.ListN.{length, take, drop}
 use lib.Dec.{ltb, leb, eqb}
-use Rattle.scope.specs.Choice.{pick}
+use Rattle.scope.specs.Choice.{pick, among}
 use Rattle.scope.specs.Attributes.{has, valueIn, bytesIn}
+use Rattle.scope.specs.Data.{readsRows}
 use Rattle.scope.specs.Header.{Header, headerOf}
 use Rattle.scope.specs.Reading.{Operator}
-use Rattle.scope.specs.Arm.{Act, Page, Seen, idle, push, pop, put, to, kept, gray, rgb, any, clash, done, risen, needsCursor, needsSpace, effectOf, actOf, step, walk, from, blank, Stroke}
+use Rattle.scope.specs.Arm.{Act, no-pattern, pattern, Page, Seen, idle, push, pop, put, to, kept, gray, rgb, any, clash, done, risen, needsCursor, needsSpace, selectOf, effectOf, actOf, wanted, step, walk, from, blank, Stroke}
 use Rattle.scope.specs.Calls.{unfolded}
-use Rattle.scope.specs.Motif.{Motif, heldAs, isHeld, bytesHeld, Picture, begun, readOn, pictureAfter, valid, faulty, judgedInside, motifFrom, motifOf}
+use Rattle.scope.specs.Motif.{Motif, heldAs, isHeld, bytesHeld, hatchOf, Picture, begun, readOn, pictureAfter, valid, faulty, judgedInside, motifFrom, motifOf}
 use Rattle.scope.specs.Setting.{Setting, sameClass}
-use Rattle.scope.specs.Session.{Busy, resting, reading, drawing, Session, Place, outside, inside, keptAs, sessionOf, phaseOf, pageOf, joinedOf, rowFor, sessionAfter, placeAfter}
-use Rattle.scope.specs.Judge.{State, Case, judgedAt, metAt, caseOf, Refusal, Rule, rule, motifs-own, early, armed, limits, rules, firstBroken, ownOr, outer, tooMuch, nameMissing, callsItself, tooDeep, sourceClosed, savedOver, cursorUnset, spaceWrong}
+use Rattle.scope.specs.Session.{Busy, resting, reading, drawing, Session, Place, outside, inside, keptAs, sessionOf, phaseOf, pageOf, joinedOf, pagePatterns, definedAfter, rowFor, sessionAfter, placeAfter}
+use Rattle.scope.specs.Judge.{State, Case, judgedAt, metAt, caseOf, Refusal, Rule, rule, motifs-own, early, armed, limits, rules, firstBroken, ownOr, outer, tooMuch, numbersOf, noPlace, nameMissing, callsItself, tooDeep, sourceClosed, savedOver, cursorUnset, spaceWrong, someMissing, patternMissing}
 use Rattle.scope.specs.Runs.{caseAt}
 use Rattle.scope.specs.Claims.{limit}
 use Rattle.scope.proofs.Broken.{orElse, first-append}
 use Rattle.scope.proofs.Rows.{walk-count}
 
--- the numbers of attributes whose values judging looks at behind reading: ColorSpace, ColorDepth, BlockHeight, SourceHeight, SourceWidth
+-- the numbers of attributes whose values judging looks at behind reading: ColorSpace, PatternSelectID, ColorDepth, BlockHeight, PatternPersistence, PatternDefineID,
+-- SourceHeight, SourceWidth
 abbrev pub looked : ℕ → Bool
-looked n = eqb n 3 || (eqb n 98 || (eqb n 99 || (eqb n 107 || eqb n 108)))
+looked n = eqb n 3 || (eqb n 8 || (eqb n 98 || (eqb n 99 || (eqb n 104 || (eqb n 105 || (eqb n 107 || eqb n 108))))))
 
 -- an operator of s, in one byte order, and one of t, in another perhaps, say the same
 pub record Says (h k : Bool) (s t : List ℕ) (a b : Operator) : Type 0 where
@@ -53,7 +55,7 @@ phase-same (outsides m) = refl
 
 -- what the arm has seen, but for how many operators it has performed
 unfoldable pub uncounted : Seen → Seen
-uncounted w = record { page = w .page; count = 0; most = w .most; source = w .source; lost = w .lost; wrong = w .wrong }
+uncounted w = record { page = w .page; count = 0; most = w .most; source = w .source; lost = w .lost; wrong = w .wrong; wants = w .wants }
 
 walk-uncounted : (l : List Stroke) (w v : Seen) → uncounted w ≡ uncounted v → uncounted (walk l w) ≡ uncounted (walk l v)
 unfolding walk step uncounted
@@ -67,6 +69,7 @@ walk-uncounted (x ∷ l) w v e =
       source = e i .source || x .act .source;
       lost = e i .lost || (x .act .cursor && not (e i .page .cursor));
       wrong = e i .wrong || clash (x .act .space) (e i .page .gray);
+      wants = wanted (x .act .select) (e i .wants);
     })
 
 -- a row performed: of its first operator only what it needs and does plays a part
@@ -83,6 +86,7 @@ pub record LikeCase (m n r q : ℕ) (c d : Case) : Type 0 where
   pub tag : c .op .tag ≡ d .op .tag
   pub size : c .op .length ≡ d .op .length
   pub name : c .name ≡ d .name
+  pub hatch : c .hatch ≡ d .hatch
   pub seen : uncounted (c .seen) ≡ uncounted (d .seen)
   pub made : c .made ≡ d .made
   pub met : c .met ≡ d .met
@@ -118,18 +122,22 @@ first-like f g e (own m a) = λ i. ownOr (m i) (first-like f g e a i)
 
 module _ {m n r q : ℕ} {c d : Case} (h : LikeCase m n r q c d) where
   early-like : AllLike c d early
-  unfolding early tooMuch nameMissing callsItself tooDeep
+  unfolding early tooMuch noPlace nameMissing callsItself tooDeep
   early-like =
       more refl
       (λ i. (eqb (h .tag i) 0x5b && (leb 64 (length (h .session i .held)) && not (isHeld (heldAs (h .name i) (h .session i .held)))))
       || (eqb (h .tag i) 0x5c && ltb 16384 (bytesHeld (h .session i .held) + (length (joinedOf (h .session i .busy)) + h .size i))))
-      (own (h .made) (more refl (λ i. h .met i .missing) (more refl (λ i. h .met i .again) (more refl (λ i. h .met i .deep) none))))
+      (more refl
+      (λ i. eqb (h .tag i) 0xb3
+      && (leb 32 (length (numbersOf (h .hatch i .session) (h .session i))) && not (among (numbersOf (h .hatch i .session) (h .session i)) (h .hatch i .number))))
+      (own (h .made) (more refl (λ i. h .met i .missing) (more refl (λ i. h .met i .again) (more refl (λ i. h .met i .deep) none)))))
 
   armed-like : AllLike c d armed
-  unfolding armed sourceClosed savedOver cursorUnset spaceWrong uncounted
+  unfolding armed sourceClosed savedOver cursorUnset spaceWrong patternMissing uncounted
   armed-like =
       more refl (λ i. h .seen i .source && not (h .session i .opened))
-      (more refl (λ i. ltb 24 (h .seen i .most)) (more refl (λ i. h .seen i .lost) (more refl (λ i. h .seen i .wrong) none)))
+      (more refl (λ i. ltb 24 (h .seen i .most)) (more refl (λ i. h .seen i .lost) (more refl (λ i. h .seen i .wrong)
+      (more refl (λ i. someMissing (pagePatterns (h .session i .busy)) (h .session i .patterns) (h .seen i .wants)) none))))
 
   -- the rules before 26 and 28 say the same
   pub before-like : (f g : ℕ → Bool) → AlikeGiven f g → firstBroken f c (early ++ armed) ≡ firstBroken g d (early ++ armed)
@@ -162,7 +170,15 @@ judged-akin k joined tag = λ i. pick (eqb tag 0x5d) (motif-akin k joined i) (va
 module _ (set other : Setting) (akin : Akin set other) (s t : List ℕ) (a b : Operator) (h : Says (set .high) (other .high) s t a b) where
   space-like : needsSpace (a .tag) (a .attrs) ≡ needsSpace (b .tag) (b .attrs)
   unfolding needsSpace
-  space-like = λ i. pick (eqb (h .tag i) 0xb0) gray (pick (eqb (h .tag i) 0x63 || eqb (h .tag i) 0x79) (pick (h .there 11 i) rgb (pick (h .there 9 i) gray any)) any)
+  space-like = λ i. pick (eqb (h .tag i) 0xb0 || eqb (h .tag i) 0xb3) gray (pick (eqb (h .tag i) 0x63 || eqb (h .tag i) 0x79) (pick (h .there 11 i) rgb (pick (h .there 9 i) gray any)) any)
+
+  select-like : selectOf (set .high) s (a .tag) (a .attrs) ≡ selectOf (other .high) t (b .tag) (b .attrs)
+  unfolding selectOf
+  select-like = λ i. pick (eqb (h .tag i) 0x63 && h .there 8 i) (pattern (h .value 8 refl i)) no-pattern
+
+  hatch-like : hatchOf (set .high) s (a .attrs) ≡ hatchOf (other .high) t (b .attrs)
+  unfolding hatchOf
+  hatch-like = λ i. record { session = eqb (h .value 104 refl i) 2; number = h .value 105 refl i }
 
   effect-like : effectOf set s (a .tag) (a .attrs) ≡ effectOf other t (b .tag) (b .attrs)
   unfolding effectOf
@@ -176,7 +192,7 @@ module _ (set other : Setting) (akin : Akin set other) (s t : List ℕ) (a b : O
 
   act-like : actOf set s a ≡ actOf other t b
   unfolding actOf
-  act-like = λ i. record { source = h .reads i; cursor = needsCursor (h .tag i); space = space-like i; effect = effect-like i }
+  act-like = λ i. record { source = h .reads i; cursor = needsCursor (h .tag i); space = space-like i; select = select-like i; effect = effect-like i }
 
   row-like : (held : List Motif) (w : Seen) → walk (rowFor set s held a) w ≡ walk (rowFor other t held b) w
   unfolding rowFor
@@ -196,11 +212,13 @@ module _ (set other : Setting) (akin : Akin set other) (s t : List ℕ) (a b : O
       omega arith
 
   picture-like : (v : Picture) → pictureAfter (set .high) s a v ≡ pictureAfter (other .high) t b v
-  unfolding pictureAfter begun
+  unfolding pictureAfter begun readsRows
   picture-like v =
       λ i. pick (eqb (h .tag i) 0xb0)
       (Picture.being (record { width = h .value 108 refl i; depth = h .value 98 refl i; height = h .value 107 refl i; rows = 0 }))
-      (pick (eqb (h .tag i) 0xb1) (readOn (h .value 99 refl i) v) (pick (eqb (h .tag i) 0xb2) Picture.none v))
+      (pick (eqb (h .tag i) 0xb3)
+      (Picture.hatching (hatch-like i) (record { width = h .value 108 refl i; depth = h .value 98 refl i; height = h .value 107 refl i; rows = 0 }))
+      (pick (eqb (h .tag i) 0xb1 || eqb (h .tag i) 0xb4) (readOn (h .value 99 refl i) v) (pick (eqb (h .tag i) 0xb2 || eqb (h .tag i) 0xb5) Picture.none v)))
 
   -- the rules look at the same, in two states of the same session
   pub case-like : (x y : State) → sessionOf (x .place) ≡ sessionOf (y .place)
@@ -218,6 +236,7 @@ module _ (set other : Setting) (akin : Akin set other) (s t : List ℕ) (a b : O
         tag = h .tag;
         size = h .size;
         name = h .name;
+        hatch = hatch-like;
         seen = ap uncounted (row-like (z .held) (from (pageOf (z .busy)) (x .performed)))
             ∙ (λ i. uncounted (walk (rowFor other t (e i .held) b) (from (pageOf (e i .busy)) (x .performed))))
             ∙ walk-uncounted (rowFor other t (v .held) b) (from (pageOf (v .busy)) (x .performed)) (from (pageOf (v .busy)) (y .performed)) refl;
@@ -233,16 +252,22 @@ module _ (set other : Setting) (akin : Akin set other) (s t : List ℕ) (a b : O
       λ i. record {
         held = z .held;
         opened = pick (eqb (h .tag i) 0x48) true (pick (eqb (h .tag i) 0x49) false (z .opened));
-        busy = pick (eqb (h .tag i) 0x43) (drawing (blank (akin .gray i)) Picture.none) (pick (eqb (h .tag i) 0x5b) (reading (h .name i) []) resting);
+        patterns = z .patterns;
+        busy = pick (eqb (h .tag i) 0x43) (drawing (blank (akin .gray i)) [] Picture.none) (pick (eqb (h .tag i) 0x5b) (reading (h .name i) []) resting);
       }
   session-like p q e (reading n j) z =
       λ i. pick (eqb (h .tag i) 0x5c)
-      (record { held = z .held; opened = z .opened; busy = reading n (j ++ h .block i) })
-      (record { held = keptAs n j (motif-akin akin j i) (z .held); opened = z .opened; busy = resting })
-  session-like p q e (drawing o v) z =
+      (record { held = z .held; opened = z .opened; patterns = z .patterns; busy = reading n (j ++ h .block i) })
+      (record { held = keptAs n j (motif-akin akin j i) (z .held); opened = z .opened; patterns = z .patterns; busy = resting })
+  session-like p q e (drawing o ns v) z =
       λ i. pick (eqb (h .tag i) 0x44)
-      (record { held = z .held; opened = z .opened; busy = resting })
-      (record { held = z .held; opened = z .opened; busy = drawing (e i) (picture-like v i) })
+      (record { held = z .held; opened = z .opened; patterns = z .patterns; busy = resting })
+      (record {
+        held = z .held;
+        opened = z .opened;
+        patterns = definedAfter true (h .tag i) v (z .patterns);
+        busy = drawing (e i) (definedAfter false (h .tag i) v ns) (picture-like v i);
+      })
 
   pub place-like : {more : Type 0} (p q : Page) → p ≡ q → {w v : Place} → LikePlace more w v → placeAfter set s a p w ≡ placeAfter other t b q v
   unfolding placeAfter

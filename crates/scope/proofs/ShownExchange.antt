@@ -55,7 +55,7 @@ nth k = getD listed k (record { tag = 0; at = 0; attrs = []; reads = false; leng
 -- by computing: ten operators to each session, from BeginSession to EndSession
 pub tags : (nth 0 .tag ≡ 0x41) × (Ex.noEnd (take 8 (drop 1 listed)) ≡ true) × (nth 9 .tag ≡ 0x42) × (nth 10 .tag ≡ 0x41)
     × (Ex.noEnd (take 8 (drop 11 listed)) ≡ true) × (nth 19 .tag ≡ 0x42)
-unfolding Choice.among Choice.same Iterate.run Iterate.iterate Number.digits Number.number Header.mayStand Header.formFrom Header.classed Header.headerOf Item.white Item.spaces Item.after Item.widthOf Item.kindOf Item.numbersAt Item.elementsAt Item.countedAt Item.arrayAt Item.valueOf Item.numbered Item.numberAt Item.pairOf Item.pairAt Item.endedWith Item.onPair Item.scanItem Item.scanStep Item.scanFrom Item.scanAt Table.tableOne Table.tableTwo Table.table Table.lineIn Table.ruleIn Attributes.has Attributes.twoAt Attributes.finite Attributes.above Attributes.firstOf Attributes.typeTaken Attributes.inRange Attributes.attributeCode Attributes.oneByOne Attributes.allThere Attributes.howMany Attributes.choiceCode Attributes.formCode Attributes.valueIn Attributes.longIn Attributes.bytesIn Data.bitsOf Data.rowOf Data.padOf Data.blockDue Data.pointBytes Data.dueOf Data.blockOf Data.blockAt Order.drawn Order.mayCome Order.lengthFits Order.rowsFit Reading.withBlock Reading.withData Reading.asWhole Reading.withAttributes Reading.withLine Reading.scanned Reading.operatorAt Arm.needsCursor Arm.needsSpace Arm.effectOf Arm.actOf Arm.done Arm.risen Arm.step Arm.walk Arm.from Motif.heldAs Motif.isHeld Motif.bytesHeld Motif.begun Motif.readOn Motif.pictureAfter Motif.savedAfter Motif.phaseIn Motif.contextIn Motif.ownBy Motif.onEnd Motif.onRead Motif.motifStep Motif.judgedInside Motif.motifFrom Motif.motifOf Calls.flat Calls.isOne Calls.callBy Calls.callOf Calls.through Calls.unfolded Calls.metIn Calls.metBy Calls.met Session.phaseDrawing Session.phaseBusy Session.phaseOf Session.rowFor Session.replaced Session.keptAs Session.sessionAfter Session.placeAfter Judge.judgedAt Judge.metAt Judge.caseOf Judge.tooMuch Judge.nameMissing Judge.callsItself Judge.tooDeep Judge.sourceClosed Judge.savedOver Judge.cursorUnset Judge.spaceWrong Judge.countOver Judge.roomOver Judge.early Judge.armed Judge.limits Judge.rules Judge.firstBroken Judge.after Judge.endAt Judge.onRefusal Judge.onCase Judge.onRead Judge.contextOf Judge.jobStep Judge.judgedFrom Verd.layout Verd.judgedAfter Verd.entryOf Verd.outcomeAt Verd.outcomeOf Verd.verdictOf Verd.four Verd.attributeRecord Verd.operatorRecord Verd.attributeRecords Verd.recordsBefore Verd.listOf Verd.listAfter Verd.zeros Verd.clearedBy Verd.workAfter Running.onto Ex.noEnd listed nth
+unfolding Choice.among Choice.same Iterate.run Iterate.iterate Number.digits Number.number Header.mayStand Header.formFrom Header.classed Header.headerOf Item.white Item.spaces Item.after Item.widthOf Item.kindOf Item.numbersAt Item.elementsAt Item.countedAt Item.arrayAt Item.valueOf Item.numbered Item.numberAt Item.pairOf Item.pairAt Item.endedWith Item.onPair Item.scanItem Item.scanStep Item.scanFrom Item.scanAt Table.tableOne Table.tableTwo Table.table Table.lineIn Table.ruleIn Attributes.has Attributes.twoAt Attributes.finite Attributes.above Attributes.firstOf Attributes.typeTaken Attributes.inRange Attributes.attributeCode Attributes.oneByOne Attributes.allThere Attributes.howMany Attributes.choiceCode Attributes.formCode Attributes.valueIn Attributes.longIn Attributes.bytesIn Data.bitsOf Data.rowOf Data.padOf Data.readsRows Data.blockDue Data.pointBytes Data.dueOf Data.blockOf Data.blockAt Order.drawn Order.mayCome Order.lengthFits Order.rowsFit Reading.withBlock Reading.withData Reading.asWhole Reading.withAttributes Reading.withLine Reading.scanned Reading.operatorAt Arm.needsCursor Arm.needsSpace Arm.selectOf Arm.effectOf Arm.actOf Arm.done Arm.risen Arm.step Arm.walk Arm.from Motif.heldAs Motif.isHeld Motif.bytesHeld Motif.hatchOf Motif.begun Motif.readOn Motif.pictureAfter Motif.savedAfter Motif.phaseIn Motif.contextIn Motif.ownBy Motif.onEnd Motif.onRead Motif.motifStep Motif.judgedInside Motif.motifFrom Motif.motifOf Calls.flat Calls.isOne Calls.callBy Calls.callOf Calls.through Calls.unfolded Calls.metIn Calls.metBy Calls.met Session.phaseDrawing Session.phaseBusy Session.phaseOf Session.defined Session.definedAfter Session.rowFor Session.replaced Session.keptAs Session.sessionAfter Session.placeAfter Judge.judgedAt Judge.metAt Judge.caseOf Judge.tooMuch Judge.noPlace Judge.nameMissing Judge.callsItself Judge.tooDeep Judge.sourceClosed Judge.savedOver Judge.cursorUnset Judge.spaceWrong Judge.someMissing Judge.patternMissing Judge.countOver Judge.roomOver Judge.early Judge.armed Judge.limits Judge.rules Judge.firstBroken Judge.after Judge.endAt Judge.onRefusal Judge.onCase Judge.onRead Judge.contextOf Judge.jobStep Judge.judgedFrom Verd.layout Verd.judgedAfter Verd.entryOf Verd.outcomeAt Verd.outcomeOf Verd.verdictOf Verd.four Verd.attributeRecord Verd.operatorRecord Verd.attributeRecords Verd.recordsBefore Verd.listOf Verd.listAfter Verd.zeros Verd.clearedBy Verd.workAfter Running.onto Ex.noEnd listed nth
 tags = (refl, refl, refl, refl, refl, refl)
 
 abbrev pub one : Ex.WholeSession
@@ -74,7 +74,7 @@ computed : Ex.Lists false in-order 16384 65536 ([] ++ (Ex.operators one ++ (Ex.o
     × (Ex.exchanged one two in-order ≡ other-way)
     × (Verd.verdictOf false in-order 16384 65536 ≡ record { code = 0; position = 203; inner = Judge.outer; records = 38; performed = 23 })
     × (Verd.verdictOf false other-way 16384 65536 ≡ record { code = 0; position = 203; inner = Judge.outer; records = 38; performed = 23 })
-unfolding Choice.among Choice.same Iterate.run Iterate.iterate Number.digits Number.number Header.mayStand Header.formFrom Header.classed Header.headerOf Item.white Item.spaces Item.after Item.widthOf Item.kindOf Item.numbersAt Item.elementsAt Item.countedAt Item.arrayAt Item.valueOf Item.numbered Item.numberAt Item.pairOf Item.pairAt Item.endedWith Item.onPair Item.scanItem Item.scanStep Item.scanFrom Item.scanAt Table.tableOne Table.tableTwo Table.table Table.lineIn Table.ruleIn Attributes.has Attributes.twoAt Attributes.finite Attributes.above Attributes.firstOf Attributes.typeTaken Attributes.inRange Attributes.attributeCode Attributes.oneByOne Attributes.allThere Attributes.howMany Attributes.choiceCode Attributes.formCode Attributes.valueIn Attributes.longIn Attributes.bytesIn Data.bitsOf Data.rowOf Data.padOf Data.blockDue Data.pointBytes Data.dueOf Data.blockOf Data.blockAt Order.drawn Order.mayCome Order.lengthFits Order.rowsFit Reading.withBlock Reading.withData Reading.asWhole Reading.withAttributes Reading.withLine Reading.scanned Reading.operatorAt Arm.needsCursor Arm.needsSpace Arm.effectOf Arm.actOf Arm.done Arm.risen Arm.step Arm.walk Arm.from Motif.heldAs Motif.isHeld Motif.bytesHeld Motif.begun Motif.readOn Motif.pictureAfter Motif.savedAfter Motif.phaseIn Motif.contextIn Motif.ownBy Motif.onEnd Motif.onRead Motif.motifStep Motif.judgedInside Motif.motifFrom Motif.motifOf Calls.flat Calls.isOne Calls.callBy Calls.callOf Calls.through Calls.unfolded Calls.metIn Calls.metBy Calls.met Session.phaseDrawing Session.phaseBusy Session.phaseOf Session.rowFor Session.replaced Session.keptAs Session.sessionAfter Session.placeAfter Judge.judgedAt Judge.metAt Judge.caseOf Judge.tooMuch Judge.nameMissing Judge.callsItself Judge.tooDeep Judge.sourceClosed Judge.savedOver Judge.cursorUnset Judge.spaceWrong Judge.countOver Judge.roomOver Judge.early Judge.armed Judge.limits Judge.rules Judge.firstBroken Judge.after Judge.endAt Judge.onRefusal Judge.onCase Judge.onRead Judge.contextOf Judge.jobStep Judge.judgedFrom Verd.layout Verd.judgedAfter Verd.entryOf Verd.outcomeAt Verd.outcomeOf Verd.verdictOf Verd.four Verd.attributeRecord Verd.operatorRecord Verd.attributeRecords Verd.recordsBefore Verd.listOf Verd.listAfter Verd.zeros Verd.clearedBy Verd.workAfter Running.onto listed nth
+unfolding Choice.among Choice.same Iterate.run Iterate.iterate Number.digits Number.number Header.mayStand Header.formFrom Header.classed Header.headerOf Item.white Item.spaces Item.after Item.widthOf Item.kindOf Item.numbersAt Item.elementsAt Item.countedAt Item.arrayAt Item.valueOf Item.numbered Item.numberAt Item.pairOf Item.pairAt Item.endedWith Item.onPair Item.scanItem Item.scanStep Item.scanFrom Item.scanAt Table.tableOne Table.tableTwo Table.table Table.lineIn Table.ruleIn Attributes.has Attributes.twoAt Attributes.finite Attributes.above Attributes.firstOf Attributes.typeTaken Attributes.inRange Attributes.attributeCode Attributes.oneByOne Attributes.allThere Attributes.howMany Attributes.choiceCode Attributes.formCode Attributes.valueIn Attributes.longIn Attributes.bytesIn Data.bitsOf Data.rowOf Data.padOf Data.readsRows Data.blockDue Data.pointBytes Data.dueOf Data.blockOf Data.blockAt Order.drawn Order.mayCome Order.lengthFits Order.rowsFit Reading.withBlock Reading.withData Reading.asWhole Reading.withAttributes Reading.withLine Reading.scanned Reading.operatorAt Arm.needsCursor Arm.needsSpace Arm.selectOf Arm.effectOf Arm.actOf Arm.done Arm.risen Arm.step Arm.walk Arm.from Motif.heldAs Motif.isHeld Motif.bytesHeld Motif.hatchOf Motif.begun Motif.readOn Motif.pictureAfter Motif.savedAfter Motif.phaseIn Motif.contextIn Motif.ownBy Motif.onEnd Motif.onRead Motif.motifStep Motif.judgedInside Motif.motifFrom Motif.motifOf Calls.flat Calls.isOne Calls.callBy Calls.callOf Calls.through Calls.unfolded Calls.metIn Calls.metBy Calls.met Session.phaseDrawing Session.phaseBusy Session.phaseOf Session.defined Session.definedAfter Session.rowFor Session.replaced Session.keptAs Session.sessionAfter Session.placeAfter Judge.judgedAt Judge.metAt Judge.caseOf Judge.tooMuch Judge.noPlace Judge.nameMissing Judge.callsItself Judge.tooDeep Judge.sourceClosed Judge.savedOver Judge.cursorUnset Judge.spaceWrong Judge.someMissing Judge.patternMissing Judge.countOver Judge.roomOver Judge.early Judge.armed Judge.limits Judge.rules Judge.firstBroken Judge.after Judge.endAt Judge.onRefusal Judge.onCase Judge.onRead Judge.contextOf Judge.jobStep Judge.judgedFrom Verd.layout Verd.judgedAfter Verd.entryOf Verd.outcomeAt Verd.outcomeOf Verd.verdictOf Verd.four Verd.attributeRecord Verd.operatorRecord Verd.attributeRecords Verd.recordsBefore Verd.listOf Verd.listAfter Verd.zeros Verd.clearedBy Verd.workAfter Running.onto listed nth
 computed = (refl, refl, refl, refl, refl, refl, refl, refl)
 
 -- the record of the first pupil's ReadStream, and that of the EndSession: the places are 96 bytes further on, and a 0 for no data stays
@@ -82,7 +82,7 @@ pub moved-records : (recordsFrom 9 10 (Verd.listOf false in-order 16384 65536) �
     × (recordsFrom 28 29 (Verd.listOf false other-way 16384 65536) ≡ 2 ∷ 0x5c ∷ 1 ∷ 0 ∷ (Verd.four 152 ++ (Verd.four 21 ++ Verd.four 155)))
     × (recordsFrom 18 19 (Verd.listOf false in-order 16384 65536) ≡ 2 ∷ 0x42 ∷ 0 ∷ 0 ∷ (Verd.four 105 ++ (Verd.four 0 ++ Verd.four 0)))
     × (recordsFrom 37 38 (Verd.listOf false other-way 16384 65536) ≡ 2 ∷ 0x42 ∷ 0 ∷ 0 ∷ (Verd.four 201 ++ (Verd.four 0 ++ Verd.four 0)))
-unfolding Choice.among Choice.same Iterate.run Iterate.iterate Number.digits Number.number Header.mayStand Header.formFrom Header.classed Header.headerOf Item.white Item.spaces Item.after Item.widthOf Item.kindOf Item.numbersAt Item.elementsAt Item.countedAt Item.arrayAt Item.valueOf Item.numbered Item.numberAt Item.pairOf Item.pairAt Item.endedWith Item.onPair Item.scanItem Item.scanStep Item.scanFrom Item.scanAt Table.tableOne Table.tableTwo Table.table Table.lineIn Table.ruleIn Attributes.has Attributes.twoAt Attributes.finite Attributes.above Attributes.firstOf Attributes.typeTaken Attributes.inRange Attributes.attributeCode Attributes.oneByOne Attributes.allThere Attributes.howMany Attributes.choiceCode Attributes.formCode Attributes.valueIn Attributes.longIn Attributes.bytesIn Data.bitsOf Data.rowOf Data.padOf Data.blockDue Data.pointBytes Data.dueOf Data.blockOf Data.blockAt Order.drawn Order.mayCome Order.lengthFits Order.rowsFit Reading.withBlock Reading.withData Reading.asWhole Reading.withAttributes Reading.withLine Reading.scanned Reading.operatorAt Arm.needsCursor Arm.needsSpace Arm.effectOf Arm.actOf Arm.done Arm.risen Arm.step Arm.walk Arm.from Motif.heldAs Motif.isHeld Motif.bytesHeld Motif.begun Motif.readOn Motif.pictureAfter Motif.savedAfter Motif.phaseIn Motif.contextIn Motif.ownBy Motif.onEnd Motif.onRead Motif.motifStep Motif.judgedInside Motif.motifFrom Motif.motifOf Calls.flat Calls.isOne Calls.callBy Calls.callOf Calls.through Calls.unfolded Calls.metIn Calls.metBy Calls.met Session.phaseDrawing Session.phaseBusy Session.phaseOf Session.rowFor Session.replaced Session.keptAs Session.sessionAfter Session.placeAfter Judge.judgedAt Judge.metAt Judge.caseOf Judge.tooMuch Judge.nameMissing Judge.callsItself Judge.tooDeep Judge.sourceClosed Judge.savedOver Judge.cursorUnset Judge.spaceWrong Judge.countOver Judge.roomOver Judge.early Judge.armed Judge.limits Judge.rules Judge.firstBroken Judge.after Judge.endAt Judge.onRefusal Judge.onCase Judge.onRead Judge.contextOf Judge.jobStep Judge.judgedFrom Verd.layout Verd.judgedAfter Verd.entryOf Verd.outcomeAt Verd.outcomeOf Verd.verdictOf Verd.four Verd.attributeRecord Verd.operatorRecord Verd.attributeRecords Verd.recordsBefore Verd.listOf Verd.listAfter Verd.zeros Verd.clearedBy Verd.workAfter
+unfolding Choice.among Choice.same Iterate.run Iterate.iterate Number.digits Number.number Header.mayStand Header.formFrom Header.classed Header.headerOf Item.white Item.spaces Item.after Item.widthOf Item.kindOf Item.numbersAt Item.elementsAt Item.countedAt Item.arrayAt Item.valueOf Item.numbered Item.numberAt Item.pairOf Item.pairAt Item.endedWith Item.onPair Item.scanItem Item.scanStep Item.scanFrom Item.scanAt Table.tableOne Table.tableTwo Table.table Table.lineIn Table.ruleIn Attributes.has Attributes.twoAt Attributes.finite Attributes.above Attributes.firstOf Attributes.typeTaken Attributes.inRange Attributes.attributeCode Attributes.oneByOne Attributes.allThere Attributes.howMany Attributes.choiceCode Attributes.formCode Attributes.valueIn Attributes.longIn Attributes.bytesIn Data.bitsOf Data.rowOf Data.padOf Data.readsRows Data.blockDue Data.pointBytes Data.dueOf Data.blockOf Data.blockAt Order.drawn Order.mayCome Order.lengthFits Order.rowsFit Reading.withBlock Reading.withData Reading.asWhole Reading.withAttributes Reading.withLine Reading.scanned Reading.operatorAt Arm.needsCursor Arm.needsSpace Arm.selectOf Arm.effectOf Arm.actOf Arm.done Arm.risen Arm.step Arm.walk Arm.from Motif.heldAs Motif.isHeld Motif.bytesHeld Motif.hatchOf Motif.begun Motif.readOn Motif.pictureAfter Motif.savedAfter Motif.phaseIn Motif.contextIn Motif.ownBy Motif.onEnd Motif.onRead Motif.motifStep Motif.judgedInside Motif.motifFrom Motif.motifOf Calls.flat Calls.isOne Calls.callBy Calls.callOf Calls.through Calls.unfolded Calls.metIn Calls.metBy Calls.met Session.phaseDrawing Session.phaseBusy Session.phaseOf Session.defined Session.definedAfter Session.rowFor Session.replaced Session.keptAs Session.sessionAfter Session.placeAfter Judge.judgedAt Judge.metAt Judge.caseOf Judge.tooMuch Judge.noPlace Judge.nameMissing Judge.callsItself Judge.tooDeep Judge.sourceClosed Judge.savedOver Judge.cursorUnset Judge.spaceWrong Judge.someMissing Judge.patternMissing Judge.countOver Judge.roomOver Judge.early Judge.armed Judge.limits Judge.rules Judge.firstBroken Judge.after Judge.endAt Judge.onRefusal Judge.onCase Judge.onRead Judge.contextOf Judge.jobStep Judge.judgedFrom Verd.layout Verd.judgedAfter Verd.entryOf Verd.outcomeAt Verd.outcomeOf Verd.verdictOf Verd.four Verd.attributeRecord Verd.operatorRecord Verd.attributeRecords Verd.recordsBefore Verd.listOf Verd.listAfter Verd.zeros Verd.clearedBy Verd.workAfter
 moved-records = (refl, refl, refl, refl)
 
 -- what the theorems say of them

@@ -48,12 +48,12 @@ or-true true b e = refl
 or-true false b e = e
 
 coded-known : (k : ℕ) → Coded k → isCode k ≡ true
-coded-known k c = by (between 2 19 k) (between 21 28 k) (between 32 32 k) refl refl refl c
+coded-known k c = by (between 2 19 k) (between 21 28 k) (between 32 34 k) refl refl refl c
   where
-    by : (x y z : Bool) → between 2 19 k ≡ x → between 21 28 k ≡ y → between 32 32 k ≡ z → T (x || (y || z)) → isCode k ≡ true
-    by true y z e f g t = λ i. widen 2 19 0 19 k (omega arith) (omega arith) e i || (between 21 29 k || between 32 32 k)
-    by false true z e f g t = or-true (between 0 19 k) (between 21 29 k || between 32 32 k) (λ i. widen 21 28 21 29 k (omega arith) (omega arith) f i || between 32 32 k)
-    by false false true e f g t = or-true (between 0 19 k) (between 21 29 k || between 32 32 k) (or-true (between 21 29 k) (between 32 32 k) g)
+    by : (x y z : Bool) → between 2 19 k ≡ x → between 21 28 k ≡ y → between 32 34 k ≡ z → T (x || (y || z)) → isCode k ≡ true
+    by true y z e f g t = λ i. widen 2 19 0 19 k (omega arith) (omega arith) e i || (between 21 29 k || between 32 34 k)
+    by false true z e f g t = or-true (between 0 19 k) (between 21 29 k || between 32 34 k) (λ i. widen 21 28 21 29 k (omega arith) (omega arith) f i || between 32 34 k)
+    by false false true e f g t = or-true (between 0 19 k) (between 21 29 k || between 32 34 k) (or-true (between 21 29 k) (between 32 34 k) g)
     by false false false e f g t = absurd t
 
 code-late : (k : ℕ) → ZeroOr k → isCode k ≡ true

@@ -110,7 +110,7 @@ module _ (given other : ℕ → Bool) (alike : AlikeGiven given other) (set turn
         let v = l .records in
         let cu = c .count in
         let cr = c .records in
-        record { session = c .session; tag = c .tag; size = c .size; name = c .name; seen = c .seen; made = c .made; met = c .met; count = omega arith; records = omega arith }
+        record { session = c .session; tag = c .tag; size = c .size; name = c .name; hatch = c .hatch; seen = c .seen; made = c .made; met = c .met; count = omega arith; records = omega arith }
 
     end-both : (x y : State) → St x y → readAt given set s x ≡ Read.ended → {w v : Place} → LikePlace (readAt given set s x ≡ Read.ended → ⊥) w v
         → TwoEnds [] [] (endAt s x w) (endAt t y v)

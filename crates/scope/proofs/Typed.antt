@@ -30,7 +30,7 @@ needOf n =
 
 -- a tag of that width
 abbrev pub fits : Need → ℕ → Bool
-fits whole t = eqb t 0xc0 || eqb t 0xc1
+fits whole t = eqb t 0xc0 || (eqb t 0xc1 || eqb t 0xc3)
 fits long t = eqb t 0xc0 || (eqb t 0xc1 || eqb t 0xc2)
 fits bytes t = eqb t 0xc8
 fits any t = true
@@ -46,6 +46,7 @@ wholeTakes (D low) = false
 wholeTakes M = false
 wholeTakes M2 = false
 wholeTakes L = false
+wholeTakes Takes.I = true
 
 abbrev isLong : Takes → Bool
 isLong (E low high) = false
@@ -57,6 +58,7 @@ isLong (D low) = false
 isLong M = false
 isLong M2 = false
 isLong L = true
+isLong Takes.I = false
 
 abbrev isBytes : Takes → Bool
 isBytes (E low high) = false
@@ -68,6 +70,7 @@ isBytes (D low) = false
 isBytes M = false
 isBytes M2 = false
 isBytes L = false
+isBytes Takes.I = false
 
 abbrev suits : Need → Takes → Bool
 suits whole k = wholeTakes k
@@ -79,10 +82,20 @@ or-more : (a b : Bool) → a ≡ true → a || b ≡ true
 or-more true b e = refl
 or-more false b e = clash-of (sym e)
 
+wider : (a b c : Bool) → a || b ≡ true → a || (b || c) ≡ true
+wider true b c e = refl
+wider false true c e = refl
+wider false false c e = clash-of (sym e)
+
+or-last : (a b c : Bool) → c ≡ true → a || (b || c) ≡ true
+or-last true b c e = refl
+or-last false true c e = refl
+or-last false false c e = e
+
 suits-fits : (n : Need) (k : Takes) (t : ℕ) → suits n k ≡ true → typeTaken k t ≡ true → fits n t ≡ true
 unfolding typeTaken
-suits-fits whole (E low high) t s e = or-more (eqb t 0xc0) (eqb t 0xc1) e
-suits-fits whole (N low high) t s e = e
+suits-fits whole (E low high) t s e = or-more (eqb t 0xc0) (eqb t 0xc1 || eqb t 0xc3) e
+suits-fits whole (N low high) t s e = wider (eqb t 0xc0) (eqb t 0xc1) (eqb t 0xc3) e
 suits-fits whole P t s e = clash-of (sym s)
 suits-fits whole B t s e = clash-of (sym s)
 suits-fits whole (A low high) t s e = clash-of (sym s)
@@ -90,6 +103,7 @@ suits-fits whole (D low) t s e = clash-of (sym s)
 suits-fits whole M t s e = clash-of (sym s)
 suits-fits whole M2 t s e = clash-of (sym s)
 suits-fits whole L t s e = clash-of (sym s)
+suits-fits whole Takes.I t s e = or-last (eqb t 0xc0) (eqb t 0xc1) (eqb t 0xc3) e
 suits-fits long (E low high) t s e = clash-of (sym s)
 suits-fits long (N low high) t s e = clash-of (sym s)
 suits-fits long P t s e = clash-of (sym s)
@@ -99,6 +113,7 @@ suits-fits long (D low) t s e = clash-of (sym s)
 suits-fits long M t s e = clash-of (sym s)
 suits-fits long M2 t s e = clash-of (sym s)
 suits-fits long L t s e = e
+suits-fits long Takes.I t s e = clash-of (sym s)
 suits-fits bytes (E low high) t s e = clash-of (sym s)
 suits-fits bytes (N low high) t s e = clash-of (sym s)
 suits-fits bytes P t s e = clash-of (sym s)
@@ -108,6 +123,7 @@ suits-fits bytes (D low) t s e = clash-of (sym s)
 suits-fits bytes M t s e = clash-of (sym s)
 suits-fits bytes M2 t s e = clash-of (sym s)
 suits-fits bytes L t s e = clash-of (sym s)
+suits-fits bytes Takes.I t s e = clash-of (sym s)
 suits-fits any k t s e = refl
 
 -- the lines of both tables are such, by computing

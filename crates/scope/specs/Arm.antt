@@ -11,7 +11,7 @@ use Rattle.scope.specs.Item.{Attribute}
 use Rattle.scope.specs.Attributes.{has, valueIn}
 use Rattle.scope.specs.Setting.{Setting}
 use Rattle.scope.specs.Reading.{Operator}
-use Rattle.scope.specs.Names.{SetCursorRel, LinePath, LineRelPath, BeginImage, SetBrushSource, SetPenSource, RGBColor, GrayLevel, PushGS, PopGS, SetCursor, NewPath, SetColorSpace, ColorSpace, SetDefaultGS}
+use Rattle.scope.specs.Names.{SetCursorRel, LinePath, LineRelPath, BeginImage, SetBrushSource, SetPenSource, RGBColor, GrayLevel, PushGS, PopGS, SetCursor, NewPath, SetColorSpace, ColorSpace, SetDefaultGS, BeginRastPattern, PatternSelectID}
 
 pub record Saved : Type 0 where
   pub cursor : Bool
@@ -42,26 +42,36 @@ pub data Effect : Type 0 where
   pop : Effect
   put : (cursor gray : Mark) → Effect
 
--- what an operator needs (an open source, a set cursor, a colour space) and does
+-- a pattern that is selected, by its number; or none
+pub data Select : Type 0 where
+  no-pattern : Select
+  pattern : ℕ → Select
+
+-- what an operator needs (an open source, a set cursor, a colour space, a pattern) and does
 pub record Act : Type 0 where
   pub source : Bool
   pub cursor : Bool
   pub space : Space
+  pub select : Select
   pub effect : Effect
 
 -- a call itself, and every operator outside a page
 abbrev pub idle : Act
-idle = record { source = false; cursor = false; space = any; effect = put kept kept }
+idle = record { source = false; cursor = false; space = any; select = no-pattern; effect = put kept kept }
 
 -- SetCursorRel, LinePath, LineRelPath and BeginImage need the cursor set
 unfoldable pub needsCursor : ℕ → Bool
 needsCursor tag = among (SetCursorRel ∷ LinePath ∷ LineRelPath ∷ BeginImage ∷ []) tag
 
--- RGBColor needs RGB; GrayLevel and BeginImage need gray
+-- RGBColor needs RGB; GrayLevel, BeginImage and BeginRastPattern need gray
 unfoldable pub needsSpace : ℕ → List Attribute → Space
 needsSpace tag l =
-    pick (eqb tag BeginImage) gray
+    pick (eqb tag BeginImage || eqb tag BeginRastPattern) gray
     (pick (eqb tag SetBrushSource || eqb tag SetPenSource) (pick (has RGBColor l) rgb (pick (has GrayLevel l) gray any)) any)
+
+-- SetBrushSource selects a pattern by PatternSelectID
+unfoldable pub selectOf : Bool → List ℕ → ℕ → List Attribute → Select
+selectOf high s tag l = pick (eqb tag SetBrushSource && has PatternSelectID l) (pattern (valueIn high s l PatternSelectID)) no-pattern
 
 -- PushGS, PopGS; SetCursor sets the cursor, NewPath unsets it; SetColorSpace sets the colour space; SetDefaultGS unsets the cursor and restores the colour space
 -- that pages start in
@@ -80,11 +90,12 @@ actOf set s o =
       source = o .reads;
       cursor = needsCursor (o .tag);
       space = needsSpace (o .tag) (o .attrs);
+      select = selectOf (set .high) s (o .tag) (o .attrs);
       effect = effectOf set s (o .tag) (o .attrs);
     }
 
 -- the arm on its way: the page; how many operators it has performed; the most states that were saved right after a PushGS;
--- an open source was needed; a cursor was needed and not set; a colour space was needed and another was set
+-- an open source was needed; a cursor was needed and not set; a colour space was needed and another was set; the numbers of the patterns selected, the last one first
 pub record Seen : Type 0 where
   pub page : Page
   pub count : ℕ
@@ -92,6 +103,7 @@ pub record Seen : Type 0 where
   pub source : Bool
   pub lost : Bool
   pub wrong : Bool
+  pub wants : List ℕ
 
 abbrev pub marked : Mark → Bool → Bool
 marked kept b = b
@@ -118,6 +130,11 @@ risen push p m = max m (suc (length (p .saved)))
 risen pop p m = m
 risen (put c g) p m = m
 
+-- the numbers selected, with one more
+abbrev pub wanted : Select → List ℕ → List ℕ
+wanted no-pattern ns = ns
+wanted (pattern n) ns = n ∷ ns
+
 -- one operator performed
 unfoldable pub step : Act → Seen → Seen
 step a w =
@@ -128,6 +145,7 @@ step a w =
       source = w .source || a .source;
       lost = w .lost || (a .cursor && not (w .page .cursor));
       wrong = w .wrong || clash (a .space) (w .page .gray);
+      wants = wanted (a .select) (w .wants);
     }
 
 -- an operator as it is performed: the motif in which it stands (0 is the job, 1 the first motif of the session, and so on), the operator as it is read there, and
@@ -144,4 +162,4 @@ walk (x ∷ l) w = walk l (step (x .act) w)
 
 -- the arm before an operator of the job: nothing seen yet
 unfoldable pub from : Page → ℕ → Seen
-from p n = record { page = p; count = n; most = 0; source = false; lost = false; wrong = false }
+from p n = record { page = p; count = n; most = 0; source = false; lost = false; wrong = false; wants = [] }

@@ -8,7 +8,7 @@ use lib.Dec.{ltb, leb, eqb}
 use Rattle.scope.specs.Choice.{pick, between}
 use Rattle.scope.specs.Number.{number}
 use Rattle.scope.specs.Item.{Attribute}
-use Rattle.scope.specs.Table.{Takes, E, N, P, B, A, D, M, M2, L, Rule, Form, each, one, line, Ruled, is, none, ruleIn}
+use Rattle.scope.specs.Table.{Takes, E, N, P, B, A, D, M, M2, L, I, Rule, Form, each, one, line, Ruled, is, none, ruleIn}
 use Rattle.scope.specs.Names.{EndPoint, NumberOfPoints, PointType}
 
 -- an attribute of this number is among them
@@ -21,7 +21,7 @@ pub data Two : Type 0 where
   wholes : (x y : ℕ) → Two
   reals : (x y : ℕ) → Two
 
--- the numbers of a value of this tag, the first of which stands at a place: two reals; or the first of ubytes or of uint16 and the second of two uint16
+-- the numbers of a value of this tag, the first of which stands at a place: two reals; or the first of ubytes or of numbers of two bytes and the second of two uint16
 unfoldable pub twoAt : Bool → List ℕ → (tag first : ℕ) → Two
 twoAt high s tag first =
     pick (eqb tag 0xd5) (reals (number high 4 s first) (number high 4 s (first + 4)))
@@ -68,6 +68,7 @@ typeTaken (D low) t = eqb t 0xd1 || eqb t 0xd5
 typeTaken M t = eqb t 0xc0
 typeTaken M2 t = eqb t 0xc0 || eqb t 0xc8
 typeTaken L t = eqb t 0xc0 || (eqb t 0xc1 || eqb t 0xc2)
+typeTaken I t = eqb t 0xc3
 
 -- the values taken, of a type that is taken
 unfoldable pub inRange : Bool → List ℕ → Takes → Attribute → Bool
@@ -80,6 +81,7 @@ inRange order s (D low) a = sizesIn low (twoOf order s a)
 inRange order s M a = between 0 12 (firstOf order s a) || between 14 16 (firstOf order s a)
 inRange order s M2 a = pick (eqb (a .tag) 0xc8) (between 1 1024 (a .count)) (between 0 21 (firstOf order s a) || eqb (firstOf order s a) 96)
 inRange order s L a = true
+inRange order s I a = true
 
 -- a fault: its code and place
 pub data Fault : Type 0 where

@@ -57,9 +57,9 @@ PassesExactly =
 abbrev pub Within : Type 0
 Within = (gray : Bool) (job : List ℕ) (work room : ℕ) → verdictOf gray job work room .position ≤ length job
 
--- the codes: 0 to 29 but 20, which is retired, and 32
+-- the codes: 0 to 29 but 20, which is retired, and 32 to 34
 abbrev pub isCode : ℕ → Bool
-isCode code = between 0 19 code || (between 21 29 code || between 32 32 code)
+isCode code = between 0 19 code || (between 21 29 code || between 32 34 code)
 
 -- the code of a verdict is one of them
 abbrev pub CodeKnown : Type 0

@@ -9,9 +9,9 @@ use Rattle.scope.specs.Choice.{pick}
 use Rattle.scope.specs.Number.{number}
 use Rattle.scope.specs.Item.{Attribute}
 use Rattle.scope.specs.Attributes.{has, valueIn}
-use Rattle.scope.specs.Names.{ReadStream, StreamDataLength, ReadImage, BlockHeight, PadBytesMultiple, LinePath, LineRelPath, NumberOfPoints, PointType}
+use Rattle.scope.specs.Names.{ReadStream, StreamDataLength, ReadImage, ReadRastPattern, BlockHeight, PadBytesMultiple, LinePath, LineRelPath, NumberOfPoints, PointType}
 
--- an image that is being read: SourceWidth, ColorDepth, SourceHeight, and the rows read so far
+-- an image that is being read, or a pattern: SourceWidth, ColorDepth, SourceHeight, and the rows read so far
 pub record Image : Type 0 where
   pub width : ℕ
   pub depth : ℕ
@@ -30,7 +30,11 @@ rowOf width depth pad = ((width * bitsOf depth + 7) / 8 + (pad - 1)) / pad * pad
 unfoldable pub padOf : Bool → List ℕ → List Attribute → ℕ
 padOf high s l = pick (eqb (valueIn high s l PadBytesMultiple) 0) 4 (valueIn high s l PadBytesMultiple)
 
--- the data of a ReadImage: BlockHeight rows
+-- ReadImage and ReadRastPattern read rows
+unfoldable pub readsRows : ℕ → Bool
+readsRows tag = eqb tag ReadImage || eqb tag ReadRastPattern
+
+-- their data: BlockHeight rows
 unfoldable pub blockDue : Bool → List ℕ → Image → List Attribute → ℕ
 blockDue high s i l = valueIn high s l BlockHeight * rowOf (i .width) (i .depth) (padOf high s l)
 
@@ -46,7 +50,7 @@ pointBytes type n = pick (leb type 1) (2 * n) (4 * n)
 unfoldable pub dueOf : Bool → List ℕ → Image → ℕ → List Attribute → Due
 dueOf high s i tag l =
     pick (eqb tag ReadStream) (reads (valueIn high s l StreamDataLength))
-    (pick (eqb tag ReadImage) (reads (blockDue high s i l))
+    (pick (readsRows tag) (reads (blockDue high s i l))
     (pick (eqb tag LinePath || eqb tag LineRelPath) (pick (has NumberOfPoints l) (reads (pointBytes (valueIn high s l PointType) (valueIn high s l NumberOfPoints))) none) none))
 
 -- where the data is; or a refusal

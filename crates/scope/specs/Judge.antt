@@ -1,20 +1,20 @@
--- Judging: operators to a verdict. 01, "Verdicts", and 02, item 8: the rules after reading, in their order, and the state after an operator.
+-- Judging: operators to a verdict. 01, "Verdicts", and 02, items 8 and 10: the rules after reading, in their order, and the state after an operator.
 -- Assumes nothing.
 use Prim.Native.Nat.{ℕ, suc, _+_, _-_, _*_}
 use mathlib.Core.Bool.{Bool, true, false, not, _&&_, _||_}
 use mathlib.Core.List.{List, [], _∷_, _++_}
 use lib.ListN.{length}
 use lib.Dec.{leb, ltb, eqb}
-use Rattle.scope.specs.Choice.{pick}
+use Rattle.scope.specs.Choice.{pick, among}
 use Rattle.scope.specs.Iterate.{Next, go, stop, iterate}
 use Rattle.scope.specs.Attributes.{bytesIn}
 use Rattle.scope.specs.Reading.{Context, Operator, Read, operatorAt}
 use Rattle.scope.specs.Arm.{Seen, walk, from}
-use Rattle.scope.specs.Motif.{Motif, heldAs, isHeld, bytesHeld, Judged, valid, faulty, motifOf}
+use Rattle.scope.specs.Motif.{Motif, heldAs, isHeld, bytesHeld, Hatch, hatchOf, Judged, valid, faulty, motifOf}
 use Rattle.scope.specs.Calls.{Met, nothing, met}
 use Rattle.scope.specs.Setting.{Setting}
-use Rattle.scope.specs.Session.{Session, Place, outside, inside, sessionOf, phaseOf, pageOf, joinedOf, rowFor, placeAfter}
-use Rattle.scope.specs.Names.{EndStream, StreamName, BeginStream, ReadStream, ExecStream}
+use Rattle.scope.specs.Session.{Session, Place, outside, inside, sessionOf, phaseOf, pageOf, joinedOf, pagePatterns, rowFor, placeAfter}
+use Rattle.scope.specs.Names.{EndStream, StreamName, BeginStream, ReadStream, ExecStream, BeginRastPattern}
 
 -- inner, unless said otherwise
 abbrev pub outer : ℕ
@@ -36,12 +36,14 @@ judgedAt set joined tag = pick (eqb tag EndStream) (motifOf set joined) (valid [
 unfoldable pub metAt : List Motif → (name : List ℕ) → (tag : ℕ) → Met
 metAt held name tag = pick (eqb tag ExecStream) (met held 32 [] name) nothing
 
--- what the rules look at: the session, the records with this operator's, the operator, its name, the arm after it, its motif's judgement, what its call meets
+-- what the rules look at: the session, the records with this operator's, the operator, its name, the pattern that it begins, the arm after it, its motif's
+-- judgement, what its call meets
 pub record Case : Type 0 where
   pub session : Session
   pub records : ℕ
   pub op : Operator
   pub name : List ℕ
+  pub hatch : Hatch
   pub seen : Seen
   pub made : Judged
   pub met : Met
@@ -53,6 +55,7 @@ caseOf set s st x o =
       records = st .records + suc (length (o .attrs));
       op = o;
       name = bytesIn s (o .attrs) StreamName;
+      hatch = hatchOf (set .high) s (o .attrs);
       seen = walk (rowFor set s (x .held) o) (from (pageOf (x .busy)) (st .performed));
       made = judgedAt set (joinedOf (x .busy)) (o .tag);
       met = metAt (x .held) (bytesIn s (o .attrs) StreamName) (o .tag);
@@ -63,6 +66,17 @@ unfoldable pub tooMuch : Case → Bool
 tooMuch c =
     (eqb (c .op .tag) BeginStream && (leb 64 (length (c .session .held)) && not (isHeld (heldAs (c .name) (c .session .held)))))
     || (eqb (c .op .tag) ReadStream && ltb 16384 (bytesHeld (c .session .held) + (length (joinedOf (c .session .busy)) + c .op .length)))
+
+-- the numbers defined for the session, or for the page
+abbrev pub numbersOf : (session : Bool) → Session → List ℕ
+numbersOf true x = x .patterns
+numbersOf false x = pagePatterns (x .busy)
+
+-- 33: BeginRastPattern of a new number with 32 defined, at its persistence
+unfoldable pub noPlace : Case → Bool
+noPlace c =
+    eqb (c .op .tag) BeginRastPattern
+    && (leb 32 (length (numbersOf (c .hatch .session) (c .session))) && not (among (numbersOf (c .hatch .session) (c .session)) (c .hatch .number)))
 
 -- 21: name not held
 unfoldable pub nameMissing : Case → Bool
@@ -80,7 +94,7 @@ tooDeep c = c .met .deep
 unfoldable pub sourceClosed : Case → Bool
 sourceClosed c = c .seen .source && not (c .session .opened)
 
--- 23 to 26, and 28
+-- 23 to 25, 34, 26 and 28
 unfoldable pub savedOver : Case → Bool
 savedOver c = ltb 24 (c .seen .most)
 
@@ -89,6 +103,14 @@ cursorUnset c = c .seen .lost
 
 unfoldable pub spaceWrong : Case → Bool
 spaceWrong c = c .seen .wrong
+
+-- 34: a pattern that is selected is defined neither for the page nor for the session
+unfoldable pub someMissing : (ofPage ofSession : List ℕ) → (wants : List ℕ) → Bool
+someMissing ofPage ofSession [] = false
+someMissing ofPage ofSession (n ∷ ns) = not (among ofPage n || among ofSession n) || someMissing ofPage ofSession ns
+
+unfoldable pub patternMissing : Case → Bool
+patternMissing c = someMissing (pagePatterns (c .session .busy)) (c .session .patterns) (c .seen .wants)
 
 unfoldable pub countOver : Case → Bool
 countOver c = ltb 1_000_000 (c .seen .count)
@@ -101,23 +123,25 @@ pub data Rule : Type 0 where
   rule : (code : ℕ) → (broken : Case → Bool) → Rule
   motifs-own : Rule
 
--- the rules of motifs and their names, which are layout rules
+-- the rules of motifs and their names, and of places for patterns, which are layout rules
 unfoldable pub early : List Rule
 early =
     rule 19 tooMuch
+    ∷ rule 33 noPlace
     ∷ motifs-own
     ∷ rule 21 nameMissing
     ∷ rule 32 callsItself
     ∷ rule 22 tooDeep
     ∷ []
 
--- the rules of the arm's state
+-- the rules of the arm's state and of the patterns that it selects
 unfoldable pub armed : List Rule
 armed =
     rule 17 sourceClosed
     ∷ rule 23 savedOver
     ∷ rule 24 cursorUnset
     ∷ rule 25 spaceWrong
+    ∷ rule 34 patternMissing
     ∷ []
 
 -- the rules of numbers that grow: operators performed, and records, with so many bytes of room for the list

@@ -1,7 +1,7 @@
 -- 01, "Motifs", and 02, item 8: what is held, and how a motif is judged at EndStream. It is judged from its bytes alone: it may name a motif that is not held.
 -- Assumes nothing.
 use Prim.Native.Nat.{ℕ, suc, _+_, _-_}
-use mathlib.Core.Bool.{Bool, true, false}
+use mathlib.Core.Bool.{Bool, true, false, _||_}
 use mathlib.Core.List.{List, [], _∷_, _++_}
 use lib.ListN.{length}
 use lib.Dec.{eqb}
@@ -11,11 +11,11 @@ use Rattle.scope.specs.Header.{Header, headerOf}
 use Rattle.scope.specs.Setting.{Setting, ofMotif, sameClass}
 use Rattle.scope.specs.Item.{Attribute}
 use Rattle.scope.specs.Attributes.{valueIn, bytesIn}
-use Rattle.scope.specs.Data.{Image}
-use Rattle.scope.specs.Order.{Phase, in-motif, in-image}
+use Rattle.scope.specs.Data.{Image, readsRows}
+use Rattle.scope.specs.Order.{Phase, in-motif, in-image, in-pattern}
 use Rattle.scope.specs.Reading.{Context, Operator, Read, operatorAt}
 use Rattle.scope.specs.Arm.{Act, actOf}
-use Rattle.scope.specs.Names.{SourceWidth, ColorDepth, SourceHeight, BeginImage, ReadImage, BlockHeight, EndImage, PushGS, PopGS, ExecStream, StreamName}
+use Rattle.scope.specs.Names.{SourceWidth, ColorDepth, SourceHeight, BeginImage, BlockHeight, EndImage, BeginRastPattern, EndRastPattern, PatternPersistence, PatternDefineID, PushGS, PopGS, ExecStream, StreamName}
 
 -- an operator of a motif, as it is read there: it does something, or calls by a name
 pub data Own : Type 0 where
@@ -48,25 +48,39 @@ unfoldable pub bytesHeld : List Motif → ℕ
 bytesHeld [] = 0
 bytesHeld (m ∷ ms) = length (m .bytes) + bytesHeld ms
 
--- an image that is open, or none
+-- a pattern that is defined: for the session or for the page, and its number
+pub record Hatch : Type 0 where
+  pub session : Bool
+  pub number : ℕ
+
+-- PatternPersistence 2 is for the session, 1 for the page
+unfoldable pub hatchOf : Bool → List ℕ → List Attribute → Hatch
+hatchOf high s l = record { session = eqb (valueIn high s l PatternPersistence) 2; number = valueIn high s l PatternDefineID }
+
+-- an image that is open, a pattern that is being defined, or none
 pub data Picture : Type 0 where
   none : Picture
   being : Image → Picture
+  hatching : Hatch → Image → Picture
 
--- BeginImage opens one, ReadImage reads rows of it, EndImage ends it
-unfoldable pub begun : Bool → List ℕ → List Attribute → Picture
-begun high s l =
-    being (record { width = valueIn high s l SourceWidth; depth = valueIn high s l ColorDepth; height = valueIn high s l SourceHeight; rows = 0 })
+-- BeginImage opens an image, BeginRastPattern a pattern; ReadImage and ReadRastPattern read rows of it, EndImage and EndRastPattern end it
+unfoldable pub begun : Bool → List ℕ → List Attribute → Image
+begun high s l = record { width = valueIn high s l SourceWidth; depth = valueIn high s l ColorDepth; height = valueIn high s l SourceHeight; rows = 0 }
+
+abbrev pub withRows : ℕ → Image → Image
+withRows n i = record { width = i .width; depth = i .depth; height = i .height; rows = i .rows + n }
 
 unfoldable pub readOn : ℕ → Picture → Picture
 readOn n none = none
-readOn n (being i) = being (record { width = i .width; depth = i .depth; height = i .height; rows = i .rows + n })
+readOn n (being i) = being (withRows n i)
+readOn n (hatching h i) = hatching h (withRows n i)
 
 unfoldable pub pictureAfter : Bool → List ℕ → Operator → Picture → Picture
 pictureAfter high s o p =
-    pick (eqb (o .tag) BeginImage) (begun high s (o .attrs))
-    (pick (eqb (o .tag) ReadImage) (readOn (valueIn high s (o .attrs) BlockHeight) p)
-    (pick (eqb (o .tag) EndImage) none p))
+    pick (eqb (o .tag) BeginImage) (being (begun high s (o .attrs)))
+    (pick (eqb (o .tag) BeginRastPattern) (hatching (hatchOf high s (o .attrs)) (begun high s (o .attrs)))
+    (pick (readsRows (o .tag)) (readOn (valueIn high s (o .attrs) BlockHeight) p)
+    (pick (eqb (o .tag) EndImage || eqb (o .tag) EndRastPattern) none p)))
 
 -- how many states are saved after an operator
 unfoldable pub savedAfter : ℕ → ℕ → ℕ
@@ -87,6 +101,7 @@ pub record Inside : Type 0 where
 unfoldable pub phaseIn : ℕ → Picture → Phase
 phaseIn saved none = in-motif saved
 phaseIn saved (being i) = in-image i
+phaseIn saved (hatching h i) = in-pattern i
 
 -- 17 is not judged inside a motif
 unfoldable pub contextIn : Setting → Inside → Context
@@ -99,6 +114,7 @@ ownBy set s o = pick (eqb (o .tag) ExecStream) (calls o (bytesIn s (o .attrs) St
 -- the end: no image open and as many PopGS as PushGS, else 27
 unfoldable pub onEnd : List ℕ → Inside → Picture → Judged
 onEnd s w (being i) = faulty 27 (length s)
+onEnd s w (hatching h i) = faulty 27 (length s)
 onEnd s w none = pick (eqb (w .saved) 0) (valid (w .ops)) (faulty 27 (length s))
 
 unfoldable pub onRead : Setting → List ℕ → Inside → Read → Next Inside Judged

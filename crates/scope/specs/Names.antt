@@ -1,4 +1,4 @@
--- 01, "Operators", and request 6 of 02: the tags of operators and the numbers of attributes, by their names.
+-- 01, "Operators", and requests 6 and 10 of 02: the tags of operators and the numbers of attributes, by their names.
 -- Assumes nothing.
 use Prim.Native.Nat.{ℕ}
 
@@ -90,6 +90,15 @@ ReadImage = 0xb1
 abbrev pub EndImage : ℕ
 EndImage = 0xb2
 
+abbrev pub BeginRastPattern : ℕ
+BeginRastPattern = 0xb3
+
+abbrev pub ReadRastPattern : ℕ
+ReadRastPattern = 0xb4
+
+abbrev pub EndRastPattern : ℕ
+EndRastPattern = 0xb5
+
 -- attributes
 abbrev pub ColorSpace : ℕ
 ColorSpace = 3
@@ -99,6 +108,9 @@ NullBrush = 4
 
 abbrev pub NullPen : ℕ
 NullPen = 5
+
+abbrev pub PatternSelectID : ℕ
+PatternSelectID = 8
 
 abbrev pub GrayLevel : ℕ
 GrayLevel = 9
@@ -153,6 +165,12 @@ CompressMode = 101
 
 abbrev pub DestinationSize : ℕ
 DestinationSize = 103
+
+abbrev pub PatternPersistence : ℕ
+PatternPersistence = 104
+
+abbrev pub PatternDefineID : ℕ
+PatternDefineID = 105
 
 abbrev pub SourceHeight : ℕ
 SourceHeight = 107

@@ -7,44 +7,43 @@ use mathlib.Core.Bool.{Bool, true, false, not, _&&_, _||_}
 use mathlib.Core.List.{List, [], _∷_, _++_}
 use lib.ListN.{length, take, drop}
 use lib.Dec.{leb, eqb}
-use Rattle.scope.specs.Choice.{pick, same}
+use Rattle.scope.specs.Choice.{pick, same, among}
 use Rattle.scope.specs.Iterate.{Next, go, stop, iterate}
 use Rattle.scope.specs.Header.{Header, headerOf}
 use Rattle.scope.specs.Attributes.{bytesIn}
-use Rattle.scope.specs.Order.{Phase, between-sessions, in-session, in-stream, in-page, in-image}
+use Rattle.scope.specs.Order.{Phase, between-sessions, in-session, in-stream, in-page, in-image, in-pattern}
 use Rattle.scope.specs.Reading.{Context, Operator, Read, operatorAt}
-use Rattle.scope.specs.Arm.{Effect, push, pop, put, Page, blank, done, clash, idle, actOf, Stroke}
-use Rattle.scope.specs.Motif.{Picture, pictureAfter, savedAfter, phaseIn}
+use Rattle.scope.specs.Arm.{Effect, push, pop, put, Select, no-pattern, pattern, Page, blank, done, clash, idle, actOf, Stroke}
+use Rattle.scope.specs.Motif.{Hatch, Picture, pictureAfter, savedAfter, phaseIn}
 use Rattle.scope.specs.Setting.{Setting, ofMotif}
-use Rattle.scope.specs.Names.{OpenDataSource, CloseDataSource, BeginPage, EndPage, EndSession, BeginStream, ReadStream, ExecStream, StreamName}
+use Rattle.scope.specs.Names.{OpenDataSource, CloseDataSource, BeginPage, EndPage, EndSession, BeginStream, ReadStream, ExecStream, StreamName, EndRastPattern}
 
--- what an operator performed does besides: it opens or closes the source, begins or ends a page
+-- what an operator performed does besides: it opens or closes the source, begins or ends a page, ends a session, defines a pattern
 pub data Turn : Type 0 where
   stays : Turn
   opens : Turn
   closes : Turn
   begins : (gray : Bool) → Turn
   ends : Turn
-
--- which operator turns what
-unfoldable pub turnOf : (gray : Bool) → ℕ → Turn
-turnOf gray tag =
-    pick (eqb tag OpenDataSource) opens (pick (eqb tag CloseDataSource) closes (pick (eqb tag BeginPage) (begins gray) (pick (eqb tag EndPage) ends stays)))
+  leaves : Turn
+  defines : Hatch → Turn
 
 -- an operator as the plain arm performs it
 pub record Deed : Type 0 where
   pub turn : Turn
   pub stroke : Stroke
 
--- the plain arm: source open or not, page, operators performed
+-- the plain arm: source open or not, page, the patterns of the session and of the page, operators performed
 pub record PlainArm : Type 0 where
   pub opened : Bool
   pub page : Page
+  pub ofSession : List ℕ
+  pub ofPage : List ℕ
   pub count : ℕ
 
--- before the job: the source is closed, and there is no page
+-- before the job: the source is closed, and there is no page and no pattern
 abbrev pub atStart : PlainArm
-atStart = record { opened = false; page = blank false; count = 0 }
+atStart = record { opened = false; page = blank false; ofSession = []; ofPage = []; count = 0 }
 
 -- one more state would be saved than 24
 abbrev pub overSaved : Effect → Page → Bool
@@ -52,12 +51,18 @@ overSaved push p = leb 24 (length (p .saved))
 overSaved pop p = false
 overSaved (put c g) p = false
 
--- the operator breaks a rule where it is performed: a closed data source, a 25th saved state, an unset cursor, a wrong colour space, a 1,000,001st operator
+-- a pattern is selected that is defined neither for the page nor for the session
+abbrev pub selectsNone : Select → PlainArm → Bool
+selectsNone no-pattern w = false
+selectsNone (pattern n) w = not (among (w .ofPage) n || among (w .ofSession) n)
+
+-- the operator breaks a rule where it is performed: a closed data source, a 25th saved state, an unset cursor, a wrong colour space, a pattern not defined, a
+-- 1,000,001st operator
 unfoldable pub breaks : Deed → PlainArm → Bool
 breaks d w =
     (d .stroke .act .source && not (w .opened))
     || (overSaved (d .stroke .act .effect) (w .page)
-    || ((d .stroke .act .cursor && not (w .page .cursor)) || (clash (d .stroke .act .space) (w .page .gray) || leb 1_000_000 (w .count))))
+    || ((d .stroke .act .cursor && not (w .page .cursor)) || (clash (d .stroke .act .space) (w .page .gray) || (selectsNone (d .stroke .act .select) w || leb 1_000_000 (w .count)))))
 
 -- the source after a turn
 abbrev pub openedBy : Turn → Bool → Bool
@@ -66,6 +71,8 @@ openedBy opens b = true
 openedBy closes b = false
 openedBy (begins gray) b = b
 openedBy ends b = b
+openedBy leaves b = b
+openedBy (defines h) b = b
 
 -- the page after a turn: BeginPage begins a blank one
 abbrev pub pageBy : Turn → Page → Page
@@ -74,11 +81,38 @@ pageBy opens p = p
 pageBy closes p = p
 pageBy (begins gray) p = blank gray
 pageBy ends p = blank false
+pageBy leaves p = p
+pageBy (defines h) p = p
+
+-- the patterns after a turn: those of a page go at its end, those of a session at its end; a number is defined again, or as one more
+abbrev pub ofSessionBy : Turn → List ℕ → List ℕ
+ofSessionBy stays ns = ns
+ofSessionBy opens ns = ns
+ofSessionBy closes ns = ns
+ofSessionBy (begins gray) ns = ns
+ofSessionBy ends ns = ns
+ofSessionBy leaves ns = []
+ofSessionBy (defines h) ns = pick (h .session) (pick (among ns (h .number)) ns (h .number ∷ ns)) ns
+
+abbrev pub ofPageBy : Turn → List ℕ → List ℕ
+ofPageBy stays ns = ns
+ofPageBy opens ns = ns
+ofPageBy closes ns = ns
+ofPageBy (begins gray) ns = []
+ofPageBy ends ns = []
+ofPageBy leaves ns = ns
+ofPageBy (defines h) ns = pick (h .session) ns (pick (among ns (h .number)) ns (h .number ∷ ns))
 
 -- the arm after one operator
 unfoldable pub performs : Deed → PlainArm → PlainArm
 performs d w =
-    record { opened = openedBy (d .turn) (w .opened); page = pageBy (d .turn) (done (d .stroke .act .effect) (w .page)); count = suc (w .count) }
+    record {
+      opened = openedBy (d .turn) (w .opened);
+      page = pageBy (d .turn) (done (d .stroke .act .effect) (w .page));
+      ofSession = ofSessionBy (d .turn) (w .ofSession);
+      ofPage = ofPageBy (d .turn) (w .ofPage);
+      count = suc (w .count);
+    }
 
 -- the arm comes to the end of the row, and no operator breaks a rule
 unfoldable pub comes : List Deed → PlainArm → Bool
@@ -157,12 +191,30 @@ unfoldable pub called : Setting → List Known → (nesting : ℕ) → List ℕ 
 called set known zero n = []
 called set known (suc d) n = ownOf (called set known d) set (knownAs n known)
 
--- what the arm is at: between sessions; in a session at rest, reading a motif of a name (the bytes joined so far), or in a page, perhaps with an image open
+-- what the arm is at: between sessions; in a session at rest, reading a motif of a name (the bytes joined so far), or in a page, perhaps with an image or a pattern
+-- open
 pub data Doing : Type 0 where
   outside : Doing
   resting : Doing
   reading : (name joined : List ℕ) → Doing
   drawing : Picture → Doing
+
+-- the pattern that is open, if an operator ends it
+unfoldable pub endsPattern : Doing → Turn
+endsPattern outside = stays
+endsPattern resting = stays
+endsPattern (reading n j) = stays
+endsPattern (drawing Picture.none) = stays
+endsPattern (drawing (Picture.being i)) = stays
+endsPattern (drawing (Picture.hatching h i)) = defines h
+
+-- which operator turns what
+unfoldable pub turnOf : (gray : Bool) → Doing → ℕ → Turn
+turnOf gray doing tag =
+    pick (eqb tag OpenDataSource) opens
+    (pick (eqb tag CloseDataSource) closes
+    (pick (eqb tag BeginPage) (begins gray)
+    (pick (eqb tag EndPage) ends (pick (eqb tag EndSession) leaves (pick (eqb tag EndRastPattern) (endsPattern doing) stays)))))
 
 -- what the arm is at after an operator of the job
 unfoldable pub doingAfter : Bool → List ℕ → Operator → Doing → Doing
@@ -203,8 +255,8 @@ pub record Unrolled : Type 0 where
   pub row : List Deed
 
 -- what is performed for an operator of the job
-unfoldable pub deedsFor : Setting → List ℕ → List Known → Operator → List Deed
-deedsFor set s known o = deeds (turnOf (set .gray) (o .tag)) (strokesOf (called set known 32) 0 set s o)
+unfoldable pub deedsFor : Setting → List ℕ → Doing → List Known → Operator → List Deed
+deedsFor set s doing known o = deeds (turnOf (set .gray) doing (o .tag)) (strokesOf (called set known 32) 0 set s o)
 
 -- an operator of the job, performed
 unfoldable pub onOperator : Setting → List ℕ → Unrolled → Operator → Unrolled
@@ -213,8 +265,8 @@ onOperator set s u o =
       at = o .next;
       doing = doingAfter (set .high) s o (u .doing);
       known = knownAfter o (u .doing) (u .known);
-      arm = performed (deedsFor set s (u .known) o) (u .arm);
-      row = u .row ++ deedsFor set s (u .known) o;
+      arm = performed (deedsFor set s (u .doing) (u .known) o) (u .arm);
+      row = u .row ++ deedsFor set s (u .doing) (u .known) o;
     }
 
 -- what was read is performed; where reading ends, the row ends
@@ -230,6 +282,7 @@ phaseAt resting p = in-session
 phaseAt (reading n j) p = in-stream
 phaseAt (drawing Picture.none) p = in-page (length (p .saved))
 phaseAt (drawing (Picture.being i)) p = in-image i
+phaseAt (drawing (Picture.hatching h i)) p = in-pattern i
 
 -- reading as it is, but that no operator asks for an open source
 unfoldable pub contextAt : Setting → Unrolled → Context

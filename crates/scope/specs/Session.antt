@@ -1,32 +1,34 @@
--- 01, "Order of operators" and "Motifs", and 02, item 8: a job's sessions, what each holds, and where the job stands after an operator. No rule of a job stands
+-- 01, "Order of operators" and "Motifs", and 02, items 8 and 10: a job's sessions, what each holds, and where the job stands after an operator. No rule of a job stands
 -- here; a motif that ends is kept if `motifOf` finds it valid.
 -- Motifs, source and page stand inside a session: between sessions there is no place for one.
 -- Assumes nothing.
 use Prim.Native.Nat.{ℕ, suc, _+_}
-use mathlib.Core.Bool.{Bool, true, false}
+use mathlib.Core.Bool.{Bool, true, false, not, _&&_}
 use mathlib.Core.List.{List, [], _∷_, _++_}
 use lib.ListN.{length, take, drop}
 use lib.Dec.{eqb}
-use Rattle.scope.specs.Choice.{pick, same}
+use Rattle.scope.specs.Choice.{pick, same, among}
 use Rattle.scope.specs.Setting.{Setting}
 use Rattle.scope.specs.Attributes.{bytesIn}
-use Rattle.scope.specs.Order.{Phase, between-sessions, in-session, in-stream, in-page, in-image}
+use Rattle.scope.specs.Order.{Phase, between-sessions, in-session, in-stream, in-page, in-image, in-pattern}
 use Rattle.scope.specs.Reading.{Operator}
 use Rattle.scope.specs.Arm.{Page, blank, idle, actOf, Stroke}
 use Rattle.scope.specs.Motif.{Own, Motif, heldAs, isHeld, Picture, pictureAfter, Judged, valid, faulty, motifOf}
 use Rattle.scope.specs.Calls.{unfolded}
-use Rattle.scope.specs.Names.{ExecStream, StreamName, OpenDataSource, CloseDataSource, BeginPage, BeginStream, ReadStream, EndPage, EndSession}
+use Rattle.scope.specs.Names.{ExecStream, StreamName, OpenDataSource, CloseDataSource, BeginPage, BeginStream, ReadStream, EndPage, EndSession, EndRastPattern}
 
--- in a session: at rest, reading a motif of a name (the bytes joined so far), in a page, perhaps with an image open
+-- in a session: at rest, reading a motif of a name (the bytes joined so far), in a page, for which some patterns are defined, perhaps with an image or a pattern
+-- open
 pub data Busy : Type 0 where
   resting : Busy
   reading : (name joined : List ℕ) → Busy
-  drawing : Page → Picture → Busy
+  drawing : Page → (patterns : List ℕ) → Picture → Busy
 
--- a session: the motifs held, the last one first; the data source open or not; what it is at
+-- a session: the motifs held, the last one first; the data source open or not; the numbers of the patterns defined for it; what it is at
 pub record Session : Type 0 where
   pub held : List Motif
   pub opened : Bool
+  pub patterns : List ℕ
   pub busy : Busy
 
 -- outside a session, after one or before the first; or inside one
@@ -34,9 +36,9 @@ pub data Place : Type 0 where
   outside : (after-one : Bool) → Place
   inside : Session → Place
 
--- BeginSession: no motif held, the source closed
+-- BeginSession: no motif held, the source closed, no pattern defined
 abbrev pub opening : Session
-opening = record { held = []; opened = false; busy = resting }
+opening = record { held = []; opened = false; patterns = []; busy = resting }
 
 abbrev pub sessionOf : Place → Session
 sessionOf (outside b) = opening
@@ -45,11 +47,12 @@ sessionOf (inside x) = x
 unfoldable pub phaseDrawing : Page → Picture → Phase
 phaseDrawing p Picture.none = in-page (length (p .saved))
 phaseDrawing p (Picture.being i) = in-image i
+phaseDrawing p (Picture.hatching h i) = in-pattern i
 
 unfoldable pub phaseBusy : Busy → Phase
 phaseBusy resting = in-session
 phaseBusy (reading n j) = in-stream
-phaseBusy (drawing p i) = phaseDrawing p i
+phaseBusy (drawing p ns i) = phaseDrawing p i
 
 unfoldable pub phaseOf : Place → Phase
 phaseOf (outside b) = between-sessions
@@ -59,13 +62,29 @@ phaseOf (inside x) = phaseBusy (x .busy)
 abbrev pub pageOf : Busy → Page
 pageOf resting = blank false
 pageOf (reading n j) = blank false
-pageOf (drawing p i) = p
+pageOf (drawing p ns i) = p
 
 -- the bytes of the motif that is being read
 abbrev pub joinedOf : Busy → List ℕ
 joinedOf resting = []
 joinedOf (reading n j) = j
-joinedOf (drawing p i) = []
+joinedOf (drawing p ns i) = []
+
+-- the patterns defined for the page; none outside one
+abbrev pub pagePatterns : Busy → List ℕ
+pagePatterns resting = []
+pagePatterns (reading n j) = []
+pagePatterns (drawing p ns i) = ns
+
+-- a number defined: again, or as one more
+unfoldable pub defined : ℕ → List ℕ → List ℕ
+defined n ns = pick (among ns n) ns (n ∷ ns)
+
+-- EndRastPattern defines the number of the pattern that is open, for the session or for the page; no other operator defines one
+unfoldable pub definedAfter : (session : Bool) → (tag : ℕ) → Picture → List ℕ → List ℕ
+definedAfter session tag Picture.none ns = ns
+definedAfter session tag (Picture.being i) ns = ns
+definedAfter session tag (Picture.hatching h i) ns = pick (eqb tag EndRastPattern && pick session (h .session) (not (h .session))) (defined (h .number) ns) ns
 
 -- the row of operators performed for an operator of the job: itself, and behind a call all that its motif unfolds to
 unfoldable pub rowFor : Setting → List ℕ → List Motif → Operator → List Stroke
@@ -86,23 +105,29 @@ keptAs n j (valid ops) held =
     pick (isHeld (heldAs n held)) (replaced n j ops held) (record { name = n; bytes = j; number = suc (length held); ops = ops } ∷ held)
 keptAs n j (faulty code inner) held = held
 
--- the session after an operator, which has left the page so
+-- the session after an operator, which has left the page so; EndPage drops the page's patterns
 unfoldable pub sessionAfter : Setting → List ℕ → Operator → Page → Busy → Session → Session
 sessionAfter set s o p resting x =
     record {
       held = x .held;
       opened = pick (eqb (o .tag) OpenDataSource) true (pick (eqb (o .tag) CloseDataSource) false (x .opened));
-      busy = pick (eqb (o .tag) BeginPage) (drawing (blank (set .gray)) Picture.none)
+      patterns = x .patterns;
+      busy = pick (eqb (o .tag) BeginPage) (drawing (blank (set .gray)) [] Picture.none)
           (pick (eqb (o .tag) BeginStream) (reading (bytesIn s (o .attrs) StreamName) []) resting);
     }
 sessionAfter set s o p (reading n j) x =
     pick (eqb (o .tag) ReadStream)
-    (record { held = x .held; opened = x .opened; busy = reading n (j ++ take (o .length) (drop (o .first) s)) })
-    (record { held = keptAs n j (motifOf set j) (x .held); opened = x .opened; busy = resting })
-sessionAfter set s o p (drawing q i) x =
+    (record { held = x .held; opened = x .opened; patterns = x .patterns; busy = reading n (j ++ take (o .length) (drop (o .first) s)) })
+    (record { held = keptAs n j (motifOf set j) (x .held); opened = x .opened; patterns = x .patterns; busy = resting })
+sessionAfter set s o p (drawing q ns i) x =
     pick (eqb (o .tag) EndPage)
-    (record { held = x .held; opened = x .opened; busy = resting })
-    (record { held = x .held; opened = x .opened; busy = drawing p (pictureAfter (set .high) s o i) })
+    (record { held = x .held; opened = x .opened; patterns = x .patterns; busy = resting })
+    (record {
+      held = x .held;
+      opened = x .opened;
+      patterns = definedAfter true (o .tag) i (x .patterns);
+      busy = drawing p (definedAfter false (o .tag) i ns) (pictureAfter (set .high) s o i);
+    })
 
 -- BeginSession begins one, EndSession drops all
 unfoldable pub placeAfter : Setting → List ℕ → Operator → Page → Place → Place

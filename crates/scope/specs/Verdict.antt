@@ -22,9 +22,9 @@ pub record Verdict : Type 0 where
 abbrev pub every : ℕ → Bool
 every k = true
 
--- the layout rules: those of codes 17, 23 to 26 and 28 are never given
+-- the layout rules: those of codes 17, 23 to 26, 28 and 34 are never given
 unfoldable pub layout : ℕ → Bool
-layout k = not (among (17 ∷ 23 ∷ 24 ∷ 25 ∷ 26 ∷ 28 ∷ []) k)
+layout k = not (among (17 ∷ 23 ∷ 24 ∷ 25 ∷ 26 ∷ 28 ∷ 34 ∷ []) k)
 
 -- behind the header; a page starts in gray or in RGB, as the caller asks
 unfoldable pub judgedAfter : (gray : Bool) → (ℕ → Bool) → List ℕ → ℕ → Header → Outcome

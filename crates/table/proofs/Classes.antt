@@ -1,4 +1,4 @@
--- The two tables are the same but for the lines of three operators and the rules of five attributes: without those they are the same list, and a line or a rule of
+-- The two tables are the same but for the lines of four operators and the rules of five attributes: without those they are the same list, and a line or a rule of
 -- another number is found where it was found before.
 -- Assumes nothing.
 use Prim.Native.Nat.{ℕ}

@@ -7,18 +7,18 @@ use lib.ListN.{length, replicate}
 use lib.Dec.{eqb}
 use Rattle.scope.specs.Choice.{pick, among}
 use Rattle.scope.specs.Header.{Class, one, two}
-use Rattle.scope.specs.Names.{BeginPage, ReadImage, SetDefaultGS, Orientation, MediaSize, MediaType, PadBytesMultiple, BlockByteLength}
+use Rattle.scope.specs.Names.{BeginPage, ReadImage, ReadRastPattern, SetDefaultGS, Orientation, MediaSize, MediaType, PadBytesMultiple, BlockByteLength}
 use Rattle.scope.specs.Table as scope
 use Rattle.table.specs.declared.table.Form.{Form}
 use Rattle.table.specs.declared.table.Form.the-variants.{Each, One, Line, Unknown}
 use Rattle.table.specs.declared.table.Row.{Row}
 use Rattle.table.specs.declared.table.Kind.{Kind}
-use Rattle.table.specs.declared.table.Kind.the-variants.{E, N, P, B, A, D, M, M2, L}
+use Rattle.table.specs.declared.table.Kind.the-variants.{E, N, P, B, A, D, M, M2, L, I}
 use Rattle.table.specs.declared.table.Rule.{Rule}
 
 -- the operators of which class 2;1 has a line of its own, and the attributes of which it has a rule of its own
 abbrev pub ownLines : List ℕ
-ownLines = BeginPage ∷ ReadImage ∷ SetDefaultGS ∷ []
+ownLines = BeginPage ∷ ReadImage ∷ ReadRastPattern ∷ SetDefaultGS ∷ []
 
 abbrev pub ownRules : List ℕ
 ownRules = Orientation ∷ MediaSize ∷ MediaType ∷ PadBytesMultiple ∷ BlockByteLength ∷ []
@@ -119,6 +119,7 @@ takesAs D l h = scope.D l
 takesAs M l h = scope.M
 takesAs M2 l h = scope.M2
 takesAs L l h = scope.L
+takesAs I l h = scope.I
 
 -- the values that a rule of the code stands for
 abbrev pub takesOf : Rule → scope.Takes

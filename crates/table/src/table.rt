@@ -33,7 +33,7 @@ pub struct Row {
 pub const NO: u8 = 0;
 
 // The values that an attribute takes: E a ubyte, N a ubyte or uint16, P a point, B a box, A an array of ubytes,
-// D two uint16 or reals, M and M2 MediaSize in 1;1 and in 2;1, L a ubyte, uint16 or uint32.
+// D two uint16 or reals, M and M2 MediaSize in 1;1 and in 2;1, L a ubyte, uint16 or uint32, I a sint16.
 pub enum Kind {
     E,
     N,
@@ -44,6 +44,7 @@ pub enum Kind {
     M,
     M2,
     L,
+    I,
 }
 
 // An attribute's values, the lowest and the highest.
@@ -143,6 +144,26 @@ fn needs_five(a: u8, b: u8, c: u8, d: u8, e: u8) -> Row
     }
 }
 
+// Takes seven, which must be there.
+fn needs_seven(a: u8, b: u8, c: u8, d: u8, e: u8, f: u8, g: u8) -> Row
+    ensures { λ r. ⌜ r ≡ rowWith (Each 7) (a ∷ b ∷ c ∷ d ∷ e ∷ f ∷ g ∷ []) ⌝ }
+{
+    Row {
+        form: Form::Each(7),
+        numbers: [a, b, c, d, e, f, g, NO],
+    }
+}
+
+// Takes exactly one of four.
+fn one_of_four(a: u8, b: u8, c: u8, d: u8) -> Row
+    ensures { λ r. ⌜ r ≡ rowWith One (a ∷ b ∷ c ∷ d ∷ []) ⌝ }
+{
+    Row {
+        form: Form::One,
+        numbers: [a, b, c, d, NO, NO, NO, NO],
+    }
+}
+
 // Takes exactly one of three.
 fn one_of(a: u8, b: u8, c: u8) -> Row
     ensures { λ r. ⌜ r ≡ rowWith One (a ∷ b ∷ c ∷ []) ⌝ }
@@ -180,6 +201,15 @@ fn row_of_one(tag: u8) -> Row
     match tag {
         BEGIN_IMAGE => needs_five(COLOR_MAPPING, COLOR_DEPTH, WIDTH, HEIGHT, DESTINATION_SIZE),
         BEGIN_PAGE => needs_two_may(ORIENTATION, MEDIA_SIZE, MEDIA_SOURCE),
+        BEGIN_RAST_PATTERN => needs_seven(
+            COLOR_MAPPING,
+            COLOR_DEPTH,
+            WIDTH,
+            HEIGHT,
+            DESTINATION_SIZE,
+            PATTERN_DEFINE_ID,
+            PATTERN_PERSISTENCE,
+        ),
         BEGIN_SESSION => needs_two_may(MEASURE, UNITS_PER_MEASURE, ERROR_REPORT),
         BEGIN_STREAM => needs(STREAM_NAME),
         CLOSE_DATA_SOURCE => nothing(),
@@ -187,6 +217,7 @@ fn row_of_one(tag: u8) -> Row
         COMMENT => may(COMMENT_DATA),
         END_IMAGE => nothing(),
         END_PAGE => may(PAGE_COPIES),
+        END_RAST_PATTERN => nothing(),
         END_SESSION => nothing(),
         END_STREAM => nothing(),
         EXEC_STREAM => needs(STREAM_NAME),
@@ -198,9 +229,10 @@ fn row_of_one(tag: u8) -> Row
         POP_GS => nothing(),
         PUSH_GS => nothing(),
         READ_IMAGE => needs_three(START_LINE, BLOCK_HEIGHT, COMPRESS_MODE),
+        READ_RAST_PATTERN => needs_three(START_LINE, BLOCK_HEIGHT, COMPRESS_MODE),
         READ_STREAM => needs(STREAM_DATA_LENGTH),
         RECTANGLE => needs(BOUNDING_BOX),
-        SET_BRUSH_SOURCE => one_of(RGB_COLOR, GRAY_LEVEL, NULL_BRUSH),
+        SET_BRUSH_SOURCE => one_of_four(RGB_COLOR, GRAY_LEVEL, NULL_BRUSH, PATTERN_SELECT_ID),
         SET_COLOR_SPACE => needs(COLOR_SPACE),
         SET_CURSOR => needs(POINT),
         SET_CURSOR_REL => needs(POINT),
@@ -217,6 +249,7 @@ fn has_own_line(tag: u8) -> bool
     match tag {
         BEGIN_PAGE => true,
         READ_IMAGE => true,
+        READ_RAST_PATTERN => true,
         SET_DEFAULT_GS => true,
         _ => false,
     }
@@ -229,6 +262,13 @@ fn own_row(tag: u8) -> Row
     match tag {
         BEGIN_PAGE => may_four(ORIENTATION, MEDIA_SIZE, MEDIA_SOURCE, MEDIA_TYPE),
         READ_IMAGE => needs_three_may_two(
+            START_LINE,
+            BLOCK_HEIGHT,
+            COMPRESS_MODE,
+            PAD_BYTES_MULTIPLE,
+            BLOCK_BYTE_LENGTH,
+        ),
+        READ_RAST_PATTERN => needs_three_may_two(
             START_LINE,
             BLOCK_HEIGHT,
             COMPRESS_MODE,
@@ -273,6 +313,7 @@ fn rule_of_one(number: u8) -> Rule
         COLOR_SPACE => takes(Kind::E, 1, 2),
         NULL_BRUSH => takes(Kind::E, 0, 0),
         NULL_PEN => takes(Kind::E, 0, 0),
+        PATTERN_SELECT_ID => takes(Kind::I, 0, 0),
         GRAY_LEVEL => takes(Kind::E, 0, 255),
         RGB_COLOR => takes(Kind::A, 3, 3),
         MEDIA_SIZE => takes(Kind::M, 0, 0),
@@ -290,6 +331,8 @@ fn rule_of_one(number: u8) -> Rule
         COLOR_MAPPING => takes(Kind::E, 0, 0),
         COMPRESS_MODE => takes(Kind::E, 0, 0),
         DESTINATION_SIZE => takes(Kind::D, 1, 0),
+        PATTERN_PERSISTENCE => takes(Kind::E, 1, 2),
+        PATTERN_DEFINE_ID => takes(Kind::I, 0, 0),
         HEIGHT => takes(Kind::N, 1, 65_535),
         WIDTH => takes(Kind::N, 1, 65_535),
         START_LINE => takes(Kind::N, 0, 65_535),

@@ -62,6 +62,9 @@ operatorAs operator-is.Rectangle = is names.Rectangle
 operatorAs operator-is.BeginImage = is names.BeginImage
 operatorAs operator-is.ReadImage = is names.ReadImage
 operatorAs operator-is.EndImage = is names.EndImage
+operatorAs operator-is.BeginRastPattern = is names.BeginRastPattern
+operatorAs operator-is.ReadRastPattern = is names.ReadRastPattern
+operatorAs operator-is.EndRastPattern = is names.EndRastPattern
 operatorAs operator-is.Unknown = none
 
 -- the attribute of a name
@@ -69,6 +72,7 @@ abbrev pub attributeAs : AttributeName → Known
 attributeAs attribute-is.ColorSpace = is names.ColorSpace
 attributeAs attribute-is.NullBrush = is names.NullBrush
 attributeAs attribute-is.NullPen = is names.NullPen
+attributeAs attribute-is.PatternSelectID = is names.PatternSelectID
 attributeAs attribute-is.GrayLevel = is names.GrayLevel
 attributeAs attribute-is.RGBColor = is names.RGBColor
 attributeAs attribute-is.MediaSize = is names.MediaSize
@@ -87,6 +91,8 @@ attributeAs attribute-is.BlockHeight = is names.BlockHeight
 attributeAs attribute-is.ColorMapping = is names.ColorMapping
 attributeAs attribute-is.CompressMode = is names.CompressMode
 attributeAs attribute-is.DestinationSize = is names.DestinationSize
+attributeAs attribute-is.PatternPersistence = is names.PatternPersistence
+attributeAs attribute-is.PatternDefineID = is names.PatternDefineID
 attributeAs attribute-is.SourceHeight = is names.SourceHeight
 attributeAs attribute-is.SourceWidth = is names.SourceWidth
 attributeAs attribute-is.StartLine = is names.StartLine

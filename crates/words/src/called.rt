@@ -33,6 +33,9 @@ pub enum OperatorName {
     BeginImage,
     ReadImage,
     EndImage,
+    BeginRastPattern,
+    ReadRastPattern,
+    EndRastPattern,
     Unknown,
 }
 
@@ -41,6 +44,7 @@ pub enum AttributeName {
     ColorSpace,
     NullBrush,
     NullPen,
+    PatternSelectID,
     GrayLevel,
     RGBColor,
     MediaSize,
@@ -59,6 +63,8 @@ pub enum AttributeName {
     ColorMapping,
     CompressMode,
     DestinationSize,
+    PatternPersistence,
+    PatternDefineID,
     SourceHeight,
     SourceWidth,
     StartLine,
@@ -109,6 +115,9 @@ pub fn operator_of(tag: u8) -> OperatorName
         0xb0 => OperatorName::BeginImage,
         0xb1 => OperatorName::ReadImage,
         0xb2 => OperatorName::EndImage,
+        0xb3 => OperatorName::BeginRastPattern,
+        0xb4 => OperatorName::ReadRastPattern,
+        0xb5 => OperatorName::EndRastPattern,
         _ => OperatorName::Unknown,
     }
 }
@@ -121,6 +130,7 @@ pub fn attribute_of(n: u8) -> AttributeName
         3 => AttributeName::ColorSpace,
         4 => AttributeName::NullBrush,
         5 => AttributeName::NullPen,
+        8 => AttributeName::PatternSelectID,
         9 => AttributeName::GrayLevel,
         11 => AttributeName::RGBColor,
         37 => AttributeName::MediaSize,
@@ -139,6 +149,8 @@ pub fn attribute_of(n: u8) -> AttributeName
         100 => AttributeName::ColorMapping,
         101 => AttributeName::CompressMode,
         103 => AttributeName::DestinationSize,
+        104 => AttributeName::PatternPersistence,
+        105 => AttributeName::PatternDefineID,
         107 => AttributeName::SourceHeight,
         108 => AttributeName::SourceWidth,
         109 => AttributeName::StartLine,

@@ -1,4 +1,4 @@
--- `motif::act::is_plain` meets its contract: an arm for each operator that is not plain, and the others.
+-- `is_plain` meets its contract: an arm for each operator that is not plain, and the others.
 -- Assumes nothing.
 use borrow.Author.Tests.{ne-eqb}
 use Rattle.scope.specs.Choice.{among}
@@ -44,11 +44,15 @@ returns-9 c = rw (c .match .keys9)
 
 returns-10 : tie.Need-returns-10
 unfolding plain among
-returns-10 c =
+returns-10 c = rw (c .match .keys10)
+
+returns-11 : tie.Need-returns-11
+unfolding plain among
+returns-11 c =
     let h = c .match .rest in
-    rw (ne-eqb _ _ (h .0 .0 .0 .0 .0 .0 .0 .0 .1), ne-eqb _ _ (h .0 .0 .0 .0 .0 .0 .0 .1), ne-eqb _ _ (h .0 .0 .0 .0 .0 .0 .1), ne-eqb _ _ (h .0 .0 .0 .0 .0 .1), ne-eqb _ _ (h .0 .0 .0 .0 .1), ne-eqb _ _ (h .0 .0 .0 .1), ne-eqb _ _ (h .0 .0 .1), ne-eqb _ _ (h .0 .1), ne-eqb _ _ (h .1))
+    rw (ne-eqb _ _ (h .0 .0 .0 .0 .0 .0 .0 .0 .0 .1), ne-eqb _ _ (h .0 .0 .0 .0 .0 .0 .0 .0 .1), ne-eqb _ _ (h .0 .0 .0 .0 .0 .0 .0 .1), ne-eqb _ _ (h .0 .0 .0 .0 .0 .0 .1), ne-eqb _ _ (h .0 .0 .0 .0 .0 .1), ne-eqb _ _ (h .0 .0 .0 .0 .1), ne-eqb _ _ (h .0 .0 .0 .1), ne-eqb _ _ (h .0 .0 .1), ne-eqb _ _ (h .0 .1), ne-eqb _ _ (h .1))
 
 pub is-plain-spec : {M : Type 1} → statement M
 is-plain-spec =
     tie.close
-    (tie.spec returns returns-2 returns-3 returns-4 returns-5 returns-6 returns-7 returns-8 returns-9 returns-10)
+    (tie.spec returns returns-2 returns-3 returns-4 returns-5 returns-6 returns-7 returns-8 returns-9 returns-10 returns-11)

@@ -35,8 +35,14 @@ is-drawn-requires c κs = search needs
 enum-known-phase-3 : tie.Need-enum-known-phase-3
 enum-known-phase-3 c = search needs
 
-in-image-requires : tie.Need-in-image-requires
-in-image-requires c κs = search needs
+in-rows-requires : tie.Need-in-rows-requires
+in-rows-requires c κs = search needs
+
+enum-known-phase-4 : tie.Need-enum-known-phase-4
+enum-known-phase-4 c = search needs
+
+in-rows-requires-2 : tie.Need-in-rows-requires-2
+in-rows-requires-2 c κs = search needs
 
 returns : tie.Need-returns
 unfolding mayCome
@@ -60,7 +66,11 @@ returns-5 c = rw (c .before .before .phase2 .given .1) (c .is-drawn .ensures)
 
 returns-6 : tie.Need-returns-6
 unfolding mayCome
-returns-6 c = rw (c .before .before .phase3 .given .1) (c .in-image .ensures)
+returns-6 c = rw (c .before .before .phase3 .given .1) (c .in-rows .ensures)
+
+returns-7 : tie.Need-returns-7
+unfolding mayCome
+returns-7 c = rw (c .before .before .phase4 .given .1) (c .in-rows2 .ensures)
 
 pub may-come-spec : {M : Type 1} → statement M
 may-come-spec =
@@ -76,10 +86,13 @@ may-come-spec =
     enum-known-phase-2
     is-drawn-requires
     enum-known-phase-3
-    in-image-requires
+    in-rows-requires
+    enum-known-phase-4
+    in-rows-requires-2
     returns
     returns-2
     returns-3
     returns-4
     returns-5
-    returns-6)
+    returns-6
+    returns-7)

@@ -1,4 +1,4 @@
--- `motif::picture::begin` meets its contract: field by field.
+-- `begin` meets its contract: field by field.
 -- Assumes nothing.
 use Rattle.scope.specs.Motif.{begun}
 use borrow.Author.Needs.{needs}

@@ -22,6 +22,9 @@ enum-told-5 c = search needs
 enum-known-phase : tie.Need-enum-known-phase
 enum-known-phase c = search needs
 
+enum-known-phase-2 : tie.Need-enum-known-phase-2
+enum-known-phase-2 c = search needs
+
 returns : tie.Need-returns
 returns c = rw (c .enum-told .given .1)
 
@@ -40,6 +43,9 @@ returns-5 c = rw (c .enum-told5 .given .1)
 returns-6 : tie.Need-returns-6
 returns-6 c = rw (c .before .phase .given .1)
 
+returns-7 : tie.Need-returns-7
+returns-7 c = rw (c .before .phase2 .given .1)
+
 pub image-of-spec : {M : Type 1} → statement M
 image-of-spec =
     tie.close
@@ -50,9 +56,11 @@ image-of-spec =
     enum-told-4
     enum-told-5
     enum-known-phase
+    enum-known-phase-2
     returns
     returns-2
     returns-3
     returns-4
     returns-5
-    returns-6)
+    returns-6
+    returns-7)

@@ -68,6 +68,9 @@ media-size-two-requires c κs = search needs
 enum-told-9 : tie.Need-enum-told-9
 enum-told-9 c = search needs
 
+enum-told-10 : tie.Need-enum-told-10
+enum-told-10 c = search needs
+
 returns : tie.Need-returns
 unfolding inRange
 returns c = rw (c .before .before .enum-told .given .1, ← c .before .first-number .ensures) (c .within .ensures)
@@ -109,6 +112,10 @@ returns-9 : tie.Need-returns-9
 unfolding inRange
 returns-9 c = rw (c .enum-told9 .given .1)
 
+returns-10 : tie.Need-returns-10
+unfolding inRange
+returns-10 c = rw (c .enum-told10 .given .1)
+
 pub in-range-spec : {M : Type 1} → statement M
 in-range-spec =
     tie.close
@@ -134,6 +141,7 @@ in-range-spec =
     enum-told-8
     media-size-two-requires
     enum-told-9
+    enum-told-10
     returns
     returns-2
     returns-3
@@ -142,4 +150,5 @@ in-range-spec =
     returns-6
     returns-7
     returns-8
-    returns-9)
+    returns-9
+    returns-10)

@@ -50,6 +50,9 @@ enum-told-9 c = search needs
 any-of-requires-2 : tie.Need-any-of-requires-2
 any-of-requires-2 c κs = search needs
 
+enum-told-10 : tie.Need-enum-told-10
+enum-told-10 c = search needs
+
 returns : tie.Need-returns
 unfolding typeTaken
 returns c = λ low high. rw (c .enum-told .given .1)
@@ -86,6 +89,10 @@ returns-9 : tie.Need-returns-9
 unfolding typeTaken
 returns-9 c = λ low high. rw (c .before .enum-told9 .given .1) (c .any-of2 .ensures)
 
+returns-10 : tie.Need-returns-10
+unfolding typeTaken
+returns-10 c = λ low high. rw (c .enum-told10 .given .1)
+
 pub type-taken-spec : {M : Type 1} → statement M
 type-taken-spec =
     tie.close
@@ -105,6 +112,7 @@ type-taken-spec =
     either-requires-3
     enum-told-9
     any-of-requires-2
+    enum-told-10
     returns
     returns-2
     returns-3
@@ -113,4 +121,5 @@ type-taken-spec =
     returns-6
     returns-7
     returns-8
-    returns-9)
+    returns-9
+    returns-10)

@@ -19,9 +19,13 @@ returns-3 c = rw (c .match .keys3)
 
 returns-4 : tie.Need-returns-4
 unfolding among
-returns-4 c =
+returns-4 c = rw (c .match .keys4)
+
+returns-5 : tie.Need-returns-5
+unfolding among
+returns-5 c =
     let h = c .match .rest in
-    rw (ne-eqb _ _ (h .0 .0 .1), ne-eqb _ _ (h .0 .1), ne-eqb _ _ (h .1))
+    rw (ne-eqb _ _ (h .0 .0 .0 .1), ne-eqb _ _ (h .0 .0 .1), ne-eqb _ _ (h .0 .1), ne-eqb _ _ (h .1))
 
 pub has-own-line-spec : {M : Type 1} → statement M
-has-own-line-spec = tie.close (tie.spec returns returns-2 returns-3 returns-4)
+has-own-line-spec = tie.close (tie.spec returns returns-2 returns-3 returns-4 returns-5)

@@ -14,9 +14,9 @@ use Rattle.table.proofs.table.own_row.Statement.{statement}
 use Rattle.table.proofs.table.own_row.Tie as tie
 
 -- the last of them is SetDefaultGS
-last : (tag : ℕ) → eqb tag 0x43 ≡ false → eqb tag 0xb1 ≡ false → among ownLines tag ≡ true → tag ≡ 0x57
+last : (tag : ℕ) → eqb tag 0x43 ≡ false → eqb tag 0xb1 ≡ false → eqb tag 0xb4 ≡ false → among ownLines tag ≡ true → tag ≡ 0x57
 unfolding among
-last tag a b t = eqb-true tag 0x57 (by (eqb tag 0x57) (rw (a, b) at t))
+last tag a b d t = eqb-true tag 0x57 (by (eqb tag 0x57) (rw (a, b, d) at t))
   where
     by : (x : Bool) → pick x true false ≡ true → x ≡ true
     by true e = refl
@@ -27,6 +27,9 @@ may-four-requires c κs = search needs
 
 needs-three-may-two-requires : tie.Need-needs-three-may-two-requires
 needs-three-may-two-requires c κs = search needs
+
+needs-three-may-two-requires-2 : tie.Need-needs-three-may-two-requires-2
+needs-three-may-two-requires-2 c κs = search needs
 
 nothing-requires : tie.Need-nothing-requires
 nothing-requires c κs = search needs
@@ -41,9 +44,13 @@ returns-2 c = λ t. rw (c .before .match .keys2, c .needs-three-may-two .ensures
 
 returns-3 : tie.Need-returns-3
 unfolding tableTwo lineIn mustIn numbersIn upToNo
-returns-3 c =
+returns-3 c = λ t. rw (c .before .match .keys3, c .needs-three-may-two2 .ensures)
+
+returns-4 : tie.Need-returns-4
+unfolding tableTwo lineIn mustIn numbersIn upToNo
+returns-4 c =
     let h = c .before .match .rest in
-    λ t. rw (last _ (ne-eqb _ _ (h .0 .1)) (ne-eqb _ _ (h .1)) t, c .nothing .ensures)
+    λ t. rw (last _ (ne-eqb _ _ (h .0 .0 .1)) (ne-eqb _ _ (h .0 .1)) (ne-eqb _ _ (h .1)) t, c .nothing .ensures)
 
 pub own-row-spec : {M : Type 1} → statement M
 own-row-spec =
@@ -51,7 +58,9 @@ own-row-spec =
     (tie.spec
     may-four-requires
     needs-three-may-two-requires
+    needs-three-may-two-requires-2
     nothing-requires
     returns
     returns-2
-    returns-3)
+    returns-3
+    returns-4)

@@ -13,13 +13,16 @@ use Rattle.table.proofs.table.rule_of_one.Tie as tie
 
 -- the keys of the arms, the last one first
 keys : List ℕ
-keys = 143 ∷ 140 ∷ 139 ∷ 137 ∷ 136 ∷ 134 ∷ 130 ∷ 129 ∷ 109 ∷ 108 ∷ 107 ∷ 103 ∷ 101 ∷ 100 ∷ 99 ∷ 98 ∷ 80 ∷ 77 ∷ 76 ∷ 75 ∷ 69 ∷ 66 ∷ 49 ∷ 40 ∷ 38 ∷ 37 ∷ 11 ∷ 9 ∷ 5 ∷ 4 ∷ 3 ∷ []
+keys = 143 ∷ 140 ∷ 139 ∷ 137 ∷ 136 ∷ 134 ∷ 130 ∷ 129 ∷ 109 ∷ 108 ∷ 107 ∷ 105 ∷ 104 ∷ 103 ∷ 101 ∷ 100 ∷ 99 ∷ 98 ∷ 80 ∷ 77 ∷ 76 ∷ 75 ∷ 69 ∷ 66 ∷ 49 ∷ 40 ∷ 38 ∷ 37 ∷ 11 ∷ 9 ∷ 8 ∷ 5 ∷ 4 ∷ 3 ∷ []
 
 pub rule-of-one-spec : {M : Type 1} → statement M
 unfolding keys tableOne table ruleIn rulesIn ruleOf within numbersIn among
 rule-of-one-spec =
     tie.close
     (tie.spec
+    (λ c κs. search needs)
+    (λ c κs. search needs)
+    (λ c κs. search needs)
     (λ c κs. search needs)
     (λ c κs. search needs)
     (λ c κs. search needs)
@@ -83,4 +86,7 @@ rule-of-one-spec =
     (λ c. rw (c .before .match .keys29, c .takes29 .ensures))
     (λ c. rw (c .before .match .keys30, c .takes30 .ensures))
     (λ c. rw (c .before .match .keys31, c .takes31 .ensures))
-    (λ c. rw (no-rule _ keys (c .before .match .rest) (rulesIn tableOne) refl, c .takes32 .ensures)))
+    (λ c. rw (c .before .match .keys32, c .takes32 .ensures))
+    (λ c. rw (c .before .match .keys33, c .takes33 .ensures))
+    (λ c. rw (c .before .match .keys34, c .takes34 .ensures))
+    (λ c. rw (no-rule _ keys (c .before .match .rest) (rulesIn tableOne) refl, c .takes35 .ensures)))

@@ -148,13 +148,25 @@ returns-34 : tie.Need-returns-34
 unfolding attributeIn tableTwo table ruleIn rulesIn
 returns-34 c = rw (c .match .keys34)
 
+returns-35 : tie.Need-returns-35
+unfolding attributeIn tableTwo table ruleIn rulesIn
+returns-35 c = rw (c .match .keys35)
+
+returns-36 : tie.Need-returns-36
+unfolding attributeIn tableTwo table ruleIn rulesIn
+returns-36 c = rw (c .match .keys36)
+
+returns-37 : tie.Need-returns-37
+unfolding attributeIn tableTwo table ruleIn rulesIn
+returns-37 c = rw (c .match .keys37)
+
 -- the keys of the arms, the last one first
 keys : List ℕ
-keys = 143 ∷ 140 ∷ 139 ∷ 137 ∷ 136 ∷ 134 ∷ 130 ∷ 129 ∷ 111 ∷ 110 ∷ 109 ∷ 108 ∷ 107 ∷ 103 ∷ 101 ∷ 100 ∷ 99 ∷ 98 ∷ 80 ∷ 77 ∷ 76 ∷ 75 ∷ 69 ∷ 66 ∷ 49 ∷ 40 ∷ 39 ∷ 38 ∷ 37 ∷ 11 ∷ 9 ∷ 5 ∷ 4 ∷ 3 ∷ []
+keys = 143 ∷ 140 ∷ 139 ∷ 137 ∷ 136 ∷ 134 ∷ 130 ∷ 129 ∷ 111 ∷ 110 ∷ 109 ∷ 108 ∷ 107 ∷ 105 ∷ 104 ∷ 103 ∷ 101 ∷ 100 ∷ 99 ∷ 98 ∷ 80 ∷ 77 ∷ 76 ∷ 75 ∷ 69 ∷ 66 ∷ 49 ∷ 40 ∷ 39 ∷ 38 ∷ 37 ∷ 11 ∷ 9 ∷ 8 ∷ 5 ∷ 4 ∷ 3 ∷ []
 
-returns-35 : tie.Need-returns-35
+returns-38 : tie.Need-returns-38
 unfolding keys attributeIn tableTwo table ruleIn rulesIn within numbersIn among
-returns-35 c = rw (no-rule _ keys (c .match .rest) (rulesIn (table two)) refl)
+returns-38 c = rw (no-rule _ keys (c .match .rest) (rulesIn (table two)) refl)
 
 pub attribute-of-spec : {M : Type 1} → statement M
 attribute-of-spec =
@@ -194,4 +206,7 @@ attribute-of-spec =
     returns-32
     returns-33
     returns-34
-    returns-35)
+    returns-35
+    returns-36
+    returns-37
+    returns-38)

@@ -127,13 +127,25 @@ returns-29 : tie.Need-returns-29
 unfolding operatorIn tableTwo table lineIn
 returns-29 c = rw (c .match .keys29)
 
+returns-30 : tie.Need-returns-30
+unfolding operatorIn tableTwo table lineIn
+returns-30 c = rw (c .match .keys30)
+
+returns-31 : tie.Need-returns-31
+unfolding operatorIn tableTwo table lineIn
+returns-31 c = rw (c .match .keys31)
+
+returns-32 : tie.Need-returns-32
+unfolding operatorIn tableTwo table lineIn
+returns-32 c = rw (c .match .keys32)
+
 -- the keys of the arms, the last one first
 keys : List ℕ
-keys = 0xb2 ∷ 0xb1 ∷ 0xb0 ∷ 0xa0 ∷ 0x9d ∷ 0x9b ∷ 0x86 ∷ 0x85 ∷ 0x84 ∷ 0x7a ∷ 0x79 ∷ 0x6c ∷ 0x6b ∷ 0x6a ∷ 0x63 ∷ 0x61 ∷ 0x60 ∷ 0x5e ∷ 0x5d ∷ 0x5c ∷ 0x5b ∷ 0x57 ∷ 0x49 ∷ 0x48 ∷ 0x47 ∷ 0x44 ∷ 0x43 ∷ 0x42 ∷ 0x41 ∷ []
+keys = 0xb5 ∷ 0xb4 ∷ 0xb3 ∷ 0xb2 ∷ 0xb1 ∷ 0xb0 ∷ 0xa0 ∷ 0x9d ∷ 0x9b ∷ 0x86 ∷ 0x85 ∷ 0x84 ∷ 0x7a ∷ 0x79 ∷ 0x6c ∷ 0x6b ∷ 0x6a ∷ 0x63 ∷ 0x61 ∷ 0x60 ∷ 0x5e ∷ 0x5d ∷ 0x5c ∷ 0x5b ∷ 0x57 ∷ 0x49 ∷ 0x48 ∷ 0x47 ∷ 0x44 ∷ 0x43 ∷ 0x42 ∷ 0x41 ∷ []
 
-returns-30 : tie.Need-returns-30
+returns-33 : tie.Need-returns-33
 unfolding keys operatorIn tableTwo table lineIn within opsIn among
-returns-30 c = rw (no-line _ keys (c .match .rest) (table two) refl)
+returns-33 c = rw (no-line _ keys (c .match .rest) (table two) refl)
 
 pub operator-of-spec : {M : Type 1} → statement M
 operator-of-spec =
@@ -168,4 +180,7 @@ operator-of-spec =
     returns-27
     returns-28
     returns-29
-    returns-30)
+    returns-30
+    returns-31
+    returns-32
+    returns-33)

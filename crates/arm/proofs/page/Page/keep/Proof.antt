@@ -1,4 +1,4 @@
--- `keep`: the only rules that such an operator can break are 17, 24 and 26, and the page stays.
+-- `keep`: the only rules that such an operator can break are 17, 24 and 26, as it selects no pattern, and the page stays.
 -- Assumes nothing.
 use Prim.Native.Nat.{ℕ, suc, _+_, _≤_, _<_}
 use mathlib.Core.Path.{_≡_, refl, sym, ap, _∙_}
@@ -24,21 +24,21 @@ module _ (opened s k : Bool) (q : scope.Page) (n : ℕ) (x : Stroke) (e : x .act
   abbrev after : scope.Seen
   after = walk (x ∷ []) (from q n)
 
-  code : codeOf opened after ≡ pick (s && not opened) 17 (pick (k && not (q .cursor)) 24 (pick (ltb 1_000_000 (suc n)) 26 0))
+  code : codeOf opened false after ≡ pick (s && not opened) 17 (pick (k && not (q .cursor)) 24 (pick (ltb 1_000_000 (suc n)) 26 0))
   unfolding codeOf walk step from risen
   code = rw e refl
 
-  refused-17 : (s && not opened) ≡ true → Moves opened (No 17) after
+  refused-17 : (s && not opened) ≡ true → Moves opened false (No 17) after
   refused-17 a = moves-no {k = 17} (sym (code ∙ rw a refl)) (λ z. omega arith)
 
   module _ (a : (s && not opened) ≡ false) where
-    refused-24 : (k && not (q .cursor)) ≡ true → Moves opened (No 24) after
+    refused-24 : (k && not (q .cursor)) ≡ true → Moves opened false (No 24) after
     refused-24 b = moves-no {k = 24} (sym (code ∙ rw (a, b) refl)) (λ z. omega arith)
 
-    refused-26 : (k && not (q .cursor)) ≡ false → 1_000_000 ≤ n → Moves opened (No 26) after
+    refused-26 : (k && not (q .cursor)) ≡ false → 1_000_000 ≤ n → Moves opened false (No 26) after
     refused-26 b m = moves-no {k = 26} (sym (code ∙ rw (a, b, lt-ltb 1_000_000 (suc n) (omega arith)) refl)) (λ z. omega arith)
 
-    page-kept : {p : Page} → (k && not (q .cursor)) ≡ false → n < 1_000_000 → PageHolds p q → Moves opened (To p (n + 1)) after
+    page-kept : {p : Page} → (k && not (q .cursor)) ≡ false → n < 1_000_000 → PageHolds p q → Moves opened false (To p (n + 1)) after
     unfolding walk step from done
     page-kept {p} b m h =
         moves-to {p = p} (code ∙ rw (a, b, le-ltb 1_000_000 (suc n) (omega arith)) refl) (rw e h) (add-one n)
