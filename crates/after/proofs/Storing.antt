@@ -15,6 +15,8 @@ use Rattle.motif.specs.Held.{InRow, storeOf}
 use Rattle.motif.specs.Stored.{Stored}
 use Rattle.motif.specs.declared.kept.Kept.{Kept}
 use Rattle.motif.proofs.Rowed.{none-is, keeps-none}
+use Rattle.patterns.specs.Numbers.{Quiet}
+use Rattle.patterns.specs.Selects.{Selects}
 
 -- no motif is held
 no-row : {A : Type 0} {i : ℕ} {m : Motif} → InRow [] i m → A
@@ -35,6 +37,10 @@ stored-none set work t l =
       stores = record { within = omega arith; bytes = refl };
       sound = sound-none;
     }
+
+-- so nothing is to be known of what they select
+pub selects-none : {p : List ℕ} → Quiet p → Selects p []
+selects-none q = record { at = λ i m r. no-row r; quiet = q }
 
 -- the bytes behind those held do not matter
 pub stored-beside : {set : Setting} {work t : List ℕ} {kept : Kept} {ms : List Motif} (work₁ : List ℕ) → length work₁ ≡ length work

@@ -1,2 +1,3 @@
 pub mod Afterwards
 pub mod Block
+pub mod Hatching

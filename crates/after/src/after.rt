@@ -5,10 +5,14 @@ ghost use mathlib.Core.List.{List};
 ghost use Prim.Native.Nat.{ℕ, _+_, _≤_};
 ghost use lib.ListN.{length, take, drop};
 ghost use Rattle.setting.specs.Views.{settingAs};
+ghost use Rattle.patterns.specs.Numbers.{OfSession, numbersIn};
+ghost use Rattle.place.specs.Places.{Beside};
 ghost use Rattle.after.specs.Afterwards.{openedAfter, Begins, Draws, Joins, Stays, After};
 ghost use Rattle.after.specs.Block.{blockJoined};
 ghost use Rattle.place.specs.declared.place.Busy.the-variants as busy-is;
 ghost use Rattle.place.specs.declared.place.Place.the-variants as place-is;
+use crate::hatching::define_open;
+use crate::hatching::keep_own;
 use arm::page::Page;
 use early::Early;
 use motif::Kept;
@@ -27,8 +31,10 @@ use place::Place;
 use reader::Operator;
 use setting::Setting;
 
-// A motif that is being read: place and length of its name in the job, and how many bytes are joined.
+// A motif that is being read, in a session with this source and these motifs: place and length of its name in the job, and how many bytes are joined.
 struct Stream {
+    opened: bool,
+    kept: Kept,
     first: usize,
     count: usize,
     joined: usize,
@@ -47,12 +53,21 @@ fn opened_after(tag: u8, opened: bool) -> bool
     opened
 }
 
-// BeginPage begins a page, BeginStream a motif.
-fn begun(job: &[u8], set: Setting, o: Operator, attrs: &[usize; 80]) -> Busy
-    ensures { λ r. ⌜ Begins (now (job .entry)) (now (attrs .entry)) (set .gray) o r ⌝ }
+// BeginPage begins a page, for which no pattern is defined, BeginStream a motif.
+fn begun(
+    job: &[u8],
+    set: Setting,
+    o: Operator,
+    attrs: &[usize; 80],
+    patterns: &mut [u16; 4423],
+) -> Busy
+    ensures { λ _. ⌜ Beside (now (patterns .entry)) (now (patterns .exit)) ⌝ }
+    ensures { λ _. ⌜ numbersIn (now (patterns .exit)) OfSession ≡ numbersIn (now (patterns .entry)) OfSession ⌝ }
+    ensures { λ r. ⌜ Begins (now (job .entry)) (now (attrs .entry)) (set .gray) o (now (patterns .exit)) r ⌝ }
 {
     let tag = o.tag;
     if tag == BEGIN_PAGE {
+        patterns::clear(patterns, patterns::PAGE);
         return Busy::Drawing(arm::page::blank(set.gray), Picture::Nothing);
     }
     if tag == BEGIN_STREAM {
@@ -70,15 +85,22 @@ fn resting_after(
     attrs: &[usize; 80],
     opened: bool,
     kept: Kept,
+    patterns: &mut [u16; 4423],
 ) -> Place
+    ensures { λ _. ⌜ length (now (patterns .exit)) ≡ length (now (patterns .entry)) ⌝ }
     ensures { λ r. ⌜ ((early : Early) (page : Page) (work t : List ℕ)
-        → After (now (job .entry)) (now (attrs .entry)) (settingAs set) o early page work t (place-is.Inside opened kept busy-is.Resting) work t r) ⌝ }
+        → After (now (job .entry)) (now (attrs .entry)) (settingAs set) o early page work t (now (patterns .entry))
+        (place-is.Inside opened kept busy-is.Resting) work t (now (patterns .exit)) r) ⌝ }
 {
     let tag = o.tag;
     if tag == END_SESSION {
         return Place::Outside(true);
     }
-    Place::Inside(opened_after(tag, opened), kept, begun(job, set, o, attrs))
+    Place::Inside(
+        opened_after(tag, opened),
+        kept,
+        begun(job, set, o, attrs, patterns),
+    )
 }
 
 // EndPage ends a page; another operator leaves it as given, and perhaps an image open. Few are of an image, so that is asked first.
@@ -157,20 +179,21 @@ fn ended(
     joined: usize,
     work: &mut [u8],
     motifs: &mut [usize; 704],
+    patterns: &mut [u16; 4423],
 ) -> Place
-    ensures { λ _. ⌜ Stays (now (work .entry)) (now (motifs .entry)) (now (work .exit)) (now (motifs .exit)) ⌝ }
-    ensures { λ r. ⌜ ((job attrs : List ℕ) (o : Operator) (page : Page) (first count : ℕ) → take count (drop first job) ≡ now (name .entry) → (o .tag ≡ 0x5c → ⊥)
-        → After job attrs (settingAs set) o early page (now (work .entry)) (now (motifs .entry)) (place-is.Inside opened kept (busy-is.Reading first count joined))
-        (now (work .exit)) (now (motifs .exit)) r) ⌝ }
+    ensures { λ _. ⌜ Stays (now (work .entry)) (now (motifs .entry)) (now (patterns .entry)) (now (work .exit)) (now (motifs .exit)) (now (patterns .exit)) ⌝ }
+    ensures { λ r. ⌜ ((job attrs : List ℕ) (o : Operator) (page : Page) (first count : ℕ) → take count (drop first job) ≡ now (name .entry)
+        → (o .tag ≡ 0x5c → ⊥) → After job attrs (settingAs set) o early page (now (work .entry)) (now (motifs .entry)) (now (patterns .entry))
+        (place-is.Inside opened kept (busy-is.Reading first count joined)) (now (work .exit)) (now (motifs .exit)) (now (patterns .exit)) r) ⌝ }
 {
     match early {
         Early::Fine => Place::Outside(false),
-        Early::Call(_) => Place::Outside(false),
-        Early::Held(made) => Place::Inside(
-            opened,
-            holding::hold(work, motifs, set, name, kept, joined, made),
-            Busy::Resting,
-        ),
+        Early::Call(_, _) => Place::Outside(false),
+        Early::Held(made) => {
+            let after = holding::hold(work, motifs, set, name, kept, joined, made);
+            keep_own(patterns, motifs, after.held, name);
+            Place::Inside(opened, after, Busy::Resting)
+        }
         Early::No(_, _) => Place::Outside(false),
     }
 }
@@ -181,17 +204,19 @@ fn reading_after(
     set: Setting,
     o: Operator,
     early: Early,
-    opened: bool,
-    kept: Kept,
     stream: Stream,
     work: &mut [u8],
     motifs: &mut [usize; 704],
+    patterns: &mut [u16; 4423],
 ) -> Place
-    ensures { λ _. ⌜ Stays (now (work .entry)) (now (motifs .entry)) (now (work .exit)) (now (motifs .exit)) ⌝ }
+    ensures { λ _. ⌜ Stays (now (work .entry)) (now (motifs .entry)) (now (patterns .entry)) (now (work .exit)) (now (motifs .exit)) (now (patterns .exit)) ⌝ }
     ensures { λ r. ⌜ ((attrs : List ℕ) (page : Page)
-        → After (now (job .entry)) attrs (settingAs set) o early page (now (work .entry)) (now (motifs .entry))
-        (place-is.Inside opened kept (busy-is.Reading (stream .first) (stream .count) (stream .joined))) (now (work .exit)) (now (motifs .exit)) r) ⌝ }
+        → After (now (job .entry)) attrs (settingAs set) o early page (now (work .entry)) (now (motifs .entry)) (now (patterns .entry))
+        (place-is.Inside (stream .opened) (stream .kept) (busy-is.Reading (stream .first) (stream .count) (stream .joined)))
+        (now (work .exit)) (now (motifs .exit)) (now (patterns .exit)) r) ⌝ }
 {
+    let opened = stream.opened;
+    let kept = stream.kept;
     let first = stream.first;
     let count = stream.count;
     let joined = stream.joined;
@@ -211,51 +236,68 @@ fn reading_after(
         joined,
         work,
         motifs,
+        patterns,
     )
 }
 
-// After an operator that no rule refuses, which leaves `page`. BeginSession begins a session.
+// What the rules let pass: what the operator goes on with, and the page after it.
+pub struct Passed {
+    pub early: Early,
+    pub page: Page,
+}
+
+// After an operator that no rule refuses. BeginSession begins a session, without motifs and patterns.
 pub fn place_after(
     job: &[u8],
     set: Setting,
     o: Operator,
     attrs: &[usize; 80],
-    early: Early,
-    page: Page,
+    passed: Passed,
     place: Place,
     work: &mut [u8],
     motifs: &mut [usize; 704],
+    patterns: &mut [u16; 4423],
 ) -> Place
     ensures { λ _. ⌜ length (now (work .exit)) ≡ length (now (work .entry)) ⌝ }
     ensures { λ _. ⌜ length (now (motifs .exit)) ≡ length (now (motifs .entry)) ⌝ }
+    ensures { λ _. ⌜ length (now (patterns .exit)) ≡ length (now (patterns .entry)) ⌝ }
     ensures { λ _. ⌜ drop 16384 (now (work .exit)) ≡ drop 16384 (now (work .entry)) ⌝ }
-    ensures { λ r. ⌜ After (now (job .entry)) (now (attrs .entry)) (settingAs set) o early page (now (work .entry)) (now (motifs .entry)) place
-        (now (work .exit)) (now (motifs .exit)) r ⌝ }
+    ensures { λ r. ⌜ After (now (job .entry)) (now (attrs .entry)) (settingAs set) o (passed .early) (passed .page)
+        (now (work .entry)) (now (motifs .entry)) (now (patterns .entry)) place (now (work .exit)) (now (motifs .exit)) (now (patterns .exit)) r ⌝ }
 {
+    let early = passed.early;
+    let page = passed.page;
     match place {
-        Place::Outside(_) => Place::Inside(false, Kept { held: 0, used: 0 }, Busy::Resting),
+        Place::Outside(_) => {
+            patterns::clear(patterns, patterns::SESSION);
+            Place::Inside(false, Kept { held: 0, used: 0 }, Busy::Resting)
+        }
         Place::Inside(opened, kept, busy) => match busy {
-            Busy::Resting => resting_after(job, set, o, attrs, opened, kept),
+            Busy::Resting => resting_after(job, set, o, attrs, opened, kept, patterns),
             Busy::Reading(first, count, joined) => reading_after(
                 job,
                 set,
                 o,
                 early,
-                opened,
-                kept,
                 Stream {
+                    opened,
+                    kept,
                     first,
                     count,
                     joined,
                 },
                 work,
                 motifs,
+                patterns,
             ),
-            Busy::Drawing(_, picture) => Place::Inside(
-                opened,
-                kept,
-                drawn_on(job, set.high, o, attrs, page, picture),
-            ),
+            Busy::Drawing(_, picture) => {
+                define_open(patterns, o.tag, picture);
+                Place::Inside(
+                    opened,
+                    kept,
+                    drawn_on(job, set.high, o, attrs, page, picture),
+                )
+            }
         },
     }
 }

@@ -20,16 +20,16 @@ use Rattle.calls.specs.Marks.{Adds, lacks, reaches, Shows}
 use Rattle.calls.proofs.Marking.{alike, mark-none, some-mark, mark-some, and-mark}
 
 -- one of these names of which f is true: whatever is true of it is true of one of them
-record Some (f : Name → Bool) (l : List Name) : Type 0 where
-  which : Name
-  so : f which ≡ true
-  one : (q : Name → Bool) → q which ≡ true → any q l ≡ true
+pub record Some (f : Name → Bool) (l : List Name) : Type 0 where
+  pub which : Name
+  pub so : f which ≡ true
+  pub one : (q : Name → Bool) → q which ≡ true → any q l ≡ true
 
 pick-on : (b c : Bool) → c ≡ true → pick b true c ≡ true
 pick-on true c e = refl
 pick-on false c e = e
 
-some-of : (f : Name → Bool) (l : List Name) → any f l ≡ true → Some f l
+pub some-of : (f : Name → Bool) (l : List Name) → any f l ≡ true → Some f l
 unfolding any
 some-of f [] e = clash-of (sym e)
 some-of f (x ∷ xs) e = by (f x) refl e (some-of f xs)
@@ -66,7 +66,7 @@ module _ {t : List ℕ} {n : ℕ} {ms : List Motif} (keeps : Keeps t n ms) where
 
   module _ (noted : Noted t n ms) {i : ℕ} {m : Motif} (here : InRow ms i m) (f : Name → Bool) {table : ℕ} (shows : Shows ms n f table) where
     -- a row that calls one of the table calls a name that the table shows
-    reaches-any : reaches t table i ≡ true → any f (namesIn (m .ops)) ≡ true
+    pub reaches-any : reaches t table i ≡ true → any f (namesIn (m .ops)) ≡ true
     unfolding callsRow
     reaches-any e =
         let k = some-mark (bitAnd (callsIn t i) table) e in
@@ -77,7 +77,7 @@ module _ {t : List ℕ} {n : ℕ} {ms : List Motif} (keeps : Keeps t n ms) where
         s .one f (ap f (in-row (k .0) (w .0) (s .which) (w .1) (s .so)) ∙ sym (shows .at (k .0) (w .0) (w .1)) ∙ p .1)
 
     -- and the other way, if the name is held
-    any-reaches : (s : Some f (namesIn (m .ops))) → holds ms (s .which) ≡ true → reaches t table i ≡ true
+    pub any-reaches : (s : Some f (namesIn (m .ops))) → holds ms (s .which) ≡ true → reaches t table i ≡ true
     unfolding callsRow
     any-reaches s h =
         let w = is-held (heldAs (s .which) ms) h in
@@ -90,10 +90,10 @@ module _ {t : List ℕ} {n : ℕ} {ms : List Motif} (keeps : Keeps t n ms) where
         mark-some (bitAnd (callsIn t i) table) j (and-mark (callsIn t i) table j ∙ rw (a, b) refl)
 
 -- what was added below n, and that nothing was added past it
-adds-at : {own n r : ℕ} (f : ℕ → Bool) (i : ℕ) → i < n → Adds own f n r → mark r i ≡ pick (mark own i) true (f i)
+pub adds-at : {own n r : ℕ} (f : ℕ → Bool) (i : ℕ) → i < n → Adds own f n r → mark r i ≡ pick (mark own i) true (f i)
 adds-at {own} {n} f i l a = a .at i ∙ rw (lt-ltb i n l)
 
-adds-below : {own n r : ℕ} (f : ℕ → Bool) → ((k : ℕ) → mark own k ≡ true → k < n) → Adds own f n r → (k : ℕ) → mark r k ≡ true → k < n
+pub adds-below : {own n r : ℕ} (f : ℕ → Bool) → ((k : ℕ) → mark own k ≡ true → k < n) → Adds own f n r → (k : ℕ) → mark r k ≡ true → k < n
 adds-below {own} {n} {r} f o a k e = by (mark own k) refl (ltb k n) refl (sym (a .at k) ∙ e)
   where
     by : (b : Bool) → mark own k ≡ b → (c : Bool) → ltb k n ≡ c → pick b true (pick c (f k) false) ≡ true → k < n
@@ -101,7 +101,7 @@ adds-below {own} {n} {r} f o a k e = by (mark own k) refl (ltb k n) refl (sym (a
     by false b true d g = ltb-true k n d
     by false b false d g = clash-of (sym g)
 
-none-below : {n : ℕ} (k : ℕ) → mark 0 k ≡ true → k < n
+pub none-below : {n : ℕ} (k : ℕ) → mark 0 k ≡ true → k < n
 none-below k e = clash-of (sym e ∙ mark-none k)
 
 -- a name that is not held is lost, and calls none

@@ -21,7 +21,7 @@ use motif::with_mark;
 use names::limits::NESTING_MOST;
 
 // The marks, with mark i set if it is asked for.
-fn noted(marks: usize, i: usize, new: bool) -> usize
+pub(crate) fn noted(marks: usize, i: usize, new: bool) -> usize
     requires { ⌜ i < 64 ⌝ }
     ensures { λ r. ⌜ ((k : ℕ) → mark r k ≡ pick (eqb i k) (pick new true (mark marks k)) (mark marks k)) ⌝ }
 {
@@ -43,7 +43,7 @@ fn lacking(motifs: &[usize; 704], n: usize) -> usize
 }
 
 // The marks one call on: those given, and each row that calls one of the table.
-fn spread(motifs: &[usize; 704], n: usize, own: usize, table: usize) -> usize
+pub(crate) fn spread(motifs: &[usize; 704], n: usize, own: usize, table: usize) -> usize
     requires { ⌜ n ≤ 64 ⌝ }
     ensures { λ r. ⌜ Adds own (reaches (now (motifs .entry)) table) n r ⌝ }
 {
@@ -118,7 +118,8 @@ fn turns(motifs: &[usize; 704], n: usize, i: usize) -> bool
 
 // Why a call of the motif of row i, which has no level, is refused: the first of 21, 32, 22 that it meets.
 pub fn why_not(motifs: &[usize; 704], held: usize, i: usize) -> u32
-    ensures { λ r. ⌜ ((ms : List Motif) (m : Motif) → Tables (now (motifs .entry)) held ms → InRow ms i m → levelIn (now (motifs .entry)) i ≡ 0 → Calls ms (m .name) (No r)) ⌝ }
+    ensures { λ r. ⌜ ((ofPage ofSession : List ℕ) (ms : List Motif) (m : Motif) → Tables (now (motifs .entry)) held ms → InRow ms i m
+        → levelIn (now (motifs .entry)) i ≡ 0 → Calls ofPage ofSession ms (m .name) (No r)) ⌝ }
 {
     let n = in_use(held);
     if loses(motifs, n, i) {

@@ -1,4 +1,4 @@
--- The rules of motifs and their names, by the operator's tag.
+-- The rules of motifs and their names, and of places for patterns, by the operator's tag.
 -- Assumes nothing.
 use Prim.Native.Nat.{ℕ, _+_, _≤_, _<_}
 use mathlib.Core.Path.{_≡_, refl, sym, ap, _∙_}
@@ -10,16 +10,21 @@ use lib.Dec.{eqb, leb, ltb}
 use borrow.Author.Tests.{eq-eqb, ne-eqb, le-leb, lt-leb, lt-ltb, le-ltb, ltb-false}
 use Rattle.scope.specs.Setting.{Setting}
 use Rattle.scope.specs.Motif as scope-motif
-use Rattle.scope.specs.Motif.{Motif, Own, heldAs, isHeld, bytesHeld, Judged, valid, faulty, motifOf}
+use Rattle.scope.specs.Choice.{among}
+use Rattle.scope.specs.Motif.{Motif, Own, heldAs, isHeld, bytesHeld, hatchOf, Judged, valid, faulty, motifOf}
 use Rattle.scope.specs.Calls.{unfolded, Met, nothing, met}
 use Rattle.scope.specs.Order.{mayCome}
 use Rattle.scope.specs.Session as scope
-use Rattle.scope.specs.Session.{Session, sessionOf, phaseBusy, phaseOf, joinedOf}
-use Rattle.scope.specs.Judge.{State, Case, caseOf, judgedAt, metAt, Rule, Refusal, firstBroken, ownOr, outer, tooMuch, nameMissing, callsItself, tooDeep, early}
+use Rattle.scope.specs.Session.{Session, sessionOf, phaseBusy, phaseOf, pageOf, joinedOf}
+use Rattle.scope.specs.Judge.{State, Case, caseOf, judgedAt, metAt, Rule, Refusal, firstBroken, ownOr, outer, tooMuch, noPlace, numbersOf, someMissing, patternMissing, nameMissing, callsItself, tooDeep, early}
 use Rattle.scope.specs.Attributes.{bytesIn}
 use Rattle.items.specs.Rows.{rowsOf, Sized}
 use Rattle.reader.specs.Reads.{operatorAs}
 use Rattle.reader.specs.declared.reading.Operator.{Operator}
+use Rattle.order.specs.Pictures.{hatchAs}
+use Rattle.order.specs.declared.picture.Hatch.{Hatch}
+use Rattle.patterns.specs.Numbers.{OfPage, OfSession, OfMotif, numbersIn, collected}
+use Rattle.patterns.specs.Selects.{selectsIn, wantsFrom}
 use Rattle.motif.specs.Held.{Finds, finds-at, finds-none}
 use Rattle.motif.specs.Stored.{Stored, full}
 use Rattle.motif.specs.declared.held.Where.the-variants.{At, Nowhere}
@@ -31,10 +36,13 @@ use Rattle.calls.specs.declared.calls.Called.the-variants as Called-is
 use Rattle.stream.specs.Judging.{Judges, judges-valid, judges-faulty}
 use Rattle.stream.specs.declared.judging.Made.{Made}
 use Rattle.stream.specs.declared.judging.Judged.the-variants.{Valid, Faulty}
-use Rattle.place.specs.Places.{BusyHolds, PlaceHolds, outside-holds, inside-holds}
+use Rattle.place.specs.Places.{Hatches, BusyHolds, PlaceHolds, outside-holds, inside-holds}
 use Rattle.place.specs.declared.place.Busy.{Busy}
 use Rattle.place.specs.declared.place.Place.the-variants.{Outside, Inside}
 use Rattle.early.proofs.Tags as tags
+use Rattle.early.proofs.Places.{taken, few-free, again-free, new-taken, place-other, place-begin}
+use Rattle.early.proofs.Wanting.{call-wants}
+use Rattle.early.specs.Hatched.{Hatched}
 use Rattle.early.specs.Earlier.{Passes, before, Unbroken, Earlies, EarliesIn, early-fine, early-call, early-held, early-no}
 use Rattle.early.specs.declared.early.Early.the-variants.{Fine, Call, Held, No}
 use Rattle.early.specs.declared.early.Early.{Early}
@@ -43,14 +51,14 @@ use Rattle.summary.specs.Sums.{SumsAs}
 -- where none of these rules is broken, the first broken is the first of the others
 pub unbroken-first : {c : Case} → Unbroken c → (rest : List Rule) → firstBroken every c (before rest) ≡ firstBroken every c rest
 unfolding firstBroken early nameMissing callsItself tooDeep
-unbroken-first u rest = rw (u .room) (u .sound _ ∙ rw (u .met))
+unbroken-first u rest = rw (u .room, u .place) (u .sound _ ∙ rw (u .met))
 
 -- what passes is not broken
-pub passes-unbroken : {t : List ℕ} {c : Case} {e : Early} → Earlies t c e → Passes e → Unbroken c
-passes-unbroken (early-fine a b u) p = u
-passes-unbroken (early-call a b u) p = u
-passes-unbroken (early-held a m k u) p = u
-passes-unbroken (early-no f l) p = absurd p
+pub passes-unbroken : {t p : List ℕ} {c : Case} {e : Early} → Earlies t p c e → Passes e → Unbroken c
+passes-unbroken (early-fine a b u) z = u
+passes-unbroken (early-call a b d u) z = u
+passes-unbroken (early-held a m k n u) z = u
+passes-unbroken (early-no f l) z = absurd z
 
 first-not : (t : Bool) → t || false ≡ false → t ≡ false
 first-not true e = e
@@ -73,28 +81,32 @@ new-full : (ms : List Motif) (name : List ℕ) → 64 ≤ length ms → heldAs n
 unfolding full isHeld
 new-full ms name h e = rw (le-leb 64 (length ms) h, e)
 
-module _ (t : List ℕ) (c : Case) where
-  no-19 : tooMuch c ≡ true → Earlies t c (No 19 outer)
+module _ (t p : List ℕ) (c : Case) where
+  no-19 : tooMuch c ≡ true → Earlies t p c (No 19 outer)
   unfolding firstBroken early
   no-19 e = early-no {code = 19} {inner = outer} (λ rest. rw e) (omega arith)
 
-  no-own : {code inner : ℕ} → tooMuch c ≡ false → c .made ≡ faulty code inner → inner < 4_294_967_296 → Earlies t c (No code inner)
+  no-33 : tooMuch c ≡ false → noPlace c ≡ true → Earlies t p c (No 33 outer)
   unfolding firstBroken early
-  no-own {code} {inner} a e l = early-no {code = code} {inner = inner} (λ rest. rw (a, e)) l
+  no-33 a e = early-no {code = 33} {inner = outer} (λ rest. rw (a, e)) (omega arith)
+
+  no-own : {code inner : ℕ} → tooMuch c ≡ false → noPlace c ≡ false → c .made ≡ faulty code inner → inner < 4_294_967_296 → Earlies t p c (No code inner)
+  unfolding firstBroken early
+  no-own {code} {inner} a f e l = early-no {code = code} {inner = inner} (λ rest. rw (a, f, e)) l
 
   -- a call that is refused
-  module _ (a : tooMuch c ≡ false) (s : (r : Refusal) → ownOr (c .made) r ≡ r) where
-    no-21 : c .met .missing ≡ true → Earlies t c (No 21 outer)
+  module _ (a : tooMuch c ≡ false) (f : noPlace c ≡ false) (s : (r : Refusal) → ownOr (c .made) r ≡ r) where
+    no-21 : c .met .missing ≡ true → Earlies t p c (No 21 outer)
     unfolding firstBroken early nameMissing
-    no-21 e = early-no {code = 21} {inner = outer} (λ rest. rw a (s _ ∙ rw e)) (omega arith)
+    no-21 e = early-no {code = 21} {inner = outer} (λ rest. rw (a, f) (s _ ∙ rw e)) (omega arith)
 
-    no-32 : c .met .missing ≡ false → c .met .again ≡ true → Earlies t c (No 32 outer)
+    no-32 : c .met .missing ≡ false → c .met .again ≡ true → Earlies t p c (No 32 outer)
     unfolding firstBroken early nameMissing callsItself
-    no-32 m e = early-no {code = 32} {inner = outer} (λ rest. rw a (s _ ∙ rw (m, e))) (omega arith)
+    no-32 m e = early-no {code = 32} {inner = outer} (λ rest. rw (a, f) (s _ ∙ rw (m, e))) (omega arith)
 
-    no-22 : c .met .missing ≡ false → c .met .again ≡ false → c .met .deep ≡ true → Earlies t c (No 22 outer)
+    no-22 : c .met .missing ≡ false → c .met .again ≡ false → c .met .deep ≡ true → Earlies t p c (No 22 outer)
     unfolding firstBroken early nameMissing callsItself tooDeep
-    no-22 m g e = early-no {code = 22} {inner = outer} (λ rest. rw a (s _ ∙ rw (m, g, e))) (omega arith)
+    no-22 m g e = early-no {code = 22} {inner = outer} (λ rest. rw (a, f) (s _ ∙ rw (m, g, e))) (omega arith)
 
   much : (k l : Bool) → eqb (c .op .tag) 0x5b ≡ k → eqb (c .op .tag) 0x5c ≡ l
       → tooMuch c
@@ -106,14 +118,14 @@ module _ (t : List ℕ) (c : Case) where
   sound-valid e r = rw e
 
   -- an operator that these rules do not speak of
-  other-fine : (c .op .tag ≡ 0x5b → ⊥) → (c .op .tag ≡ 0x5c → ⊥) → (c .op .tag ≡ 0x5d → ⊥) → (c .op .tag ≡ 0x5e → ⊥) → c .made ≡ valid [] → c .met ≡ nothing
-      → Earlies t c Fine
-  other-fine b r d e m n =
+  other-fine : (c .op .tag ≡ 0x5b → ⊥) → (c .op .tag ≡ 0x5c → ⊥) → (c .op .tag ≡ 0x5d → ⊥) → (c .op .tag ≡ 0x5e → ⊥) → (c .op .tag ≡ 0xb3 → ⊥)
+      → c .made ≡ valid [] → c .met ≡ nothing → Earlies t p c Fine
+  other-fine b r d e h m n =
       early-fine (ne-eqb (c .op .tag) 0x5e e) (ne-eqb (c .op .tag) 0x5d d)
-      (record { room = much false false (ne-eqb (c .op .tag) 0x5b b) (ne-eqb (c .op .tag) 0x5c r); sound = sound-valid m; met = n })
+      (record { room = much false false (ne-eqb (c .op .tag) 0x5b b) (ne-eqb (c .op .tag) 0x5c r); place = place-other c h; sound = sound-valid m; met = n })
 
 -- the same of an operator with these attributes in a session
-module _ (set : Setting) (t job attrs : List ℕ) (x : Session) (o : Operator) where
+module _ (set : Setting) (t p job attrs : List ℕ) (x : Session) (o : Operator) where
   abbrev of-it : State → Case
   of-it st = caseOf set job st x (operatorAs o attrs)
 
@@ -130,145 +142,200 @@ module _ (set : Setting) (t job attrs : List ℕ) (x : Session) (o : Operator) w
   unfolding caseOf metAt
   met-other st h = rw (ne-eqb (o .tag) 0x5e h)
 
-  pub fine-in : (o .tag ≡ 0x5b → ⊥) → (o .tag ≡ 0x5c → ⊥) → (o .tag ≡ 0x5d → ⊥) → (o .tag ≡ 0x5e → ⊥) → EarliesIn set t job attrs x o Fine
+  pub fine-in : (o .tag ≡ 0x5b → ⊥) → (o .tag ≡ 0x5c → ⊥) → (o .tag ≡ 0x5d → ⊥) → (o .tag ≡ 0x5e → ⊥) → (o .tag ≡ 0xb3 → ⊥)
+      → EarliesIn set t p job attrs x o Fine
   unfolding EarliesIn caseOf
-  fine-in b r d e = λ st. other-fine t (of-it st) b r d e (made-other st d) (met-other st e)
+  fine-in b r d e h = λ st. other-fine t p (of-it st) b r d e h (made-other st d) (met-other st e)
 
-  -- an operator of which but 19 is to be judged
-  room-fine : (o .tag ≡ 0x5d → ⊥) → (o .tag ≡ 0x5e → ⊥) → ((st : State) → tooMuch (of-it st) ≡ false) → EarliesIn set t job attrs x o Fine
+  -- there is a place but for BeginRastPattern
+  place-else : (o .tag ≡ 0xb3 → ⊥) → (st : State) → noPlace (of-it st) ≡ false
+  unfolding caseOf
+  place-else n st = place-other (of-it st) n
+
+  -- an operator of which but 19 and 33 are to be judged
+  room-fine : (o .tag ≡ 0x5d → ⊥) → (o .tag ≡ 0x5e → ⊥) → ((st : State) → tooMuch (of-it st) ≡ false)
+      → ((st : State) → noPlace (of-it st) ≡ false) → EarliesIn set t p job attrs x o Fine
   unfolding EarliesIn caseOf
-  room-fine d e f = λ st.
-      early-fine (ne-eqb (o .tag) 0x5e e) (ne-eqb (o .tag) 0x5d d) (record { room = f st; sound = sound-valid t (of-it st) (made-other st d); met = met-other st e })
+  room-fine d e f h = λ st.
+      early-fine (ne-eqb (o .tag) 0x5e e) (ne-eqb (o .tag) 0x5d d)
+      (record { room = f st; place = h st; sound = sound-valid t p (of-it st) (made-other st d); met = met-other st e })
 
   module _ (b : o .tag ≡ 0x5b) where
     much-begin : (st : State) → tooMuch (of-it st) ≡ full (x .held) named || false
     unfolding caseOf
     much-begin st =
         let nr : o .tag ≡ 0x5c → ⊥ = λ y. omega arith in
-        much t (of-it st) true false (eq-eqb (o .tag) 0x5b b) (ne-eqb (o .tag) 0x5c nr)
+        much t p (of-it st) true false (eq-eqb (o .tag) 0x5b b) (ne-eqb (o .tag) 0x5c nr)
 
-    begin-fine : full (x .held) named ≡ false → EarliesIn set t job attrs x o Fine
+    begin-fine : full (x .held) named ≡ false → EarliesIn set t p job attrs x o Fine
     begin-fine f =
         let ne : o .tag ≡ 0x5e → ⊥ = λ y. omega arith in
         let nd : o .tag ≡ 0x5d → ⊥ = λ y. omega arith in
-        room-fine nd ne (λ st. much-begin st ∙ rw f)
+        room-fine nd ne (λ st. much-begin st ∙ rw f) (place-else (λ y. omega arith))
 
     -- BeginStream that is not refused by 19
     pub begin-room : (st : State) → tooMuch (of-it st) ≡ false → full (x .held) named ≡ false
     begin-room st f = first-not _ (sym (much-begin st) ∙ f)
 
     -- BeginStream with a row left, and by what a search for its name finds
-    pub begin-few : {n : ℕ} → length (x .held) ≡ n → n < 64 → EarliesIn set t job attrs x o Fine
+    pub begin-few : {n : ℕ} → length (x .held) ≡ n → n < 64 → EarliesIn set t p job attrs x o Fine
     begin-few l h = begin-fine (few-full (x .held) named (rw l h))
 
-    pub begin-at : {name : List ℕ} {i : ℕ} → name ≡ named → Finds (x .held) name (At i) → EarliesIn set t job attrs x o Fine
+    pub begin-at : {name : List ℕ} {i : ℕ} → name ≡ named → Finds (x .held) name (At i) → EarliesIn set t p job attrs x o Fine
     begin-at e (finds-at f r) = begin-fine (held-full (x .held) named (rw e at f))
 
-    pub begin-nowhere : {name : List ℕ} {n : ℕ} → length (x .held) ≡ n → 64 ≤ n → name ≡ named → Finds (x .held) name Nowhere → EarliesIn set t job attrs x o (No 19 outer)
+    pub begin-nowhere : {name : List ℕ} {n : ℕ} → length (x .held) ≡ n → 64 ≤ n → name ≡ named → Finds (x .held) name Nowhere
+        → EarliesIn set t p job attrs x o (No 19 outer)
     unfolding EarliesIn
     begin-nowhere l h e (finds-none f) =
         let w : full (x .held) named ≡ true = new-full (x .held) named (rw l h) (rw e at f) in
-        λ st. no-19 t (of-it st) (much-begin st ∙ rw w)
+        λ st. no-19 t p (of-it st) (much-begin st ∙ rw w)
 
   module _ (b : o .tag ≡ 0x5c) where
     much-read : (st : State) → tooMuch (of-it st) ≡ ltb 16384 (bytesHeld (x .held) + (length (joinedOf (x .busy)) + o .length))
     unfolding caseOf
     much-read st =
         let nb : o .tag ≡ 0x5b → ⊥ = λ y. omega arith in
-        much t (of-it st) false true (ne-eqb (o .tag) 0x5b nb) (eq-eqb (o .tag) 0x5c b)
+        much t p (of-it st) false true (ne-eqb (o .tag) 0x5b nb) (eq-eqb (o .tag) 0x5c b)
 
     -- ReadStream that is not refused by 19
     pub read-few : (st : State) → tooMuch (of-it st) ≡ false → bytesHeld (x .held) + (length (joinedOf (x .busy)) + o .length) ≤ 16384
     read-few st f = ltb-false _ _ (sym (much-read st) ∙ f)
 
     -- ReadStream
-    pub read-past : 16384 < bytesHeld (x .held) + (length (joinedOf (x .busy)) + o .length) → EarliesIn set t job attrs x o (No 19 outer)
+    pub read-past : 16384 < bytesHeld (x .held) + (length (joinedOf (x .busy)) + o .length) → EarliesIn set t p job attrs x o (No 19 outer)
     unfolding EarliesIn
-    read-past h = λ st. no-19 t (of-it st) (much-read st ∙ lt-ltb _ _ h)
+    read-past h = λ st. no-19 t p (of-it st) (much-read st ∙ lt-ltb _ _ h)
 
-    pub read-room : bytesHeld (x .held) + (length (joinedOf (x .busy)) + o .length) ≤ 16384 → EarliesIn set t job attrs x o Fine
+    pub read-room : bytesHeld (x .held) + (length (joinedOf (x .busy)) + o .length) ≤ 16384 → EarliesIn set t p job attrs x o Fine
     read-room h =
         let ne : o .tag ≡ 0x5e → ⊥ = λ y. omega arith in
         let nd : o .tag ≡ 0x5d → ⊥ = λ y. omega arith in
-        room-fine nd ne (λ st. much-read st ∙ le-ltb _ _ h)
+        room-fine nd ne (λ st. much-read st ∙ le-ltb _ _ h) (place-else (λ y. omega arith))
 
   module _ (nb : o .tag ≡ 0x5b → ⊥) (nr : o .tag ≡ 0x5c → ⊥) where
     not-much : (st : State) → tooMuch (of-it st) ≡ false
     unfolding caseOf
-    not-much st = much t (of-it st) false false (ne-eqb (o .tag) 0x5b nb) (ne-eqb (o .tag) 0x5c nr)
+    not-much st = much t p (of-it st) false false (ne-eqb (o .tag) 0x5b nb) (ne-eqb (o .tag) 0x5c nr)
 
   module _ (b : o .tag ≡ 0x5e) where
     exec-much : (st : State) → tooMuch (of-it st) ≡ false
     exec-much = not-much (λ y. omega arith) (λ y. omega arith)
 
+    exec-place : (st : State) → noPlace (of-it st) ≡ false
+    exec-place = place-else (λ y. omega arith)
+
     exec-sound : (st : State) (r : Refusal) → ownOr (of-it st .made) r ≡ r
-    exec-sound st = sound-valid t (of-it st) (made-other st (λ y. omega arith))
+    exec-sound st = sound-valid t p (of-it st) (made-other st (λ y. omega arith))
 
     met-call : (st : State) → of-it st .met ≡ met (x .held) 32 [] named
     unfolding caseOf metAt
     met-call st = rw (eq-eqb (o .tag) 0x5e b)
 
-    -- ExecStream by what a call comes to
-    pub exec-sum : {name : List ℕ} {v : ℕ} → name ≡ named → Calls (x .held) name (Called-is.Sum v) → EarliesIn set t job attrs x o (Call v)
-    unfolding EarliesIn caseOf
-    exec-sum {v = v} e (calls-sum m s) =
-        let n : met (x .held) 32 [] named ≡ nothing = rw e at m in
-        let k : SumsAs v (unfolded (x .held) 32 [] named) = rw e at s in
-        λ st. early-call (eq-eqb (o .tag) 0x5e b) k (record { room = exec-much st; sound = exec-sound st; met = met-call st ∙ n })
+    missing-call : {r : List ℕ} → Hatched r x → (st : State)
+        → someMissing (numbersIn r OfPage) (numbersIn r OfSession) (wantsFrom (unfolded (x .held) 32 [] named) []) ≡ patternMissing (of-it st)
+    unfolding patternMissing caseOf
+    missing-call h st = rw (h .page, h .session, call-wants set job (x .held) (operatorAs o attrs) (pageOf (x .busy)) (st .performed) b)
 
-    pub exec-no : {name : List ℕ} {code : ℕ} → name ≡ named → Calls (x .held) name (Called-is.No code) → EarliesIn set t job attrs x o (No code outer)
+    -- ExecStream by what a call comes to
+    pub exec-sum : {r name : List ℕ} {v : ℕ} {m : Bool} → Hatched r x → name ≡ named
+        → Calls (numbersIn r OfPage) (numbersIn r OfSession) (x .held) name (Called-is.Sum v m) → EarliesIn set t p job attrs x o (Call v m)
+    unfolding EarliesIn caseOf
+    exec-sum {r} {v = v} {m} h e (calls-sum k s w) =
+        let n : met (x .held) 32 [] named ≡ nothing = rw e at k in
+        let q : SumsAs v (unfolded (x .held) 32 [] named) = rw e at s in
+        let z : m ≡ someMissing (numbersIn r OfPage) (numbersIn r OfSession) (wantsFrom (unfolded (x .held) 32 [] named) []) = rw e at w in
+        λ st. early-call (eq-eqb (o .tag) 0x5e b) q (z ∙ missing-call h st)
+        (record { room = exec-much st; place = exec-place st; sound = exec-sound st; met = met-call st ∙ n })
+
+    pub exec-no : {u w name : List ℕ} {code : ℕ} → name ≡ named → Calls u w (x .held) name (Called-is.No code) → EarliesIn set t p job attrs x o (No code outer)
     unfolding EarliesIn
-    exec-no e (calls-missing m) = λ st. no-21 t (of-it st) (exec-much st) (exec-sound st) (ap (λ (y : Met). y .missing) (met-call st) ∙ (rw e at m))
+    exec-no e (calls-missing m) =
+        λ st. no-21 t p (of-it st) (exec-much st) (exec-place st) (exec-sound st) (ap (λ (y : Met). y .missing) (met-call st) ∙ (rw e at m))
     exec-no e (calls-again m g) =
-        λ st. no-32 t (of-it st) (exec-much st) (exec-sound st) (ap (λ (y : Met). y .missing) (met-call st) ∙ (rw e at m)) (ap (λ (y : Met). y .again) (met-call st) ∙ (rw e at g))
+        λ st. no-32 t p (of-it st) (exec-much st) (exec-place st) (exec-sound st) (ap (λ (y : Met). y .missing) (met-call st) ∙ (rw e at m))
+        (ap (λ (y : Met). y .again) (met-call st) ∙ (rw e at g))
     exec-no e (calls-deep m g d) =
-        λ st. no-22 t (of-it st) (exec-much st) (exec-sound st) (ap (λ (y : Met). y .missing) (met-call st) ∙ (rw e at m)) (ap (λ (y : Met). y .again) (met-call st) ∙ (rw e at g))
-        (ap (λ (y : Met). y .deep) (met-call st) ∙ (rw e at d))
+        λ st. no-22 t p (of-it st) (exec-much st) (exec-place st) (exec-sound st) (ap (λ (y : Met). y .missing) (met-call st) ∙ (rw e at m))
+        (ap (λ (y : Met). y .again) (met-call st) ∙ (rw e at g)) (ap (λ (y : Met). y .deep) (met-call st) ∙ (rw e at d))
+
+  -- BeginRastPattern of the pattern h, with these numbers defined at its persistence
+  module _ (b : o .tag ≡ 0xb3) {h : Hatch} (e : hatchAs h ≡ hatchOf (set .high) job (rowsOf attrs (o .count))) {ns : List ℕ}
+      (q : ns ≡ numbersOf (h .session) x) where
+    pattern-much : (st : State) → tooMuch (of-it st) ≡ false
+    pattern-much = not-much (λ y. omega arith) (λ y. omega arith)
+
+    pattern-place : (st : State) → noPlace (of-it st) ≡ taken ns (h .number)
+    unfolding caseOf
+    pattern-place st = place-begin (of-it st) b ∙ rw (← e, q)
+
+    pattern-fine : taken ns (h .number) ≡ false → EarliesIn set t p job attrs x o Fine
+    pattern-fine f =
+        let ne : o .tag ≡ 0x5e → ⊥ = λ y. omega arith in
+        let nd : o .tag ≡ 0x5d → ⊥ = λ y. omega arith in
+        room-fine nd ne pattern-much (λ st. pattern-place st ∙ f)
+
+    -- with a place left, of a number that is defined already, and of a new one with no place left
+    pub pattern-few : length ns < 32 → EarliesIn set t p job attrs x o Fine
+    pattern-few l = pattern-fine (few-free ns (h .number) l)
+
+    pub pattern-again : among ns (h .number) ≡ true → EarliesIn set t p job attrs x o Fine
+    pattern-again f = pattern-fine (again-free ns (h .number) f)
+
+    pub pattern-new : 32 ≤ length ns → among ns (h .number) ≡ false → EarliesIn set t p job attrs x o (No 33 outer)
+    unfolding EarliesIn
+    pattern-new l f = λ st. no-33 t p (of-it st) (pattern-much st) (pattern-place st ∙ new-taken ns (h .number) l f)
 
   module _ (b : o .tag ≡ 0x5d) where
     ends-free : (st : State) → tooMuch (of-it st) ≡ false
     ends-free = not-much (λ y. omega arith) (λ y. omega arith)
 
+    ends-place : (st : State) → noPlace (of-it st) ≡ false
+    ends-place = place-else (λ y. omega arith)
+
     made-end : (st : State) → of-it st .made ≡ motifOf set (joinedOf (x .busy))
     unfolding caseOf judgedAt
     made-end st = rw (eq-eqb (o .tag) 0x5d b)
 
-    -- EndStream of a valid motif
-    valid-held : {made : Made} (m : Judged) → motifOf set (joinedOf (x .busy)) ≡ m → Judges t (x .held) (Valid made) m → EarliesIn set t job attrs x o (Held made)
+    -- EndStream of a valid motif, with what it selects
+    valid-held : {made : Made} (m : Judged) → motifOf set (joinedOf (x .busy)) ≡ m → Judges t (x .held) (Valid made) m
+        → ((ops : List Own) → m ≡ valid ops → numbersIn p OfMotif ≡ collected (selectsIn ops)) → EarliesIn set t p job attrs x o (Held made)
     unfolding EarliesIn caseOf
-    valid-held m e (judges-valid k) =
+    valid-held m e (judges-valid {ops = ops} k) f =
         let ne : o .tag ≡ 0x5e → ⊥ = λ y. omega arith in
-        λ st. early-held (eq-eqb (o .tag) 0x5d b) (made-end st ∙ e) k
-        (record { room = ends-free st; sound = sound-valid t (of-it st) (made-end st ∙ e); met = met-other st ne })
+        λ st. early-held (eq-eqb (o .tag) 0x5d b) (made-end st ∙ e) k (f ops refl)
+        (record { room = ends-free st; place = ends-place st; sound = sound-valid t p (of-it st) (made-end st ∙ e); met = met-other st ne })
 
-    pub end-valid : {s : List ℕ} {made : Made} → s ≡ joinedOf (x .busy) → Judges t (x .held) (Valid made) (motifOf set s) → EarliesIn set t job attrs x o (Held made)
-    end-valid e h = valid-held _ refl (rw e at h)
+    pub end-valid : {s : List ℕ} {made : Made} → s ≡ joinedOf (x .busy) → Judges t (x .held) (Valid made) (motifOf set s)
+        → ((ops : List Own) → motifOf set s ≡ valid ops → numbersIn p OfMotif ≡ collected (selectsIn ops)) → EarliesIn set t p job attrs x o (Held made)
+    end-valid e h f = valid-held _ refl (rw e at h) (rw e at f)
 
     faulty-is : {ms : List Motif} {code place : ℕ} {m : Judged} → Judges t ms (Faulty code place) m → m ≡ faulty code place
     faulty-is judges-faulty = refl
 
     -- EndStream of a faulty one: its place lies within it
     pub end-faulty : {s : List ℕ} {code place : ℕ} → s ≡ joinedOf (x .busy) → length s ≤ 16384 → Judges t (x .held) (Faulty code place) (motifOf set s)
-        → EarliesIn set t job attrs x o (No code place)
+        → EarliesIn set t p job attrs x o (No code place)
     unfolding EarliesIn
     end-faulty {s} {code} {place} e l h =
         let f : motifOf set s ≡ faulty code place = faulty-is h in
         let k : place ≤ length s = motif-placed set s code place f in
         let g : motifOf set (joinedOf (x .busy)) ≡ faulty code place = rw e at f in
-        λ st. no-own t (of-it st) (ends-free st) (made-end st ∙ g) (omega arith)
+        λ st. no-own t p (of-it st) (ends-free st) (ends-place st) (made-end st ∙ g) (omega arith)
 
 -- an operator between sessions
-pub outer-fine : (set : Setting) {job work t : List ℕ} {b : Bool} (attrs : List ℕ) (q : scope.Place) (o : Operator) (st : State) → PlaceHolds set job work t (Outside b) q
-    → mayCome (phaseOf q) (sessionOf q .opened) (o .tag) ≡ true → Earlies t (caseOf set job st (sessionOf q) (operatorAs o attrs)) Fine
+pub outer-fine : (set : Setting) {job work t p : List ℕ} {b : Bool} (attrs : List ℕ) (q : scope.Place) (o : Operator) (st : State)
+    → PlaceHolds set job work t p (Outside b) q → mayCome (phaseOf q) (sessionOf q .opened) (o .tag) ≡ true → Earlies t p (caseOf set job st (sessionOf q) (operatorAs o attrs)) Fine
 unfolding phaseOf EarliesIn
-outer-fine set {job} {t = t} attrs q o st outside-holds m =
-    fine-in set t job attrs scope.opening o (tags.first-not false (o .tag) 0x5b refl m) (tags.first-not false (o .tag) 0x5c refl m) (tags.first-not false (o .tag) 0x5d refl m) (tags.first-not false (o .tag) 0x5e refl m) st
+outer-fine set {job} {t = t} {p = p} attrs q o st (outside-holds k) m =
+    let n : (k : ℕ) → eqb k 0x41 ≡ false → o .tag ≡ k → ⊥ = λ k e. tags.first-not false (o .tag) k e m in
+    fine-in set t p job attrs scope.opening o (n 0x5b refl) (n 0x5c refl) (n 0x5d refl) (n 0x5e refl) (n 0xb3 refl) st
 
 -- an operator in a session
-pub inner-early : (set : Setting) {job work t attrs : List ℕ} {i : Bool} {kept : Kept} {y : Busy} (q : scope.Place) (o : Operator) (st : State) (r : Early)
-    → ((x : Session) → Stored set work t kept (x .held) → BusyHolds job work kept (x .held) y (x .busy) → Sized attrs (o .count)
-    → 16384 ≤ length work → mayCome (phaseBusy (x .busy)) (x .opened) (o .tag) ≡ true → EarliesIn set t job attrs x o r)
-    → PlaceHolds set job work t (Inside i kept y) q → Sized attrs (o .count) → 16384 ≤ length work
-    → mayCome (phaseOf q) (sessionOf q .opened) (o .tag) ≡ true → Earlies t (caseOf set job st (sessionOf q) (operatorAs o attrs)) r
+pub inner-early : (set : Setting) {job work t p r attrs : List ℕ} {i : Bool} {kept : Kept} {y : Busy} (q : scope.Place) (o : Operator) (st : State) (e : Early)
+    → ((x : Session) → Stored set work t kept (x .held) → Hatches p (x .held) (x .patterns) → BusyHolds job work p kept (x .held) y (x .busy)
+    → Sized attrs (o .count) → 16384 ≤ length work → mayCome (phaseBusy (x .busy)) (x .opened) (o .tag) ≡ true → EarliesIn set t r job attrs x o e)
+    → PlaceHolds set job work t p (Inside i kept y) q → Sized attrs (o .count) → 16384 ≤ length work
+    → mayCome (phaseOf q) (sessionOf q .opened) (o .tag) ≡ true → Earlies t r (caseOf set job st (sessionOf q) (operatorAs o attrs)) e
 unfolding phaseOf EarliesIn
-inner-early set q o st r f (inside-holds {x = x} e u k y) z l m = f x k y z l m st
+inner-early set q o st e f (inside-holds {x = x} v u k h y) z l m = f x k h y z l m st

@@ -1,3 +1,5 @@
 pub mod Breaking
 pub mod Parts
+pub mod Places
 pub mod Tags
+pub mod Wanting

@@ -9,7 +9,7 @@ use Rattle.scope.specs.Choice.{pick, among}
 use Rattle.scope.specs.Data.{Image}
 use Rattle.scope.specs.Motif.{Picture}
 use Rattle.scope.specs.Arm.{Page}
-use Rattle.scope.specs.Order.{Phase, between-sessions, in-session, in-stream, in-page, in-image, mayCome, drawn}
+use Rattle.scope.specs.Order.{Phase, between-sessions, in-session, in-stream, in-page, in-image, in-pattern, mayCome, drawn}
 use Rattle.scope.specs.Session.{phaseBusy, phaseDrawing, Busy}
 use Rattle.place.specs.Places.{Drawn, drawn-so}
 
@@ -40,6 +40,10 @@ module _ (b : Bool) where
   unfolding mayCome among
   rest-not-exec = neither b
 
+  pub rest-not-pattern : mayCome in-session b 0xb3 ≡ false
+  unfolding mayCome among
+  rest-not-pattern = neither b
+
   -- while a motif is read
   pub stream-ends : (tag : ℕ) → mayCome in-stream b tag ≡ true → (tag ≡ 0x5c → ⊥) → tag ≡ 0x5d
   unfolding mayCome
@@ -50,15 +54,16 @@ module _ (b : Bool) where
 
   -- in a page
   drawn-not : (p : Page) (i : Picture) (k : ℕ) → ((n : ℕ) → mayCome (in-page n) b k ≡ false) → ((j : Image) → mayCome (in-image j) b k ≡ false)
-      → mayCome (phaseDrawing p i) b k ≡ false
+      → ((j : Image) → mayCome (in-pattern j) b k ≡ false) → mayCome (phaseDrawing p i) b k ≡ false
   unfolding phaseDrawing
-  drawn-not p Picture.none k f g = f _
-  drawn-not p (Picture.being i) k f g = g i
+  drawn-not p Picture.none k f g h = f _
+  drawn-not p (Picture.being i) k f g h = g i
+  drawn-not p (Picture.hatching x i) k f g h = h i
 
   pub page-not : (x : Busy) → Drawn x → (tag k : ℕ) → ((n : ℕ) → mayCome (in-page n) b k ≡ false) → ((j : Image) → mayCome (in-image j) b k ≡ false)
-      → mayCome (phaseBusy x) b tag ≡ true → tag ≡ k → ⊥
+      → ((j : Image) → mayCome (in-pattern j) b k ≡ false) → mayCome (phaseBusy x) b tag ≡ true → tag ≡ k → ⊥
   unfolding phaseBusy
-  page-not x (drawn-so {p = p} {i = i}) tag k f g t = not-tag (phaseDrawing p i) b tag k (drawn-not p i k f g) t
+  page-not x (drawn-so {p = p} {i = i}) tag k f g h t = not-tag (phaseDrawing p i) b tag k (drawn-not p i k f g h) t
 
   pub page-not-begin : (n : ℕ) → mayCome (in-page n) b 0x5b ≡ false
   unfolding mayCome drawn among
@@ -91,3 +96,19 @@ module _ (b : Bool) where
   pub image-not-over : (i : Image) → mayCome (in-image i) b 0x42 ≡ false
   unfolding mayCome
   image-not-over i = refl
+
+  pub pattern-not-begin : (i : Image) → mayCome (in-pattern i) b 0x5b ≡ false
+  unfolding mayCome
+  pattern-not-begin i = refl
+
+  pub pattern-not-read : (i : Image) → mayCome (in-pattern i) b 0x5c ≡ false
+  unfolding mayCome
+  pattern-not-read i = refl
+
+  pub pattern-not-end : (i : Image) → mayCome (in-pattern i) b 0x5d ≡ false
+  unfolding mayCome
+  pattern-not-end i = refl
+
+  pub pattern-not-over : (i : Image) → mayCome (in-pattern i) b 0x42 ≡ false
+  unfolding mayCome
+  pattern-not-over i = refl

@@ -1,1 +1,3 @@
+pub mod Hatched
 pub mod Standing
+pub mod Starting

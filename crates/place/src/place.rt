@@ -15,7 +15,7 @@ use motif::Kept;
 use order::Phase;
 use order::Picture;
 
-// In a session: at rest, reading a motif (place and length of its name in the job, bytes joined so far), or in a page, perhaps with an image open.
+// In a session: at rest, reading a motif (place and length of its name in the job, bytes joined so far), or in a page, perhaps with an image or a pattern open.
 pub enum Busy {
     Resting,
     Reading(usize, usize, usize),
@@ -29,16 +29,17 @@ pub enum Place {
 }
 
 fn phase_drawing(page: Page, picture: Picture) -> Phase
-    ensures { λ r. ⌜ ((q : scope.Busy) (job work : List ℕ) (kept : Kept) (ms : List Motif) → BusyHolds job work kept ms (Drawing page picture) q → phaseAs r ≡ phaseBusy q) ⌝ }
+    ensures { λ r. ⌜ ((q : scope.Busy) (job work p : List ℕ) (kept : Kept) (ms : List Motif) → BusyHolds job work p kept ms (Drawing page picture) q → phaseAs r ≡ phaseBusy q) ⌝ }
 {
     match picture {
         Picture::Nothing => Phase::InPage(page.depth as usize),
         Picture::Being(image) => Phase::InImage(image),
+        Picture::Hatching(image, _) => Phase::InPattern(image),
     }
 }
 
 fn phase_busy(busy: Busy) -> Phase
-    ensures { λ r. ⌜ ((q : scope.Busy) (job work : List ℕ) (kept : Kept) (ms : List Motif) → BusyHolds job work kept ms busy q → phaseAs r ≡ phaseBusy q) ⌝ }
+    ensures { λ r. ⌜ ((q : scope.Busy) (job work p : List ℕ) (kept : Kept) (ms : List Motif) → BusyHolds job work p kept ms busy q → phaseAs r ≡ phaseBusy q) ⌝ }
 {
     match busy {
         Busy::Resting => Phase::InSession,
@@ -49,7 +50,7 @@ fn phase_busy(busy: Busy) -> Phase
 
 // The phase that reading has to know.
 pub fn phase_of(place: Place) -> Phase
-    ensures { λ r. ⌜ ((q : scope.Place) (set : Setting) (job work t : List ℕ) → PlaceHolds set job work t place q → phaseAs r ≡ phaseOf q) ⌝ }
+    ensures { λ r. ⌜ ((q : scope.Place) (set : Setting) (job work t p : List ℕ) → PlaceHolds set job work t p place q → phaseAs r ≡ phaseOf q) ⌝ }
 {
     match place {
         Place::Outside(_) => Phase::BetweenSessions,
@@ -59,7 +60,7 @@ pub fn phase_of(place: Place) -> Phase
 
 // The data source is open.
 pub fn opened_in(place: Place) -> bool
-    ensures { λ r. ⌜ ((q : scope.Place) (set : Setting) (job work t : List ℕ) → PlaceHolds set job work t place q → r ≡ sessionOf q .opened) ⌝ }
+    ensures { λ r. ⌜ ((q : scope.Place) (set : Setting) (job work t p : List ℕ) → PlaceHolds set job work t p place q → r ≡ sessionOf q .opened) ⌝ }
 {
     match place {
         Place::Outside(_) => false,
@@ -68,7 +69,7 @@ pub fn opened_in(place: Place) -> bool
 }
 
 fn page_busy(busy: Busy) -> Page
-    ensures { λ r. ⌜ ((q : scope.Busy) (job work : List ℕ) (kept : Kept) (ms : List Motif) → BusyHolds job work kept ms busy q → PageHolds r (pageOf q)) ⌝ }
+    ensures { λ r. ⌜ ((q : scope.Busy) (job work p : List ℕ) (kept : Kept) (ms : List Motif) → BusyHolds job work p kept ms busy q → PageHolds r (pageOf q)) ⌝ }
 {
     match busy {
         Busy::Resting => arm::page::blank(false),
@@ -79,7 +80,7 @@ fn page_busy(busy: Busy) -> Page
 
 // The page that is being drawn; outside a page one on which nothing was done.
 pub fn page_in(place: Place) -> Page
-    ensures { λ r. ⌜ ((q : scope.Place) (set : Setting) (job work t : List ℕ) → PlaceHolds set job work t place q → PageHolds r (pageOf (sessionOf q .busy))) ⌝ }
+    ensures { λ r. ⌜ ((q : scope.Place) (set : Setting) (job work t p : List ℕ) → PlaceHolds set job work t p place q → PageHolds r (pageOf (sessionOf q .busy))) ⌝ }
 {
     match place {
         Place::Outside(_) => arm::page::blank(false),

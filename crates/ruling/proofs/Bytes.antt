@@ -8,7 +8,7 @@ use borrow.Author.Tests.{eqb-true}
 use lib.Dec.{eqb, lit<}
 use Rattle.scope.specs.Choice.{pick}
 use Rattle.scope.specs.Item.{Attribute}
-use Rattle.scope.specs.Table.{Takes, E, N, P, B, A, D, M, M2, L, Rule, Ruled, ruleIn}
+use Rattle.scope.specs.Table.{Takes, E, N, P, B, A, D, M, M2, L, I, Rule, Ruled, ruleIn}
 use Rattle.scope.specs.Attributes.{Fault, fine, bad, has, typeTaken, inRange, attributeCode, oneByOne}
 use Rattle.scope.specs.Reading.{Context, Operator, Read}
 use Rattle.scope.proofs.Taken.{Taken}
@@ -53,6 +53,7 @@ taken-byte (D low) t e = either t 0xd1 (eqb t 0xd5) (lit< tt) (same t 0xd5 (lit<
 taken-byte M t e = same t 0xc0 (lit< tt) e
 taken-byte M2 t e = either t 0xc0 (eqb t 0xc8) (lit< tt) (same t 0xc8 (lit< tt)) e
 taken-byte L t e = either t 0xc0 (eqb t 0xc1 || eqb t 0xc2) (lit< tt) (either t 0xc1 (eqb t 0xc2) (lit< tt) (same t 0xc2 (lit< tt))) e
+taken-byte I t e = same t 0xc3 (lit< tt) e
 
 code-byte : (high : Bool) (s : List ℕ) (before : List Attribute) (a : Attribute) (r : Ruled) → eqb (attributeCode high s before a r) 0 ≡ true → a .tag < 256
 unfolding attributeCode

@@ -1,4 +1,5 @@
 pub mod Bytes
 pub mod Ruling
+pub mod Selecting
 pub mod Short
 pub mod Turns

@@ -13,7 +13,7 @@ use Rattle.scope.specs.Reading.{Operator}
 use Rattle.scope.specs.Arm.{idle, actOf, walk, from, Stroke, Seen}
 use Rattle.scope.specs.Calls.{unfolded}
 use Rattle.scope.specs.Session.{Session, pageOf, rowFor}
-use Rattle.scope.specs.Judge.{State, Case, caseOf, Rule, rule, Refusal, refused, outer, firstBroken, rules, roomOver, armed, limits}
+use Rattle.scope.specs.Judge.{State, Case, caseOf, Rule, rule, Refusal, refused, outer, firstBroken, rules, roomOver, patternMissing, armed, limits}
 use Rattle.scope.specs.Verdict.{every}
 use Rattle.arm.specs.Codes.{codeOf}
 use Rattle.summary.specs.Sums.{SumsAs}
@@ -48,61 +48,56 @@ last-rule : (room : ℕ) (c : Case) → firstBroken every c (rule 28 (roomOver r
 unfolding firstBroken
 last-rule room c = refl
 
-module _ (c : Case) (u : Unbroken c) where
-  by-code : (room : ℕ) → firstBroken every c (rules room)
-      ≡ pick (eqb (codeOf (c .session .opened) (c .seen)) 0) (firstBroken every c (rule 28 (roomOver room) ∷ [])) (refused (codeOf (c .session .opened) (c .seen)) outer)
+module _ (c : Case) (u : Unbroken c) (bare : Bool) (is : bare ≡ patternMissing c) where
+  abbrev code : ℕ
+  code = codeOf (c .session .opened) bare (c .seen)
+
+  by-code : (room : ℕ) → firstBroken every c (rules room) ≡ pick (eqb code 0) (firstBroken every c (rule 28 (roomOver room) ∷ [])) (refused code outer)
   unfolding rules armed limits
-  by-code room = unbroken-first u (later room) ∙ rules-code c (rule 28 (roomOver room) ∷ [])
+  by-code room = unbroken-first u (later room) ∙ rules-code c bare is (rule 28 (roomOver room) ∷ [])
 
   -- what the arm answers is what these rules come to
-  pub moved-judged : {m : Moved} {w : Seen} → w ≡ c .seen → Moves (c .session .opened) m w → Judgement c outer m
-  moved-judged {m} e h = go-on (subst (λ v. Moves (c .session .opened) m v) e h)
+  pub moved-judged : {m : Moved} {w : Seen} → w ≡ c .seen → Moves (c .session .opened) bare m w → Judgement c outer m
+  moved-judged {m} e h = go-on (subst (λ v. Moves (c .session .opened) bare m v) e h)
     where
-      go-on : {m : Moved} → Moves (c .session .opened) m (c .seen) → Judgement c outer m
+      go-on : {m : Moved} → Moves (c .session .opened) bare m (c .seen) → Judgement c outer m
       go-on (moves-to z p n) =
-          judged-to (λ room. by-code room ∙ rw (eq-eqb (codeOf (c .session .opened) (c .seen)) 0 z) (last-rule room c)) p n
-          (clean-code (c .session .opened) (c .seen) z .count)
+          judged-to (λ room. by-code room ∙ rw (eq-eqb code 0 z) (last-rule room c)) p n (clean-code (c .session .opened) bare (c .seen) z .count)
       go-on (moves-no {k = k} e n) =
-          judged-no {code = k} (λ room. by-code room ∙ rw (ne-eqb (codeOf (c .session .opened) (c .seen)) 0 (λ z. n (e ∙ z))) (ap (λ x. refused x outer) (sym e)))
+          judged-no {code = k} (λ room. by-code room ∙ rw (ne-eqb code 0 (λ z. n (e ∙ z))) (ap (λ x. refused x outer) (sym e)))
 
 -- one of the earlier rules is broken
-pub early-judged : (t : List ℕ) (c : Case) {code inner : ℕ} → Earlies t c (Early-is.No code inner) → Judgement c inner (No code)
+pub early-judged : (t p : List ℕ) (c : Case) {code inner : ℕ} → Earlies t p c (Early-is.No code inner) → Judgement c inner (No code)
 unfolding rules
-early-judged t c (early-no f l) = judged-no (λ room. f (later room))
+early-judged t p c (early-no f l) = judged-no (λ room. f (later room))
 
 held-call : (tag : ℕ) → eqb tag 0x5d ≡ true → eqb tag 0x5e ≡ false
 held-call tag e = rw (eqb-true tag 0x5d e) refl
 
 -- what the earlier rules tell of an operator that they let pass
-pub fine-call : (t : List ℕ) (c : Case) → Earlies t c Early-is.Fine → eqb (c .op .tag) 0x5e ≡ false
-fine-call t c (early-fine a b u) = a
+pub fine-call : (t p : List ℕ) (c : Case) → Earlies t p c Early-is.Fine → eqb (c .op .tag) 0x5e ≡ false
+fine-call t p c (early-fine a b u) = a
 
-pub fine-unbroken : (t : List ℕ) (c : Case) → Earlies t c Early-is.Fine → Unbroken c
-fine-unbroken t c (early-fine a b u) = u
-
-pub held-no-call : (t : List ℕ) (c : Case) {made : Made} → Earlies t c (Early-is.Held made) → eqb (c .op .tag) 0x5e ≡ false
-held-no-call t c (early-held a b m u) = held-call (c .op .tag) a
-
-pub held-unbroken : (t : List ℕ) (c : Case) {made : Made} → Earlies t c (Early-is.Held made) → Unbroken c
-held-unbroken t c (early-held a b m u) = u
+pub held-no-call : (t p : List ℕ) (c : Case) {made : Made} → Earlies t p c (Early-is.Held made) → eqb (c .op .tag) 0x5e ≡ false
+held-no-call t p c (early-held a b m n u) = held-call (c .op .tag) a
 
 -- what the arm answers to an operator in the page where the session stands
 module _ (set : Setting) (s : List ℕ) (st : State) (x : Session) (o : Operator) (b : Bool) (n : ℕ) (m : Moved) (opened : b ≡ x .opened) (performed : n ≡ st .performed) where
-  there : (w : ℕ → Seen) → Moves b m (w n) → Moves (x .opened) m (w (st .performed))
-  there w h = subst (λ k. Moves (x .opened) m (w k)) performed (subst (λ t. Moves t m (w n)) opened h)
+  there : (bare : Bool) (w : ℕ → Seen) → Moves b bare m (w n) → Moves (x .opened) bare m (w (st .performed))
+  there bare w h = subst (λ k. Moves (x .opened) bare m (w k)) performed (subst (λ t. Moves t bare m (w n)) opened h)
 
-  pub plain-judged : Unbroken (caseOf set s st x o) → eqb (o .tag) 0x5e ≡ false
-      → Moves b m (walk (record { motif = 0; op = o; act = actOf set s o } ∷ []) (from (pageOf (x .busy)) n)) → Judgement (caseOf set s st x o) outer m
+  pub plain-judged : Unbroken (caseOf set s st x o) → eqb (o .tag) 0x5e ≡ false → (bare : Bool) → bare ≡ patternMissing (caseOf set s st x o)
+      → Moves b bare m (walk (record { motif = 0; op = o; act = actOf set s o } ∷ []) (from (pageOf (x .busy)) n)) → Judgement (caseOf set s st x o) outer m
   unfolding caseOf
-  plain-judged u e h =
-      moved-judged (caseOf set s st x o) u (seen-plain set s st x o e)
-      (there (λ k. walk (record { motif = 0; op = o; act = actOf set s o } ∷ []) (from (pageOf (x .busy)) k)) h)
+  plain-judged u e bare is h =
+      moved-judged (caseOf set s st x o) u bare is (seen-plain set s st x o e)
+      (there bare (λ k. walk (record { motif = 0; op = o; act = actOf set s o } ∷ []) (from (pageOf (x .busy)) k)) h)
 
-  pub call-judged : (t : List ℕ) (v : ℕ) → Earlies t (caseOf set s st x o) (Early-is.Call v)
-      → ((row : List Stroke) → SumsAs v row → Moves b m (walk (record { motif = 0; op = o; act = idle } ∷ row) (from (pageOf (x .busy)) n)))
+  pub call-judged : (t p : List ℕ) (v : ℕ) (bare : Bool) → Earlies t p (caseOf set s st x o) (Early-is.Call v bare)
+      → ((row : List Stroke) → SumsAs v row → Moves b bare m (walk (record { motif = 0; op = o; act = idle } ∷ row) (from (pageOf (x .busy)) n)))
       → Judgement (caseOf set s st x o) outer m
   unfolding caseOf
-  call-judged t v (early-call e k u) h =
-      moved-judged (caseOf set s st x o) u (seen-call set s st x o e)
-      (there (λ k. walk (record { motif = 0; op = o; act = idle } ∷ unfolded (x .held) 32 [] (bytesIn s (o .attrs) 139)) (from (pageOf (x .busy)) k))
+  call-judged t p v bare (early-call e k is u) h =
+      moved-judged (caseOf set s st x o) u bare is (seen-call set s st x o e)
+      (there bare (λ k. walk (record { motif = 0; op = o; act = idle } ∷ unfolded (x .held) 32 [] (bytesIn s (o .attrs) 139)) (from (pageOf (x .busy)) k))
       (h (unfolded (x .held) 32 [] (bytesIn s (o .attrs) 139)) k))

@@ -39,7 +39,9 @@ use Rattle.buffer.specs.Over.{over}
 use Rattle.buffer.specs.Listed.{BytesIn, recordsFor}
 use Rattle.buffer.proofs.Listed.{listed-more, recordsBefore-more, length-recordsFor}
 use Rattle.motif.specs.declared.kept.Kept.{Kept}
+use Rattle.patterns.specs.Numbers.{OfMotif, selectingIn, Others}
 use Rattle.place.specs.Places.{PlaceHolds, outside-holds, inside-holds}
+use Rattle.place.proofs.Hatched.{place-kept}
 use Rattle.place.specs.declared.place.Place.the-variants as Place-is
 use Rattle.state.specs.Views.{verdictAs}
 use Rattle.state.specs.Standing.{Listed, Lent, Stands, Steps, steps-go, steps-stop, Comes, endCode}
@@ -98,11 +100,11 @@ module _ (set : Setting) (s : List ℕ) (room : ℕ) (d : State) (o : Operator) 
       let h = leb-true ((d .records + suc (length (o .attrs))) * 16) room f in
       step-on (e ∙ ap (λ b. pick b (refused 28 outer) Refusal.none) (le-ltb room ((d .records + suc (length (o .attrs))) * 16) h))
 
--- a stop, where the code stands
-pub stopped : {set : Setting} {job list₀ : List ℕ} {l : Lent} {st : Code.State} {d : State} (v : Verdict) (n : Next State Outcome) (code position inner : ℕ)
-    → Stands set job list₀ l st d → n ≡ stop (refusedAt code position inner d) → verdictAs v ≡ verdict.told (refusedAt code position inner d) → Steps set job list₀ l (Stop v) n
-stopped {set} {job} {list₀} {l} {st} {d} v n code position inner h e f =
-    subst⁻¹ (λ x. Steps set job list₀ l (Stop v) x) e (steps-stop {e = refusedAt code position inner d} f (h .listed))
+-- a stop, where the list is kept
+pub stopped : {set : Setting} {job list₀ : List ℕ} {l : Lent} {d : State} (v : Verdict) (n : Next State Outcome) (code position inner : ℕ)
+    → Listed list₀ (d .past) (l .list) → n ≡ stop (refusedAt code position inner d) → verdictAs v ≡ verdict.told (refusedAt code position inner d) → Steps set job list₀ l (Stop v) n
+stopped {set} {job} {list₀} {l} {d} v n code position inner h e f =
+    subst⁻¹ (λ x. Steps set job list₀ l (Stop v) x) e (steps-stop {e = refusedAt code position inner d} f h)
 
 -- the list with one operator more
 module _ (list₀ list : List ℕ) (past : List Operator) (n : ℕ) (o : Operator) (h : Listed list₀ past list) (k : length (verdict.recordsBefore past []) ≡ n * 16) where
@@ -124,7 +126,7 @@ module _ (list₀ list : List ℕ) (past : List Operator) (n : ℕ) (o : Operato
 -- a step that goes on
 pub gone : {job list₀ : List ℕ} {l l₁ : Lent} {st t : Code.State} {d : State} (set : Setting) (o : Operator) (n : Next State Outcome) → Stands set job list₀ l st d
     → n ≡ go (after set job d (caseOf set job d (sessionOf (d .place)) o)) → t .at ≡ o .next
-    → PlaceHolds set job (l₁ .work) (l₁ .table) (t .place)
+    → PlaceHolds set job (l₁ .work) (l₁ .table) (l₁ .patterns) (t .place)
     (placeAfter set job o (caseOf set job d (sessionOf (d .place)) o .seen .page) (d .place))
     → t .performed ≡ caseOf set job d (sessionOf (d .place)) o .seen .count → t .records ≡ st .records + length (o .attrs) + 1
     → l₁ .list ≡ over (l .list) (st .records * 16) (recordsFor (o .tag) (o .at) (o .length) (o .first) (o .attrs))
@@ -175,9 +177,9 @@ module _ (set : Setting) (s : List ℕ) (room : ℕ) (d : State) where
   step-operator o e = rw e
 
 -- the code at the end
-pub end-outside : {set : Setting} {job work t : List ℕ} {b : Bool} {q : session.Place} → PlaceHolds set job work t (Place-is.Outside b) q → endCode q ≡ pick b 0 27
-end-outside (outside-holds {b = true}) = refl
-end-outside (outside-holds {b = false}) = refl
+pub end-outside : {set : Setting} {job work t p : List ℕ} {b : Bool} {q : session.Place} → PlaceHolds set job work t p (Place-is.Outside b) q → endCode q ≡ pick b 0 27
+end-outside (outside-holds {b = true} z) = refl
+end-outside (outside-holds {b = false} z) = refl
 
 -- the walk goes on from where the code goes on, and stops with what the code stops with
 module _ (job list₀ : List ℕ) (set : Setting) (end : Outcome) where
@@ -200,7 +202,7 @@ module _ (job list₀ : List ℕ) (set : Setting) (end : Outcome) where
   turned-stop l v d e h = stops l v (jobStep every set job (length list₀) d) h (sym (judged-step every set job (length list₀) d) ∙ e)
 
 -- before the first item
-pub starts : (set : Setting) (job list₀ : List ℕ) (l : Lent) (st : Code.State) (next : ℕ) → st .at ≡ next → PlaceHolds set job (l .work) (l .table) (st .place) (session.outside false)
+pub starts : (set : Setting) (job list₀ : List ℕ) (l : Lent) (st : Code.State) (next : ℕ) → st .at ≡ next → PlaceHolds set job (l .work) (l .table) (l .patterns) (st .place) (session.outside false)
     → st .performed ≡ 0 → st .records ≡ 0 → l .list ≡ list₀ → length (l .table) ≡ 704 → Stands set job list₀ l st (starting next)
 unfolding verdict.recordsBefore
 starts set job list₀ l st next a p b c e x =
@@ -216,13 +218,13 @@ module _ (job list₀ : List ℕ) (l : Lent) (st : Code.State) (d : State) (set 
 
   pub listed-no : (list₁ : List ℕ) (v : Verdict) → list₁ ≡ l .list → false ≡ leb ((st .records + suc n) * 16) (length (l .list))
       → verdictAs v ≡ verdict.told (refusedAt 28 (o .at) outer d)
-      → Steps set job list₀ (record { table = l .table; work = l .work; list = list₁ }) (Stop v) (onRead every set job (length list₀) d (Read.operator o))
+      → Steps set job list₀ (record { table = l .table; patterns = l .patterns; work = l .work; list = list₁ }) (Stop v) (onRead every set job (length list₀) d (Read.operator o))
   listed-no list₁ v e r f =
-      subst⁻¹ (λ x. Steps set job list₀ (record { table = l .table; work = l .work; list = x }) (Stop v) (onRead every set job (length list₀) d (Read.operator o))) e
-      (stopped v (onRead every set job (length list₀) d (Read.operator o)) 28 (o .at) outer h (step-room set job (length list₀) d o ruled (room-is false r)) f)
+      subst⁻¹ (λ x. Steps set job list₀ (record { table = l .table; patterns = l .patterns; work = l .work; list = x }) (Stop v) (onRead every set job (length list₀) d (Read.operator o))) e
+      (stopped v (onRead every set job (length list₀) d (Read.operator o)) 28 (o .at) outer (h .listed) (step-room set job (length list₀) d o ruled (room-is false r)) f)
 
   pub listed-go : (l₁ : Lent) (t : Code.State) → true ≡ leb ((st .records + suc n) * 16) (length (l .list)) → t .at ≡ o .next
-      → PlaceHolds set job (l₁ .work) (l₁ .table) (t .place)
+      → PlaceHolds set job (l₁ .work) (l₁ .table) (l₁ .patterns) (t .place)
       (placeAfter set job o (caseOf set job d (sessionOf (d .place)) o .seen .page) (d .place))
       → t .performed ≡ caseOf set job d (sessionOf (d .place)) o .seen .count → t .records ≡ st .records + n + 1
       → l₁ .list ≡ over (l .list) (st .records * 16) (recordsFor (o .tag) (o .at) (o .length) (o .first) (o .attrs))
@@ -232,11 +234,11 @@ module _ (job list₀ : List ℕ) (l : Lent) (st : Code.State) (d : State) (set 
       (k ∙ ap (λ z. st .records + z + 1) many) w x
 
 -- what the session knows of an operator that was read
-pub comes-in : (job attrs work t list₀ : List ℕ) (set : Setting) (d : State) (o : Reader.Operator) (early : Early) (page : Page) (n : ℕ) (place : Place)
-    → PlaceHolds set job work t place (d .place) → Sized attrs (o .count) → length t ≡ 704 → 16384 ≤ length work → o .first + o .length ≤ length job
-    → Comes t job list₀ set d (operatorAs o attrs) early page n → Afterwards.Comes job attrs set o early page work t place (d .place) d
+pub comes-in : (job attrs work t p list₀ : List ℕ) (set : Setting) (d : State) (o : Reader.Operator) (early : Early) (page : Page) (n : ℕ) (place : Place)
+    → PlaceHolds set job work t p place (d .place) → Sized attrs (o .count) → length t ≡ 704 → 16384 ≤ length work → o .first + o .length ≤ length job
+    → Comes t p job list₀ set d (operatorAs o attrs) early page n → Afterwards.Comes job attrs set o early page work t p place (d .place) d
 unfolding contextOf
-comes-in job attrs work t list₀ set d o early page n place h z x w i m =
+comes-in job attrs work t p list₀ set d o early page n place h z x w i m =
     record {
       holds = h;
       sized = z;
@@ -251,11 +253,11 @@ comes-in job attrs work t list₀ set d o early page n place h z x w i m =
       drawn = m .drawn;
     }
 
-pub comes-bytes : (t job list₀ : List ℕ) (set : Setting) (d : State) (o : Operator) (early : Early) (page : Page) (n : ℕ) → Comes t job list₀ set d o early page n → BytesIn (o .attrs)
-comes-bytes t job list₀ set d o early page n m = read-bytes (contextOf every set (d .place)) job (d .at) o (m .read)
+pub comes-bytes : (t p job list₀ : List ℕ) (set : Setting) (d : State) (o : Operator) (early : Early) (page : Page) (n : ℕ) → Comes t p job list₀ set d o early page n → BytesIn (o .attrs)
+comes-bytes t p job list₀ set d o early page n m = read-bytes (contextOf every set (d .place)) job (d .at) o (m .read)
 
-pub end-inside : {set : Setting} {job work t : List ℕ} {o : Bool} {k : Kept} {b : Busy} {q : session.Place} → PlaceHolds set job work t (Place-is.Inside o k b) q → endCode q ≡ 27
-end-inside (inside-holds a b c d) = refl
+pub end-inside : {set : Setting} {job work t p : List ℕ} {o : Bool} {k : Kept} {b : Busy} {q : session.Place} → PlaceHolds set job work t p (Place-is.Inside o k b) q → endCode q ≡ 27
+end-inside (inside-holds a b c d e) = refl
 
 -- what a judgement says
 pub judged-refused : {c : Case} {inner code : ℕ} → Judgement c inner (Moved-is.No code) → (room : ℕ) → firstBroken every c (rules room) ≡ refused code inner
@@ -284,10 +286,10 @@ unfolding roomOver
 enough c = let h : c .records * 16 ≤ c .records * 16 = omega arith in rw (le-ltb (c .records * 16) (c .records * 16) h)
 
 -- what is judged to go on was not refused before
-pub judged-passes : {t : List ℕ} {c : Case} {inner n : ℕ} {p : Page} (early : Early) → Judgement c inner (Moved-is.To p n) → Earlies t c early → Passes early
+pub judged-passes : {t p : List ℕ} {c : Case} {inner n : ℕ} {page : Page} (early : Early) → Judgement c inner (Moved-is.To page n) → Earlies t p c early → Passes early
 unfolding rules
 judged-passes Early-is.Fine j e = tt
-judged-passes (Early-is.Call v) j e = tt
+judged-passes (Early-is.Call v k) j e = tt
 judged-passes (Early-is.Held made) j e = tt
 judged-passes {c = c} (Early-is.No code inner) (judged-to f a b k) (early-no g l) = unrefused (sym (g _) ∙ f (c .records * 16) ∙ enough c)
 
@@ -295,3 +297,18 @@ judged-passes {c = c} (Early-is.No code inner) (judged-to f a b k) (early-no g l
 pub steps-read : {job list₀ : List ℕ} {l : Lent} {t : Step} (set : Setting) (d : State) (o : Operator) → operatorAt (contextOf every set (d .place)) job (d .at) ≡ Read.operator o
     → Steps set job list₀ l t (onRead every set job (length list₀) d (Read.operator o)) → Steps set job list₀ l t (jobStep every set job (length list₀) d)
 steps-read {job} {list₀} {l} {t} set d o e h = subst⁻¹ (λ n. Steps set job list₀ l t n) (step-operator set job (length list₀) d o e) h
+
+-- the rules of motifs leave the place as it is, but for the row of the motif that is being judged
+pub stands-kept : {set : Setting} {job list₀ table p p₁ work list : List ℕ} {st : Code.State} {d : State} → Others p OfMotif p₁ → selectingIn p₁ ≡ selectingIn p
+    → Stands set job list₀ (record { table = table; patterns = p; work = work; list = list }) st d
+    → Stands set job list₀ (record { table = table; patterns = p₁; work = work; list = list }) st d
+stands-kept o e h =
+    record {
+      at = h .at;
+      place = place-kept o e (h .place);
+      performed = h .performed;
+      records = h .records;
+      counted = h .counted;
+      listed = record { is = h .listed .is };
+      table-long = h .table-long;
+    }

@@ -15,7 +15,7 @@ use Rattle.early.specs.declared.early.Early.the-variants as Early-is
 -- the inner position of a refusal
 abbrev pub innerOf : Early → ℕ
 innerOf Early-is.Fine = outer
-innerOf (Early-is.Call v) = outer
+innerOf (Early-is.Call v b) = outer
 innerOf (Early-is.Held made) = outer
 innerOf (Early-is.No code inner) = inner
 

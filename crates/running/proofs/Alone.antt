@@ -1,4 +1,4 @@
--- An operator that is its tag alone, in a page with no image open: how it is read, that it breaks no rule, and where the job stands after it.
+-- An operator that is its tag alone, in a page with no image and no pattern open: how it is read, that it breaks no rule, and where the job stands after it.
 -- Assumes nothing.
 use Prim.Native.Nat.{ℕ, suc, _+_, _≤_, _<_, max}
 use mathlib.Core.Path.{_≡_, refl, ap, _∙_, subst}
@@ -14,15 +14,15 @@ use Rattle.scope.specs.Item.{Scan, white, scanAt}
 use Rattle.scope.specs.Header.{Class, one, two}
 use Rattle.scope.specs.Table.{tableOne, tableTwo, table, lineIn}
 use Rattle.scope.specs.Attributes.{oneByOne, allThere, formCode}
-use Rattle.scope.specs.Data.{dueOf}
+use Rattle.scope.specs.Data.{readsRows, dueOf}
 use Rattle.scope.specs.Order.{in-page, drawn, mayCome, rowsFit}
 use Rattle.scope.specs.Reading.{Context, Operator, Read, withData, asWhole, withAttributes, withLine, scanned, operatorAt}
-use Rattle.scope.specs.Arm.{Page, needsCursor, needsSpace, effectOf, actOf, risen, Seen, step, walk, from}
+use Rattle.scope.specs.Arm.{Page, needsCursor, needsSpace, no-pattern, selectOf, effectOf, actOf, risen, Seen, step, walk, from}
 use Rattle.scope.specs.Motif.{Motif, Picture, pictureAfter}
 use Rattle.scope.specs.Calls.{nothing}
 use Rattle.scope.specs.Setting.{Setting}
-use Rattle.scope.specs.Session.{Session, drawing, inside, pageOf, sessionAfter, placeAfter}
-use Rattle.scope.specs.Judge.{State, caseOf, judgedAt, metAt, tooMuch, ownOr, outer}
+use Rattle.scope.specs.Session.{Session, Place, drawing, inside, pageOf, definedAfter, sessionAfter, placeAfter}
+use Rattle.scope.specs.Judge.{State, caseOf, judgedAt, metAt, tooMuch, noPlace, ownOr, outer}
 use Rattle.items.proofs.Pairs.{scan-tag}
 use Rattle.arm.specs.Alone.{Alone, alone-close, alone-new, alone-paint, alone-push, alone-pop}
 use Rattle.arm.specs.Codes.{codeOf}
@@ -32,6 +32,20 @@ use Rattle.arm.specs.declared.moved.Moved.the-variants.{To}
 use Rattle.early.specs.Earlier.{Unbroken}
 use Rattle.ruling.specs.Judged.{Judgement}
 use Rattle.ruling.proofs.Ruling.{plain-judged}
+use Rattle.ruling.proofs.Selecting.{selects-none}
+
+-- what no operator of a run changes: the motifs held, and the numbers defined for the session and for the page
+pub record Unmoved : Type 0 where
+  pub motifs : List Motif
+  pub ofSession : List ℕ
+  pub ofPage : List ℕ
+
+-- a session in a page with no image and no pattern open
+abbrev pub drawing-on : Unmoved → Bool → Page → Session
+drawing-on u opened q = record { held = u .motifs; opened = opened; patterns = u .ofSession; busy = drawing q (u .ofPage) Picture.none }
+
+abbrev pub drawn-on : Unmoved → Bool → Page → Place
+drawn-on u opened q = inside (drawing-on u opened q)
 
 -- the operator of a tag alone
 abbrev pub alone : (tag at : ℕ) → Operator
@@ -69,7 +83,7 @@ module _ (set : Setting) (opened : Bool) (s : List ℕ) (at : ℕ) {tag : ℕ} {
   c = record { set = set; phase = in-page (length (q .saved)); opened = opened; asked = true }
 
   lined : (class : Class) → withLine c s tag at [] (lineIn (table class) tag) ≡ Read.operator (alone tag at)
-  unfolding withLine lineIn tableOne tableTwo table withAttributes oneByOne asWhole formCode allThere rowsFit withData dueOf
+  unfolding withLine lineIn tableOne tableTwo table withAttributes oneByOne asWhole formCode allThere rowsFit readsRows withData dueOf
   lined one =
       each-tag (λ t. mayCome (in-page (length (q .saved))) opened t ≡ true → withLine c s t at [] (lineIn (table one) t) ≡ Read.operator (alone t at))
       (λ e. rw e) (λ e. rw e) (λ e. rw e) (λ e. rw e) (λ e. rw e) a (may-come opened a)
@@ -82,12 +96,13 @@ module _ (set : Setting) (opened : Bool) (s : List ℕ) (at : ℕ) {tag : ℕ} {
   read-alone h e =
       ap (scanned c s) (scan-tag (set .high) s at [] h (rw e (black a)) (rw e (tagged a)) ∙ ap (λ t. Scan.tagged t at []) e) ∙ lined (set .class)
 
--- the rules of motifs and their names say nothing of it
+-- the rules of motifs, their names and patterns say nothing of it
 unbroken-alone : (set : Setting) (s : List ℕ) (st : State) (x : Session) (at : ℕ) {tag : ℕ} {q q₁ : Page} → Alone tag q q₁ → Unbroken (caseOf set s st x (alone tag at))
-unfolding caseOf tooMuch judgedAt metAt
+unfolding caseOf tooMuch noPlace judgedAt metAt
 unbroken-alone set s st x at a =
     record {
       room = each-tag (λ t. tooMuch (caseOf set s st x (alone t at)) ≡ false) refl refl refl refl refl a;
+      place = each-tag (λ t. noPlace (caseOf set s st x (alone t at)) ≡ false) refl refl refl refl refl a;
       sound = λ r. each-tag (λ t. ownOr (caseOf set s st x (alone t at) .made) r ≡ r) refl refl refl refl refl a;
       met = each-tag (λ t. caseOf set s st x (alone t at) .met ≡ nothing) refl refl refl refl refl a;
     }
@@ -106,7 +121,7 @@ module _ (set : Setting) (opened : Bool) (s : List ℕ) (at n : ℕ) where
   page-alone (alone-pop h) = refl
 
   -- no rule of the arm's is broken, where fewer than 1,000,000 were performed
-  code-alone : {tag : ℕ} {q q₁ : Page} → Alone tag q q₁ → n < 1_000_000 → codeOf opened (seen tag q) ≡ 0
+  code-alone : {tag : ℕ} {q q₁ : Page} → Alone tag q q₁ → n < 1_000_000 → codeOf opened false (seen tag q) ≡ 0
   unfolding walk step from actOf effectOf needsCursor needsSpace among codeOf risen
   code-alone alone-close k = rw (le-ltb 1_000_000 (suc n) k)
   code-alone alone-new k = rw (le-ltb 1_000_000 (suc n) k)
@@ -114,21 +129,25 @@ module _ (set : Setting) (opened : Bool) (s : List ℕ) (at n : ℕ) where
   code-alone (alone-push {q = q} h) k = let m : max 0 (suc (length (q .saved))) ≤ 24 = omega arith in rw (le-ltb 24 (max 0 (suc (length (q .saved)))) m, le-ltb 1_000_000 (suc n) k)
   code-alone (alone-pop h) k = rw (le-ltb 1_000_000 (suc n) k)
 
-  moves-alone : {tag : ℕ} {q q₁ : Page} {p : Code.Page} → Alone tag q q₁ → PageHolds p q₁ → n < 1_000_000 → Moves opened (To p (n + 1)) (seen tag q)
+  moves-alone : {tag : ℕ} {q q₁ : Page} {p : Code.Page} → Alone tag q q₁ → PageHolds p q₁ → n < 1_000_000 → Moves opened false (To p (n + 1)) (seen tag q)
   unfolding walk step from
   moves-alone {tag} {q} {p = p} a h k = moves-to (code-alone a k) (subst (PageHolds p) (page-alone a) h) (add-one n)
+
+-- it selects nothing
+selects-alone : (set : Setting) (s : List ℕ) (at : ℕ) {tag : ℕ} {q q₁ : Page} → Alone tag q q₁ → actOf set s (alone tag at) .select ≡ no-pattern
+unfolding actOf selectOf
+selects-alone set s at a = each-tag (λ t. actOf set s (alone t at) .select ≡ no-pattern) refl refl refl refl refl a
 
 pub judged-alone : (set : Setting) (s : List ℕ) (st : State) (x : Session) {tag : ℕ} {q q₁ : Page} {p : Code.Page} → Alone tag q q₁ → PageHolds p q₁ → st .performed < 1_000_000
     → q ≡ pageOf (x .busy) → Judgement (caseOf set s st x (alone tag (st .at))) outer (To p (st .performed + 1))
 judged-alone set s st x {tag} {p = p} a h k e =
     plain-judged set s st x (alone tag (st .at)) (x .opened) (st .performed) (To p (st .performed + 1)) refl refl (unbroken-alone set s st x (st .at) a) (no-call a)
+    false (selects-none set s st x (alone tag (st .at)) (no-call a) (selects-alone set s (st .at) a))
     (rw e at (moves-alone set (x .opened) s (st .at) (st .performed) a h k))
 
--- the session stays in the page, with no image open
-pub place-alone : (set : Setting) (s : List ℕ) (at : ℕ) (held : List Motif) (opened : Bool) (p : Page) {tag : ℕ} {q q₁ : Page} → Alone tag q q₁
-    → placeAfter set s (alone tag at) p (inside (record { held = held; opened = opened; busy = drawing q Picture.none }))
-    ≡ inside (record { held = held; opened = opened; busy = drawing p Picture.none })
-unfolding placeAfter sessionAfter pictureAfter
-place-alone set s at held opened p {q = q} a =
-    each-tag (λ t. placeAfter set s (alone t at) p (inside (record { held = held; opened = opened; busy = drawing q Picture.none }))
-    ≡ inside (record { held = held; opened = opened; busy = drawing p Picture.none })) refl refl refl refl refl a
+-- the session stays in the page, with nothing open
+pub place-alone : (set : Setting) (s : List ℕ) (at : ℕ) (u : Unmoved) (opened : Bool) (p : Page) {tag : ℕ} {q q₁ : Page} → Alone tag q q₁
+    → placeAfter set s (alone tag at) p (drawn-on u opened q) ≡ drawn-on u opened p
+unfolding placeAfter sessionAfter definedAfter pictureAfter readsRows
+place-alone set s at u opened p {q = q} a =
+    each-tag (λ t. placeAfter set s (alone t at) p (drawn-on u opened q) ≡ drawn-on u opened p) refl refl refl refl refl a

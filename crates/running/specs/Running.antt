@@ -19,7 +19,7 @@ use Rattle.running.specs.declared.running.Pass.the-variants.{To, No}
 use Rattle.running.specs.declared.running.Run.{Run}
 use Rattle.state.specs.declared.state.State.{State}
 
--- a run in a session, in a page with no image open
+-- a run in a session, in a page with no image and no pattern open
 abbrev pub inSession : (opened : Bool) (kept : Kept) → Run → State
 inSession opened kept r =
     record { at = r .at; place = Inside opened kept (Drawing (r .page) Nothing); performed = r .performed; records = r .records }
@@ -35,9 +35,9 @@ Further len r (To t) = (r .at < t .at) × (t .at ≤ len)
 Further len r No = Unit {0}
 
 -- the code stands where the definition comes to from d, and is judged from there as from d
-pub record Reaches (job list₀ table work list : List ℕ) (set : Setting) (st : State) (d : scope.State) : Type 0 where
+pub record Reaches (job list₀ table patterns work list : List ℕ) (set : Setting) (st : State) (d : scope.State) : Type 0 where
   pub there : scope.State
-  pub stands : Stands set job list₀ (record { table = table; work = work; list = list }) st there
+  pub stands : Stands set job list₀ (record { table = table; patterns = patterns; work = work; list = list }) st there
   pub judged : judgedFrom every set job (length list₀) there ≡ judgedFrom every set job (length list₀) d
 
 -- from one state to another by operators that are not refused: no more records than bytes, and the definition goes as far
@@ -46,6 +46,6 @@ pub record Runs (job : List ℕ) (high : Bool) (list list₁ : List ℕ) (st t :
   pub on : st .at ≤ t .at
   pub within : st .at ≤ length job → t .at ≤ length job
   pub counted : t .records + st .at ≤ st .records + t .at
-  pub leads : (list₀ table work : List ℕ) (set : Setting) (d : scope.State) → set .high ≡ high → length list₀ ≡ length list
-      → Stands set job list₀ (record { table = table; work = work; list = list }) st d
-      → Reaches job list₀ table work list₁ set t d
+  pub leads : (list₀ table patterns work : List ℕ) (set : Setting) (d : scope.State) → set .high ≡ high → length list₀ ≡ length list
+      → Stands set job list₀ (record { table = table; patterns = patterns; work = work; list = list }) st d
+      → Reaches job list₀ table patterns work list₁ set t d

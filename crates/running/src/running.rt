@@ -1,5 +1,5 @@
-// Operators that are their tag alone, and lines by their end point, in a page with no image open: a run of them is judged in one small loop, as far as
-// nothing could refuse them.
+// Operators that are their tag alone, and lines by their end point, in a page with no image and no pattern open: a run of them is judged in one small loop,
+// as far as nothing could refuse them.
 ghost use mathlib.Core.Path.{_≡_};
 ghost use mathlib.Core.Bool.{Bool};
 ghost use Prim.Native.Nat.{_<_};
@@ -140,7 +140,7 @@ fn run_from(job: &[u8], high: bool, list: &mut [u8], from: Run) -> Run
     }
 }
 
-// In a page with no image open: past the run that stands next.
+// In a page with no image and no pattern open: past the run that stands next.
 fn past_run(
     job: &[u8],
     high: bool,
@@ -184,6 +184,7 @@ pub fn run_on(job: &[u8], high: bool, list: &mut [u8], st: State) -> State
             Busy::Reading(_, _, _) => st,
             Busy::Drawing(page, picture) => match picture {
                 Picture::Being(_) => st,
+                Picture::Hatching(_, _) => st,
                 Picture::Nothing => past_run(job, high, list, st, opened, kept, page),
             },
         },

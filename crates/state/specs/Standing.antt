@@ -27,16 +27,17 @@ use Rattle.state.specs.declared.state.Step.the-variants.{Go, Stop}
 pub record Listed (list₀ : List ℕ) (past : List Operator) (list : List ℕ) : Type 0 where
   pub is : list ≡ verdict.recordsBefore past [] ++ drop (length (verdict.recordsBefore past [])) list₀
 
--- the lists that are lent for the length of a job: the table of motifs, the work buffer and the list
+-- the lists that are lent for the length of a job: the table of motifs, the numbers of patterns, the work buffer and the list
 pub record Lent : Type 0 where
   pub table : List ℕ
+  pub patterns : List ℕ
   pub work : List ℕ
   pub list : List ℕ
 
 -- the code stands where the definition stands, in a job of this setting
 pub record Stands (set : Setting) (job list₀ : List ℕ) (l : Lent) (st : State) (d : scope.State) : Type 0 where
   pub at : st .at ≡ d .at
-  pub place : PlaceHolds set job (l .work) (l .table) (st .place) (d .place)
+  pub place : PlaceHolds set job (l .work) (l .table) (l .patterns) (st .place) (d .place)
   pub performed : st .performed ≡ d .performed
   pub records : st .records ≡ d .records
   pub counted : length (verdict.recordsBefore (d .past) []) ≡ d .records * 16
@@ -70,11 +71,11 @@ endCode (session.outside false) = 27
 endCode (session.inside x) = 27
 
 -- an operator that was read where the definition stands, breaks no rule but perhaps that of the room, and leaves this page and number performed; the table is that
--- of the motifs held there
-pub record Comes (t job list₀ : List ℕ) (set : Setting) (d : scope.State) (o : Operator) (early : Early) (page : Page) (performed : ℕ) : Type 0 where
+-- of the motifs held there, and p has what a motif that ends selects
+pub record Comes (t p job list₀ : List ℕ) (set : Setting) (d : scope.State) (o : Operator) (early : Early) (page : Page) (performed : ℕ) : Type 0 where
   pub read : operatorAt (scope.contextOf verdict.every set (d .place)) job (d .at) ≡ Read.operator o
   pub passes : Passes early
-  pub earlier : Earlies t (scope.caseOf set job d (session.sessionOf (d .place)) o) early
+  pub earlier : Earlies t p (scope.caseOf set job d (session.sessionOf (d .place)) o) early
   pub drawn : PageHolds page (scope.caseOf set job d (session.sessionOf (d .place)) o .seen .page)
   pub counts : performed ≡ scope.caseOf set job d (session.sessionOf (d .place)) o .seen .count
   pub rules : scope.firstBroken verdict.every (scope.caseOf set job d (session.sessionOf (d .place)) o) (scope.rules (length list₀))

@@ -18,9 +18,8 @@ ghost use Rattle.reader.specs.Reads.{operatorAs};
 ghost use Rattle.place.specs.Places.{PlaceHolds};
 ghost use Rattle.state.specs.Views.{verdictAs};
 ghost use Rattle.state.specs.Standing.{Stands, Listed, Comes, Steps, Goes, Lasts, endCode};
+use after::Passed;
 use arm::moved::Moved;
-use arm::page::Page;
-use early::Early;
 use names::limits::JOB_MOST;
 use names::limits::WORK_LEAST;
 use place::Place;
@@ -53,7 +52,7 @@ fn pass_after(one: bool) -> u32
 
 // The code at the end of the job: pass between sessions, after one at least; else 27.
 fn end_code(place: Place) -> u32
-    ensures { λ r. ⌜ ((q : session.Place) (by : Setting·of) (job work t : List ℕ) → PlaceHolds by job work t place q → r ≡ endCode q) ⌝ }
+    ensures { λ r. ⌜ ((q : session.Place) (by : Setting·of) (job work t p : List ℕ) → PlaceHolds by job work t p place q → r ≡ endCode q) ⌝ }
 {
     match place {
         Place::Outside(after_one) => pass_after(after_one),
@@ -61,10 +60,10 @@ fn end_code(place: Place) -> u32
     }
 }
 
-// What the rules leave of an operator that they let pass: what it goes on with, the page after it, and how many are performed then.
-struct Passed {
-    early: Early,
-    page: Page,
+// An operator that the rules let pass: it, what they leave of it, and how many are performed then.
+struct Allowed {
+    o: Operator,
+    passed: Passed,
     performed: u32,
 }
 
@@ -75,23 +74,26 @@ fn go_on(
     work: &mut [u8],
     list: &mut [u8],
     motifs: &mut [usize; 704],
+    patterns: &mut [u16; 4423],
     attrs: &[usize; 80],
     st: State,
-    o: Operator,
-    passed: Passed,
+    allowed: Allowed,
 ) -> Step
-    requires { ⌜ (length (now job) ≤ 61440) × (16384 ≤ length (now work)) × (st .at ≤ o .at) × (o .at < o .next) × (o .next ≤ length (now job)) × (o .count ≤ 16) × (st .records ≤ st .at * 17) ⌝ }
+    requires { ⌜ (length (now job) ≤ 61440) × (16384 ≤ length (now work)) × (st .at ≤ allowed .o .at) × (allowed .o .at < allowed .o .next) × (allowed .o .next ≤ length (now job))
+        × (allowed .o .count ≤ 16) × (st .records ≤ st .at * 17) ⌝ }
     ensures { λ _. ⌜ Lasts (now (work .entry)) (now (list .entry)) (now (work .exit)) (now (list .exit)) ⌝ }
     ensures { λ r. ⌜ Goes (length (now (job .entry))) (st .at) r ⌝ }
-    ensures { λ r. ⌜ ((d : scope.State) (list₀ : List ℕ) → length list₀ ≡ length (now (list .entry)) → Sized (now (attrs .entry)) (o .count) → o .first + o .length ≤ length (now (job .entry))
-        → Stands (settingAs set) (now (job .entry)) list₀ (record { table = now (motifs .entry); work = now (work .entry); list = now (list .entry) }) st d
-        → Comes (now (motifs .entry)) (now (job .entry)) list₀ (settingAs set) d (operatorAs o (now (attrs .entry))) (passed .early) (passed .page) (passed .performed)
-        → Steps (settingAs set) (now (job .entry)) list₀ (record { table = now (motifs .exit); work = now (work .exit); list = now (list .exit) }) r
-        (onRead every (settingAs set) (now (job .entry)) (length list₀) d (operator (operatorAs o (now (attrs .entry)))))) ⌝ }
+    ensures { λ r. ⌜ ((d : scope.State) (list₀ : List ℕ) → length list₀ ≡ length (now (list .entry)) → Sized (now (attrs .entry)) (allowed .o .count)
+        → allowed .o .first + allowed .o .length ≤ length (now (job .entry))
+        → Stands (settingAs set) (now (job .entry)) list₀ (record { table = now (motifs .entry); patterns = now (patterns .entry); work = now (work .entry); list = now (list .entry) }) st d
+        → Comes (now (motifs .entry)) (now (patterns .entry)) (now (job .entry)) list₀ (settingAs set) d (operatorAs (allowed .o) (now (attrs .entry))) (allowed .passed .early)
+        (allowed .passed .page) (allowed .performed)
+        → Steps (settingAs set) (now (job .entry)) list₀ (record { table = now (motifs .exit); patterns = now (patterns .exit); work = now (work .exit); list = now (list .exit) }) r
+        (onRead every (settingAs set) (now (job .entry)) (length list₀) d (operator (operatorAs (allowed .o) (now (attrs .entry)))))) ⌝ }
 {
     let place = st.place;
-    let early = passed.early;
-    let page = passed.page;
+    let o = allowed.o;
+    let passed = allowed.passed;
     if !buffer::list_operator(
         list,
         st.records,
@@ -104,11 +106,11 @@ fn go_on(
     ) {
         return Step::Stop(stop(st, 28, o.at, OUTER));
     }
-    let next = after::place_after(job, set, o, attrs, early, page, place, work, motifs);
+    let next = after::place_after(job, set, o, attrs, passed, place, work, motifs, patterns);
     Step::Go(State {
         at: o.next,
         place: next,
-        performed: passed.performed,
+        performed: allowed.performed,
         records: st.records + o.count + 1,
     })
 }
@@ -120,6 +122,7 @@ fn perform(
     work: &mut [u8],
     list: &mut [u8],
     motifs: &mut [usize; 704],
+    patterns: &mut [u16; 4423],
     attrs: &[usize; 80],
     st: State,
     o: Operator,
@@ -129,14 +132,14 @@ fn perform(
     ensures { λ r. ⌜ Goes (length (now (job .entry))) (st .at) r ⌝ }
     ensures { λ r. ⌜ ((d : scope.State) (list₀ : List ℕ) → length list₀ ≡ length (now (list .entry)) → Sized (now (attrs .entry)) (o .count)
         → o .first + o .length ≤ length (now (job .entry))
-        → Stands (settingAs set) (now (job .entry)) list₀ (record { table = now (motifs .entry); work = now (work .entry); list = now (list .entry) }) st d
+        → Stands (settingAs set) (now (job .entry)) list₀ (record { table = now (motifs .entry); patterns = now (patterns .entry); work = now (work .entry); list = now (list .entry) }) st d
         → operatorAt (contextOf every (settingAs set) (d .place)) (now (job .entry)) (d .at) ≡ operator (operatorAs o (now (attrs .entry)))
-        → Steps (settingAs set) (now (job .entry)) list₀ (record { table = now (motifs .exit); work = now (work .exit); list = now (list .exit) }) r
+        → Steps (settingAs set) (now (job .entry)) list₀ (record { table = now (motifs .exit); patterns = now (patterns .exit); work = now (work .exit); list = now (list .exit) }) r
         (onRead every (settingAs set) (now (job .entry)) (length list₀) d (operator (operatorAs o (now (attrs .entry)))))) ⌝ }
 {
     let place = st.place;
-    let early = early::early_of(job, set, work, motifs, attrs, place, o);
-    match judge(job, set, attrs, early, place, o, st.performed) {
+    let early = early::early_of(job, set, work, motifs, patterns, attrs, place, o);
+    match judge(job, set, attrs, patterns, early, place, o, st.performed) {
         Moved::No(code) => Step::Stop(stop(st, code, o.at, inner_of(early))),
         Moved::To(page, performed) => go_on(
             job,
@@ -144,12 +147,12 @@ fn perform(
             work,
             list,
             motifs,
+            patterns,
             attrs,
             st,
-            o,
-            Passed {
-                early,
-                page,
+            Allowed {
+                o,
+                passed: Passed { early, page },
                 performed,
             },
         ),
@@ -170,6 +173,7 @@ fn advance(
     work: &mut [u8],
     list: &mut [u8],
     motifs: &mut [usize; 704],
+    patterns: &mut [u16; 4423],
     attrs: &mut [usize; 80],
     st: State,
 ) -> Step
@@ -178,8 +182,8 @@ fn advance(
     ensures { λ _. ⌜ length (now (attrs .exit)) ≡ length (now (attrs .entry)) ⌝ }
     ensures { λ r. ⌜ Goes (length (now (job .entry))) (st .at) r ⌝ }
     ensures { λ r. ⌜ ((d : scope.State) (list₀ : List ℕ) → length list₀ ≡ length (now (list .entry)) → length (now (attrs .entry)) ≡ 80
-        → Stands (settingAs set) (now (job .entry)) list₀ (record { table = now (motifs .entry); work = now (work .entry); list = now (list .entry) }) st d
-        → Steps (settingAs set) (now (job .entry)) list₀ (record { table = now (motifs .exit); work = now (work .exit); list = now (list .exit) }) r
+        → Stands (settingAs set) (now (job .entry)) list₀ (record { table = now (motifs .entry); patterns = now (patterns .entry); work = now (work .entry); list = now (list .entry) }) st d
+        → Steps (settingAs set) (now (job .entry)) list₀ (record { table = now (motifs .exit); patterns = now (patterns .exit); work = now (work .exit); list = now (list .exit) }) r
         (jobStep every (settingAs set) (now (job .entry)) (length list₀) d)) ⌝ }
 {
     let place = st.place;
@@ -195,7 +199,7 @@ fn advance(
     match reader::operator_at(context, job, st.at, attrs) {
         Read::No(code, position) => Step::Stop(stop(st, code, position, OUTER)),
         Read::Ended => Step::Stop(stop(st, end_code(place), job.len(), OUTER)),
-        Read::Operator(o) => perform(job, set, work, list, motifs, attrs, st, o),
+        Read::Operator(o) => perform(job, set, work, list, motifs, patterns, attrs, st, o),
     }
 }
 
@@ -207,6 +211,7 @@ fn items_from(job: &[u8], set: Setting, next: usize, work: &mut [u8], list: &mut
         × Listed (now (list .entry)) (judgedFrom every (settingAs set) (now (job .entry)) (length (now (list .entry))) (scope.starting next) .state .past) (now (list .exit)) ⌝ }
 {
     let mut motifs = [0usize; 704];
+    let mut patterns = [0u16; 4423];
     let mut attrs = [0usize; 80];
     let mut st = State {
         at: next,
@@ -216,7 +221,16 @@ fn items_from(job: &[u8], set: Setting, next: usize, work: &mut [u8], list: &mut
     };
     loop {
         let from = run_on(job, set.high, list, st);
-        match advance(job, set, work, list, &mut motifs, &mut attrs, from) {
+        match advance(
+            job,
+            set,
+            work,
+            list,
+            &mut motifs,
+            &mut patterns,
+            &mut attrs,
+            from,
+        ) {
             Step::Go(on) => {
                 st = on;
             }

@@ -1,4 +1,5 @@
 pub mod Naming
+pub mod Noting
 pub mod Stepping
 pub mod Strips
 pub mod Turning

@@ -15,10 +15,10 @@ use Rattle.scope.specs.Header.{Class, one, two}
 use Rattle.scope.specs.Item.{white, scanAt}
 use Rattle.scope.specs.Table.{tableOne, tableTwo, table, lineIn}
 use Rattle.scope.specs.Attributes.{oneByOne, allThere, formCode}
-use Rattle.scope.specs.Data.{dueOf}
+use Rattle.scope.specs.Data.{readsRows, dueOf}
 use Rattle.scope.specs.Order.{in-motif, drawn, mayCome, rowsFit}
 use Rattle.scope.specs.Reading.{Context, Operator, Read, withData, asWhole, withAttributes, withLine, scanned, operatorAt}
-use Rattle.scope.specs.Arm.{Stroke, needsCursor, needsSpace, effectOf, actOf}
+use Rattle.scope.specs.Arm.{Stroke, needsCursor, needsSpace, selectOf, effectOf, actOf}
 use Rattle.scope.specs.Motif as scope
 use Rattle.scope.specs.Motif.{Motif, phaseIn, contextIn, savedAfter, pictureAfter, ownBy, onRead, motifStep, judgedInside}
 use Rattle.scope.specs.Calls.{flat}
@@ -33,6 +33,7 @@ use Rattle.arm.proofs.Ways.{or-false}
 use Rattle.arm.proofs.Levels.{own-does}
 use Rattle.motif.specs.Tables.{mark, callsRow, lacksOne}
 use Rattle.order.specs.Pictures.{pictureAs}
+use Rattle.patterns.specs.Selects.{selectsIn}
 use Rattle.reader.specs.EndPoint.{lineOf, Drawn, drawn-path, drawn-rel, Line}
 use Rattle.reader.proofs.EndPoint.{line-read, line-drawn, line-in-motif}
 use Rattle.stream.specs.Judging.{Follows, Comes}
@@ -40,6 +41,7 @@ use Rattle.stream.specs.Lines.{Quiet, quiet-close, quiet-paint, Strip, s
 use Rattle.stream.specs.declared.judging.Inside.{Inside}
 use Rattle.stream.specs.declared.lines.Run.{Run}
 use Rattle.stream.proofs.Naming.{deed-row, deed-lacks}
+use Rattle.stream.proofs.Noting.{selects-does}
 
 -- what holds of each of these tags
 each-line : {tag : ℕ} (P : ℕ → Type 0) → P 0x9b → P 0x9d → Drawn tag → P tag
@@ -60,7 +62,7 @@ alone tag at = record { tag = tag; at = at; attrs = []; reads = false; length = 
 
 lined : (high gray : Bool) (saved : ℕ) (s : List ℕ) (at : ℕ) (class : Class) {tag : ℕ} → Quiet tag
     → withLine (inMotif (record { class = class; high = high; gray = gray }) saved) s tag at [] (lineIn (table class) tag) ≡ Read.operator (alone tag at)
-unfolding withLine lineIn tableOne tableTwo table mayCome drawn among withAttributes oneByOne asWhole formCode allThere rowsFit withData dueOf
+unfolding withLine lineIn tableOne tableTwo table mayCome drawn among withAttributes oneByOne asWhole formCode allThere readsRows rowsFit withData dueOf
 lined high gray saved s at one quiet-close = refl
 lined high gray saved s at one quiet-paint = refl
 lined high gray saved s at two quiet-close = refl
@@ -89,7 +91,7 @@ module _ (set : Setting) (s : List ℕ) (w : scope.Inside) (closed : w .picture 
   context-is = ap (λ p. operatorAt (record { set = set; phase = phaseIn (w .saved) p; opened = true; asked = false }) s (w .at)) (sym closed)
 
   plain-line : (op : ℕ) → Line (set .high) s (w .at) op → Plain set s w (op + 1) true
-  unfolding actOf needsCursor needsSpace effectOf among savedAfter pictureAfter
+  unfolding actOf needsCursor needsSpace selectOf effectOf among savedAfter readsRows pictureAfter
   plain-line op l =
       let d = line-drawn l in
       let o : ℕ → Operator = λ t. lineOf (getD s (w .at) 0) t (w .at) op in
@@ -104,7 +106,7 @@ module _ (set : Setting) (s : List ℕ) (w : scope.Inside) (closed : w .picture 
       }
 
   plain-quiet : w .at < length s → Quiet (getD s (w .at) 0) → Plain set s w (w .at + 1) false
-  unfolding actOf needsCursor needsSpace effectOf among savedAfter pictureAfter
+  unfolding actOf needsCursor needsSpace selectOf effectOf among savedAfter readsRows pictureAfter
   plain-quiet h q =
       record {
         op = alone (getD s (w .at) 0) (w .at);
@@ -131,6 +133,7 @@ record Reached (ms : List Motif) (set : Setting) (s : List ℕ) (w : scope.Insid
   closed : stands .picture ≡ scope.Picture.none
   whom : (j : ℕ) → callsRow ms (stands .ops) j ≡ callsRow ms (w .ops) j
   lacks : lacksOne ms (stands .ops) ≡ lacksOne ms (w .ops)
+  selects : selectsIn (stands .ops) ≡ selectsIn (w .ops)
   level : OwnLevel 0 (stands .ops) (stands .saved)
   judged : judgedInside set s stands ≡ judgedInside set s w
   more : (f : Name → List Stroke) (k : ℕ) → More f k (stands .ops) (w .ops) n cursor
@@ -176,6 +179,7 @@ reached-one ms set s w {n = n} {c = c} {d = d} r p =
       closed = r .closed;
       whom = λ j. deed-row ms (v .ops) (p .op) (keeping false d) j ∙ r .whom j;
       lacks = deed-lacks ms (v .ops) (p .op) (keeping false d) ∙ r .lacks;
+      selects = selects-does (v .ops) (p .op) (keeping false d) ∙ r .selects;
       level = own-does (v .ops) (p .op) (keeping false d) 0 (v .saved) (r .level) tt;
       judged = judged-is set s v p ∙ r .judged;
       more = λ f k. more-one f k (v .ops) (w .ops) (p .op) n c d (r .more f k);
@@ -196,6 +200,7 @@ module _ (ms : List Motif) (set : Setting) (s : List ℕ) (w : scope.Inside) (cl
         closed = closed;
         whom = λ j. refl;
         lacks = refl;
+        selects = refl;
         level = level;
         judged = refl;
         more = λ f k. record { row = []; is = sym (append-nil (flat f k (w .ops))); kept = kept-none; long = refl };
@@ -233,4 +238,5 @@ run-comes t ms set s w old new run f shut h a b c d e k =
         level = r .level;
       };
       judged = r .judged;
+      selects = r .selects;
     }

@@ -12,11 +12,11 @@ use native.Mathlib.Nat.{zero-div}
 use Rattle.scope.specs.Setting.{Setting}
 use Rattle.scope.specs.Choice.{pick}
 use Rattle.scope.specs.Attributes.{bytesIn}
-use Rattle.scope.specs.Data.{Image}
+use Rattle.scope.specs.Data.{Image, readsRows}
 use Rattle.scope.specs.Reading.{Operator}
 use Rattle.scope.specs.Arm.{Stroke, actOf}
 use Rattle.scope.specs.Motif as scope
-use Rattle.scope.specs.Motif.{Motif, savedAfter, pictureAfter, ownBy, onEnd}
+use Rattle.scope.specs.Motif.{Hatch, Motif, savedAfter, pictureAfter, ownBy, onEnd}
 use Rattle.scope.specs.Calls.{flat}
 use Rattle.scope.specs.Reach.{Name, any, namesIn}
 use Rattle.summary.specs.Sums.{SumsAs}
@@ -62,7 +62,7 @@ unfolding savedAfter
 call-saved n = refl
 
 call-picture : (high : Bool) (s : List ℕ) (o : Operator) (p : scope.Picture) → o .tag ≡ 0x5e → pictureAfter high s o p ≡ p
-unfolding pictureAfter
+unfolding readsRows pictureAfter
 call-picture high s o p e = rw e
 
 -- what the table sums up for a name
@@ -138,11 +138,15 @@ ended-even t ms i w v f e r =
       summed = λ g u k. r (flat g k (w .ops)) (f .runs g u k) (own-level g k (λ n. held-balanced t (g n) (scope.heldAs n ms) (u n)) (w .ops) 0 0 (rw e at (f .level)));
     })
 
--- the end with an image open, and without
+-- the end with an image open, with a pattern, and with neither
 module _ (t : List ℕ) (ms : List Motif) (s : List ℕ) (w : scope.Inside) (len : ℕ) (long : length s ≡ len) where
   pub ended-open : (i : Image) → w .picture ≡ scope.being i → Judges t ms (Faulty 27 len) (onEnd s w (w .picture))
   unfolding onEnd
   ended-open i e = rw (e, long) judges-faulty
+
+  pub ended-hatching : (h : Hatch) (i : Image) → w .picture ≡ scope.hatching h i → Judges t ms (Faulty 27 len) (onEnd s w (w .picture))
+  unfolding onEnd
+  ended-hatching h i e = rw (e, long) judges-faulty
 
   pub ended-closed : (j : Judged) → w .picture ≡ scope.Picture.none → Judges t ms j (pick (eqb (w .saved) 0) (scope.valid (w .ops)) (scope.faulty 27 len))
       → Judges t ms j (onEnd s w (w .picture))

@@ -7,7 +7,7 @@ use mathlib.Core.List.{List, [], _∷_, _++_}
 use Rattle.scope.specs.Iterate.{Next, go, stop}
 use Rattle.scope.specs.Setting.{Setting}
 use Rattle.scope.specs.Reading.{Operator}
-use Rattle.scope.specs.Arm.{idle, Stroke}
+use Rattle.scope.specs.Arm.{Select, no-pattern, pattern, idle, Stroke}
 use Rattle.scope.specs.Motif as scope
 use Rattle.scope.specs.Calls.{flat}
 use Rattle.scope.specs.Reach.{Name}
@@ -16,6 +16,8 @@ use Rattle.arm.specs.Runs.{Runs}
 use Rattle.summary.specs.Balance.{OwnLevel}
 use Rattle.motif.specs.Tables.{mark, callsRow, lacksOne, SumsUp}
 use Rattle.order.specs.Pictures.{pictureAs}
+use Rattle.patterns.specs.Numbers.{numbersIn, noted, collected}
+use Rattle.patterns.specs.Selects.{selectsIn}
 use Rattle.stream.specs.declared.judging.Inside.{Inside}
 use Rattle.stream.specs.declared.judging.Made.{Made}
 use Rattle.stream.specs.declared.judging.Judged.{Judged}
@@ -80,3 +82,19 @@ pub record Comes (t : List ℕ) (ms : List scope.Motif) (set : Setting) (s : Lis
   pub stands : scope.Inside
   pub follows : Follows t ms i stands
   pub judged : scope.judgedInside set s stands ≡ scope.judgedInside set s w
+  pub selects : selectsIn (stands .ops) ≡ selectsIn (w .ops)
+
+-- one operator more: the pattern that it selects is noted
+abbrev pub notedBy : Select → List ℕ → List ℕ
+notedBy no-pattern ns = ns
+notedBy (pattern n) ns = noted n ns
+
+-- what these operators select themselves is noted
+pub record Notes (own : List ℕ) (ops : List scope.Own) : Type 0 where
+  pub are : numbersIn own 0 ≡ collected (selectsIn ops)
+
+-- after a turn: what was noted of the operators before it is noted of those after it
+abbrev pub NotesOn : (was own : List ℕ) → List scope.Own → Next scope.Inside scope.Judged → Type 0
+NotesOn was own ops (go w) = Notes was ops → Notes own (w .ops)
+NotesOn was own ops (stop (scope.valid os)) = Notes was ops → Notes own os
+NotesOn was own ops (stop (scope.faulty code place)) = Unit {0}

@@ -1,6 +1,6 @@
 // A motif judged when EndStream comes, and what is noted of it.
 ghost use mathlib.Core.Path.{_≡_};
-ghost use mathlib.Core.List.{List, []};
+ghost use mathlib.Core.List.{List, [], _∷_, _++_};
 ghost use mathlib.Core.Bool.{true};
 ghost use Prim.Native.Nat.{ℕ, _+_, _^_, _≤_, _<_};
 ghost use lib.ListN.{length};
@@ -11,16 +11,20 @@ ghost use Rattle.scope.specs.Setting.{sameClass};
 ghost use Rattle.scope.specs.Setting.{Setting as setting·Setting};
 ghost use Rattle.setting.specs.Views.{classAs, settingAs};
 ghost use Rattle.scope.specs.Motif as scope;
-ghost use Rattle.scope.specs.Motif.{Motif, phaseIn, savedAfter, motifStep, onEnd, judgedInside, motifOf};
+ghost use Rattle.scope.specs.Motif.{Own, Motif, phaseIn, savedAfter, motifStep, ownBy, onEnd, judgedInside, motifOf};
 ghost use Rattle.scope.specs.Order.{rowsFit};
 ghost use Rattle.order.specs.Views.{phaseAs};
 ghost use Rattle.reader.specs.Reads.{operatorAs};
 ghost use Rattle.motif.specs.Held.{Keeps};
 ghost use Rattle.order.specs.Pictures.{pictureAs, imageIn};
-ghost use Rattle.stream.specs.Judging.{Follows, Turns, Judges, Ahead, Called, Comes, afterIn};
+ghost use Rattle.arm.specs.Views.{selectAs};
+ghost use Rattle.patterns.specs.Numbers.{numbersIn, collected};
+ghost use Rattle.patterns.specs.Selects.{selectsIn};
+ghost use Rattle.stream.specs.Judging.{Follows, Turns, Judges, Ahead, Called, Comes, afterIn, notedBy, Notes, NotesOn};
 use crate::lines::run_from;
 use act::act_of;
 use arm::both::Both;
+use arm::page::Select;
 use header::Header;
 use motif::ROW;
 use motif::SUM;
@@ -71,13 +75,14 @@ pub enum Turn {
     Stop(Judged),
 }
 
-// Where an operator of a motif stands: in its image, if one is open.
+// Where an operator of a motif stands: in its image, if one is open, or in a pattern.
 fn phase_in(saved: usize, picture: Picture) -> Phase
     ensures { λ r. ⌜ phaseAs r ≡ phaseIn saved (pictureAs picture) ⌝ }
 {
     match picture {
         Picture::Nothing => Phase::InMotif(saved),
         Picture::Being(image) => Phase::InImage(image),
+        Picture::Hatching(image, _) => Phase::InPattern(image),
     }
 }
 
@@ -144,9 +149,30 @@ fn call(
     }
 }
 
+// The pattern that an operator selects is noted.
+fn note_select(own: &mut [u16; 66], select: Select)
+    ensures { λ _. ⌜ length (now (own .exit)) ≡ length (now (own .entry)) ⌝ }
+    ensures { λ _. ⌜ numbersIn (now (own .exit)) 0 ≡ notedBy (selectAs select) (numbersIn (now (own .entry)) 0) ⌝ }
+{
+    match select {
+        Select::Nothing => (),
+        Select::Pattern(n) => patterns::note(own, n),
+    }
+}
+
 // An operator that is no call.
-fn deed(s: &[u8], set: Setting, o: Operator, attrs: &[usize; 80], inside: Inside) -> Inside
+fn deed(
+    s: &[u8],
+    set: Setting,
+    o: Operator,
+    attrs: &[usize; 80],
+    inside: Inside,
+    own: &mut [u16; 66],
+) -> Inside
     requires { ⌜ inside .saved < 2 ^ 63 ⌝ }
+    ensures { λ _. ⌜ length (now (own .exit)) ≡ length (now (own .entry)) ⌝ }
+    ensures { λ _. ⌜ ((ops : List Own) → Sized (now (attrs .entry)) (o .count) → (o .tag ≡ 0x5e → ⊥) → Notes (now (own .entry)) ops
+        → Notes (now (own .exit)) (ops ++ (ownBy (settingAs set) (now (s .entry)) (operatorAs o (now (attrs .entry))) ∷ []))) ⌝ }
     ensures { λ r. ⌜ (r .at ≡ o .next) × (r .saved ≤ inside .saved + 1) ⌝ }
     ensures { λ r. ⌜ ((t : List ℕ) (ms : List Motif) (w : scope.Inside) → Sized (now (attrs .entry)) (o .count) → (o .tag ≡ 0x5e → ⊥) → Follows t ms inside w
         → rowsFit (set .high) (now (s .entry)) (imageIn (w .picture)) (o .tag) (rowsOf (now (attrs .entry)) (o .count)) ≡ true → (o .tag ≡ 0x60 → 0 < w .saved)
@@ -159,6 +185,8 @@ fn deed(s: &[u8], set: Setting, o: Operator, attrs: &[usize; 80], inside: Inside
     let after = picture_after(s, set.high, tag, attrs, o.count, picture);
     let next = both.step(act);
     let saved = saved_after(tag, inside.saved);
+    let select = act.select;
+    note_select(own, select);
     Inside {
         at: o.next,
         saved,
@@ -193,6 +221,7 @@ fn ended(len: usize, inside: Inside) -> Judged
     let picture = inside.picture;
     match picture {
         Picture::Being(_) => Judged::Faulty(27, len),
+        Picture::Hatching(_, _) => Judged::Faulty(27, len),
         Picture::Nothing => balanced(len, inside),
     }
 }
@@ -205,12 +234,16 @@ fn advance(
     motifs: &[usize; 704],
     held: usize,
     attrs: &mut [usize; 80],
+    own: &mut [u16; 66],
 ) -> Turn
     requires { ⌜ (inside .at ≤ length (now s)) × (inside .saved ≤ inside .at) ⌝ }
     ensures { λ _. ⌜ length (now (attrs .exit)) ≡ length (now (attrs .entry)) ⌝ }
     ensures { λ r. ⌜ Ahead (length (now (s .entry))) (inside .at) r ⌝ }
     ensures { λ r. ⌜ ((ms : List Motif) (w : scope.Inside) → length (now (attrs .entry)) ≡ 80 → Keeps (now (motifs .entry)) held ms
         → Follows (now (motifs .entry)) ms inside w → Turns (now (motifs .entry)) ms r (motifStep (settingAs set) (now (s .entry)) w)) ⌝ }
+    ensures { λ _. ⌜ length (now (own .exit)) ≡ length (now (own .entry)) ⌝ }
+    ensures { λ _. ⌜ ((ms : List Motif) (w : scope.Inside) → length (now (attrs .entry)) ≡ 80 → Follows (now (motifs .entry)) ms inside w
+        → NotesOn (now (own .entry)) (now (own .exit)) (w .ops) (motifStep (settingAs set) (now (s .entry)) w)) ⌝ }
 {
     let picture = inside.picture;
     let context = Context {
@@ -226,7 +259,7 @@ fn advance(
             if o.tag == EXEC_STREAM {
                 return Turn::Go(call(s, o, attrs, inside, motifs, held));
             }
-            Turn::Go(deed(s, set, o, attrs, inside))
+            Turn::Go(deed(s, set, o, attrs, inside, own))
         }
     }
 }
@@ -240,6 +273,7 @@ fn past_run(s: &[u8], set: Setting, inside: Inside) -> Inside
     let picture = inside.picture;
     match picture {
         Picture::Being(_) => inside,
+        Picture::Hatching(_, _) => inside,
         Picture::Nothing => {
             let both = inside.both;
             let run = run_from(s, set.high, inside.at);
@@ -264,11 +298,17 @@ fn operators(
     motifs: &[usize; 704],
     held: usize,
     attrs: &mut [usize; 80],
+    own: &mut [u16; 66],
 ) -> Judged
     requires { ⌜ next ≤ length (now s) ⌝ }
     ensures { λ _. ⌜ length (now (attrs .exit)) ≡ length (now (attrs .entry)) ⌝ }
     ensures { λ r. ⌜ ((ms : List Motif) → length (now (attrs .entry)) ≡ 80 → Keeps (now (motifs .entry)) held ms
         → Judges (now (motifs .entry)) ms r (judgedInside (settingAs set) (now (s .entry)) (record { at = next; saved = 0; picture = scope.Picture.none; ops = [] }))) ⌝ }
+    ensures { λ _. ⌜ length (now (own .exit)) ≡ length (now (own .entry)) ⌝ }
+    ensures { λ _. ⌜ ((ms : List Motif) (ops : List Own) → length (now (attrs .entry)) ≡ 80 → Keeps (now (motifs .entry)) held ms
+        → numbersIn (now (own .entry)) 0 ≡ []
+        → judgedInside (settingAs set) (now (s .entry)) (record { at = next; saved = 0; picture = scope.Picture.none; ops = [] }) ≡ scope.valid ops
+        → Notes (now (own .exit)) ops) ⌝ }
 {
     let mut inside = Inside {
         at: next,
@@ -280,7 +320,7 @@ fn operators(
     };
     loop {
         let from = past_run(s, set, inside);
-        match advance(s, set, from, motifs, held, attrs) {
+        match advance(s, set, from, motifs, held, attrs, own) {
             Turn::Go(on) => {
                 inside = on;
             }
@@ -307,9 +347,18 @@ fn same_class(a: Class, b: Class) -> bool
     }
 }
 
-// A motif of a job with this setting, where the table keeps these. It has the job's class, else 4.
-pub fn judge_motif(s: &[u8], set: Setting, motifs: &[usize; 704], held: usize) -> Judged
+// A motif of a job with this setting, where the table keeps these; what it selects itself is noted in `own`. It has the job's class, else 4.
+pub fn judge_noting(
+    s: &[u8],
+    set: Setting,
+    motifs: &[usize; 704],
+    held: usize,
+    own: &mut [u16; 66],
+) -> Judged
+    ensures { λ _. ⌜ length (now (own .exit)) ≡ length (now (own .entry)) ⌝ }
     ensures { λ r. ⌜ ((ms : List Motif) → Keeps (now (motifs .entry)) held ms → Judges (now (motifs .entry)) ms r (motifOf (settingAs set) (now (s .entry)))) ⌝ }
+    ensures { λ _. ⌜ ((ms : List Motif) (ops : List Own) → Keeps (now (motifs .entry)) held ms → numbersIn (now (own .entry)) 0 ≡ []
+        → motifOf (settingAs set) (now (s .entry)) ≡ scope.valid ops → numbersIn (now (own .exit)) 0 ≡ collected (selectsIn ops)) ⌝ }
 {
     let mut attrs = [0usize; 80];
     match header::header_of(s) {
@@ -319,12 +368,20 @@ pub fn judge_motif(s: &[u8], set: Setting, motifs: &[usize; 704], held: usize) -
             if !same_class(class, of_job) {
                 return Judged::Faulty(4, 12);
             }
-            let own = Setting {
+            let of_motif = Setting {
                 class: of_job,
                 high,
                 gray: set.gray,
             };
-            operators(s, own, next, motifs, held, &mut attrs)
+            operators(s, of_motif, next, motifs, held, &mut attrs, own)
         }
     }
+}
+
+// A motif of a job with this setting, where the table keeps these. It has the job's class, else 4.
+pub fn judge_motif(s: &[u8], set: Setting, motifs: &[usize; 704], held: usize) -> Judged
+    ensures { λ r. ⌜ ((ms : List Motif) → Keeps (now (motifs .entry)) held ms → Judges (now (motifs .entry)) ms r (motifOf (settingAs set) (now (s .entry)))) ⌝ }
+{
+    let mut own = [0u16; 66];
+    judge_noting(s, set, motifs, held, &mut own)
 }

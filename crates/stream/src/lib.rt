@@ -5,3 +5,4 @@ mod lines;
 pub use judging::Judged;
 pub use judging::Made;
 pub use judging::judge_motif;
+pub use judging::judge_noting;

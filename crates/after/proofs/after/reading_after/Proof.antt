@@ -24,13 +24,20 @@ returns : tie.Need-returns
 returns c =
     let j = c .before .before in
     let e = j .before .before in
-    let a = e .before .before .before .before .args in
+    let a = e .before .before .before .before .before .args in
     let b = j .join-block in
     let s = a .stream in
     let l : length (b .last .1 .1 .0) ≡ length (a .work .now) =
-    rw (b .ensures .0) (block-long (a .job .now) (a .work .now) (a .o .first) (a .o .length) (a .kept .used + s .joined)) in (
-      record { work-long = l; table-long = refl; rest = rw (b .ensures .0) (block-past (a .job .now) (a .work .now) (a .o .first) (a .o .length) (a .kept .used + s .joined)) },
-      λ attrs page. block-after (a .job .now) attrs (settingAs (a .set)) (a .o) (a .work .now) (a .motifs .now) (b .last .1 .1 .0) (b .result) l (e .if1 .taken) (b .ensures .1),
+    rw (b .ensures .0) (block-long (a .job .now) (a .work .now) (a .o .first) (a .o .length) (s .kept .used + s .joined)) in (
+      record {
+        work-long = l;
+        table-long = refl;
+        patterns-long = refl;
+        rest = rw (b .ensures .0) (block-past (a .job .now) (a .work .now) (a .o .first) (a .o .length) (s .kept .used + s .joined));
+      },
+      λ attrs page. block-after (a .job .now) attrs (settingAs (a .set)) (a .o) (a .work .now) (a .motifs .now) (a .patterns .now)
+          (b .last .1 .1 .0) (b .result) l (e .if1 .taken)
+          (b .ensures .1),
     )
 
 lies-requires : tie.Need-lies-requires
@@ -38,9 +45,9 @@ lies-requires c κs = search needs
 
 returns-2 : tie.Need-returns-2
 returns-2 c =
-    let a = c .before .before .before .before .before .before .args in (
-      record { work-long = refl; table-long = refl; rest = refl },
-      λ attrs page. nameless-after (a .job .now) attrs (settingAs (a .set)) (a .o) (a .work .now) (a .motifs .now)
+    let a = c .before .before .before .before .before .before .before .args in (
+      record { work-long = refl; table-long = refl; patterns-long = refl; rest = refl },
+      λ attrs page. nameless-after (a .job .now) attrs (settingAs (a .set)) (a .o) (a .work .now) (a .motifs .now) (a .patterns .now)
           (λ h. true≢false (sym (c .before .lies .ensures .1 h) ∙ not-true _ (c .if2 .taken))),
     )
 
@@ -69,9 +76,9 @@ same-length-2 c = search needs
 returns-3 : tie.Need-returns-3
 returns-3 c =
     let d = c .before .before in
-    let e = d .before .before .before .before in
+    let e = d .before .before .before .before .before in
     let n = e .before .before in
-    let a = n .before .before .before .before .args in
+    let a = n .before .before .before .before .before .args in
     let s = a .stream in
     let l : s .first + s .count - s .first ≡ s .count = omega arith in (
       d .ended .ensures .0,

@@ -21,13 +21,15 @@ returns : tie.Need-returns
 returns c =
     let f = c .before .before .before .before .find in
     let a = c .before .before .before .before .before .before .args in
-    λ ms h. calls-at (a .name .now) (h .keeps) (rw (c .before .before .i .given .1) at (f .ensures .1 .1 ms (h .keeps))) (λ m r. c .of-row .ensures ms m h r)
+    λ ms h s w.
+    calls-at (a .name .now) (h .keeps) (rw (c .before .before .i .given .1) at (f .ensures .1 .1 ms (h .keeps)))
+    (λ m r. c .of-row .ensures ms m h s w r)
 
 returns-2 : tie.Need-returns-2
 returns-2 c =
     let f = c .before .before .find in
     let a = c .before .before .before .before .args in
-    λ ms h. calls-nowhere (a .name .now) (rw (c .enum-told .given .1) at (f .ensures .1 .1 ms (h .keeps)))
+    λ ms h s w. calls-nowhere (a .name .now) (rw (c .enum-told .given .1) at (f .ensures .1 .1 ms (h .keeps)))
 
 pub call-of-spec : {M : Type 1} → statement M
 call-of-spec =

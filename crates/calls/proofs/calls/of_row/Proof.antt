@@ -17,26 +17,31 @@ mul-if1-2 c = search needs
 element-copy-out-if1 : tie.Need-element-copy-out-if1
 element-copy-out-if1 c = search needs
 
-mul-t11 : tie.Need-mul-t11
-mul-t11 c = search needs
+mul-t12 : tie.Need-mul-t12
+mul-t12 c = search needs
 
-add-t12 : tie.Need-add-t12
-add-t12 c = search needs
+add-t13 : tie.Need-add-t13
+add-t13 c = search needs
 
-mul-t13 : tie.Need-mul-t13
-mul-t13 c = search needs
+mul-t14 : tie.Need-mul-t14
+mul-t14 c = search needs
 
-element-copy-out-t16 : tie.Need-element-copy-out-t16
-element-copy-out-t16 c = search needs
+element-copy-out-t17 : tie.Need-element-copy-out-t17
+element-copy-out-t17 c = search needs
+
+is-bare-requires : tie.Need-is-bare-requires
+is-bare-requires c κs = search needs
 
 returns : tie.Need-returns
-returns c = λ ms m h r. calls-level (h .settled) r (c .before .if1 .taken)
+returns c =
+    let t = c .before .before .if1 .taken in
+    λ ms m h s w r. calls-level (h .settled) r t (c .is-bare .ensures ms m h s w r t)
 
 why-not-requires : tie.Need-why-not-requires
 why-not-requires c κs = search needs
 
 returns-2 : tie.Need-returns-2
-returns-2 c = λ ms m h r. c .why-not .ensures ms m h r (c .before .if1 .left)
+returns-2 c = λ ms m h s w r. c .why-not .ensures _ _ ms m h r (c .before .if1 .left)
 
 pub of-row-spec : {M : Type 1} → statement M
 of-row-spec =
@@ -46,10 +51,11 @@ of-row-spec =
     add-if1
     mul-if1-2
     element-copy-out-if1
-    mul-t11
-    add-t12
-    mul-t13
-    element-copy-out-t16
+    mul-t12
+    add-t13
+    mul-t14
+    element-copy-out-t17
+    is-bare-requires
     returns
     why-not-requires
     returns-2)

@@ -1,19 +1,11 @@
 -- `why_not`: by the tests; what is left is a call below 32.
 -- Assumes nothing.
-use Prim.Native.Nat.{ℕ, _≤_}
-use mathlib.Core.Path.{_≡_, sym, _∙_}
-use mathlib.Core.List.{List}
+use mathlib.Core.Path.{sym, _∙_}
 use borrow.Author.Needs.{needs}
-use Rattle.scope.specs.Motif.{Motif}
-use Rattle.motif.specs.Tables.{Tables}
 use Rattle.calls.specs.Judged.{calls-missing, calls-again}
-use Rattle.calls.proofs.Refusing.{calls-left}
+use Rattle.calls.proofs.Refusing.{used, calls-left}
 use Rattle.calls.proofs.why.why_not.Statement.{statement}
 use Rattle.calls.proofs.why.why_not.Tie as tie
-
--- the rows in use are those held
-used : {t : List ℕ} {held n : ℕ} {ms : List Motif} → (held ≤ 64 → n ≡ held) → Tables t held ms → Tables t n ms
-used e h = rw (e (h .keeps .most)) h
 
 in-use-requires : tie.Need-in-use-requires
 in-use-requires c κs = search needs
@@ -24,7 +16,7 @@ loses-requires c κs = search needs
 returns : tie.Need-returns
 returns c =
     let n = c .before .before .in-use .ensures .1 .1 in
-    λ ms m h r e. calls-missing (sym (c .before .loses .ensures ms m (used n h) r) ∙ c .if1 .taken)
+    λ ofPage ofSession ms m h r e. calls-missing (sym (c .before .loses .ensures ms m (used n h) r) ∙ c .if1 .taken)
 
 turns-requires : tie.Need-turns-requires
 turns-requires c κs = search needs
@@ -32,14 +24,14 @@ turns-requires c κs = search needs
 returns-2 : tie.Need-returns-2
 returns-2 c =
     let n = c .before .before .before .before .in-use .ensures .1 .1 in
-    λ ms m h r e.
+    λ ofPage ofSession ms m h r e.
     calls-again (sym (c .before .before .before .loses .ensures ms m (used n h) r) ∙ c .before .before .if1 .left)
     (sym (c .before .turns .ensures ms m (used n h) r) ∙ c .if2 .taken)
 
 returns-3 : tie.Need-returns-3
 returns-3 c =
     let n = c .before .before .before .before .in-use .ensures .1 .1 in
-    λ ms m h r e.
+    λ ofPage ofSession ms m h r e.
     calls-left (h .settled) r e (sym (c .before .before .before .loses .ensures ms m (used n h) r) ∙ c .before .before .if1 .left)
     (sym (c .before .turns .ensures ms m (used n h) r) ∙ c .if2 .left)
 

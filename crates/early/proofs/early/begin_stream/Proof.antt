@@ -13,7 +13,7 @@ use Rattle.early.proofs.early.begin_stream.Tie as tie
 returns : tie.Need-returns
 returns c =
     let a = c .before .before .args in
-    λ set x k z t. begin-few set (a .motifs .now) (a .job .now) (a .attrs .now) x (a .o) t (rows-length (k .rows)) (c .if1 .taken)
+    λ set p x k z t. begin-few set (a .motifs .now) p (a .job .now) (a .attrs .now) x (a .o) t (rows-length (k .rows)) (c .if1 .taken)
 
 name-in-requires : tie.Need-name-in-requires
 name-in-requires c κs = search needs
@@ -46,7 +46,7 @@ returns-2 c =
     let a = n .before .before .before .args in
     let r = n .name-in .result in
     let l : r .first + r .count - r .first ≡ r .count = omega arith in
-    λ set x k z t. begin-at set (a .motifs .now) (a .job .now) (a .attrs .now) x (a .o) t (part-same (a .job .now) (r .first) l ∙ n .name-in .ensures .1 z)
+    λ set p x k z t. begin-at set (a .motifs .now) p (a .job .now) (a .attrs .now) x (a .o) t (part-same (a .job .now) (r .first) l ∙ n .name-in .ensures .1 z)
     (rw (c .enum-told .given .1) at (f .find .ensures .1 .1 (x .held) k))
 
 returns-3 : tie.Need-returns-3
@@ -56,7 +56,7 @@ returns-3 c =
     let a = n .before .before .before .args in
     let r = n .name-in .result in
     let l : r .first + r .count - r .first ≡ r .count = omega arith in
-    λ set x k z t. begin-nowhere set (a .motifs .now) (a .job .now) (a .attrs .now) x (a .o) t (rows-length (k .rows)) (n .before .if1 .left)
+    λ set p x k z t. begin-nowhere set (a .motifs .now) p (a .job .now) (a .attrs .now) x (a .o) t (rows-length (k .rows)) (n .before .if1 .left)
     (part-same (a .job .now) (r .first) l ∙ n .name-in .ensures .1 z) (rw (c .enum-told2 .given .1) at (f .find .ensures .1 .1 (x .held) k))
 
 pub begin-stream-spec : {M : Type 1} → statement M

@@ -1,5 +1,8 @@
 -- `early::early_of` meets its contract: between sessions nothing is judged.
 -- Assumes nothing.
+use mathlib.Core.Path.{refl}
+use Rattle.patterns.specs.Numbers.{OfMotif}
+use Rattle.early.proofs.Places.{unchanged}
 use Rattle.setting.specs.Views.{settingAs}
 use Rattle.early.proofs.Breaking.{outer-fine, inner-early}
 use borrow.Author.Needs.{needs}
@@ -18,13 +21,14 @@ inside-early-requires c κs = search needs
 returns : tie.Need-returns
 returns c =
     let a = c .before .before .before .before .args in
-    rw (c .enum-told .given .1) (λ q st h s w m. outer-fine (settingAs (a .set)) (a .attrs .now) q (a .o) st h m)
+    (unchanged _ OfMotif, (refl, rw (c .enum-told .given .1) (λ q st h s w m. outer-fine (settingAs (a .set)) (a .attrs .now) q (a .o) st h m)))
 
 returns-2 : tie.Need-returns-2
 returns-2 c =
-    let b = c .before .before in
+    let b = c .before .before .before in
     let a = b .before .before .before .before .args in
-    rw (b .place .given .1) (λ q st h s w m. inner-early (settingAs (a .set)) q (a .o) st (c .inside-early .result) (c .inside-early .ensures) h s w m)
+    let f = c .inside-early .ensures in
+    (f .0, (f .1 .0, rw (b .place .given .1) (λ q st h s w m. inner-early (settingAs (a .set)) q (a .o) st (c .inside-early .result) (f .1 .1) h s w m)))
 
 pub early-of-spec : {M : Type 1} → statement M
 early-of-spec =

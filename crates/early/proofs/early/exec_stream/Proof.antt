@@ -18,13 +18,15 @@ returns : tie.Need-returns
 returns c =
     let f = c .before .before .before in
     let a = f .before .before .args in
-    λ set job attrs x o k e t. exec-sum set (a .motifs .now) job attrs x o t e (rw (c .before .sum .given .1) at (f .call-of .ensures (x .held) k))
+    λ set p job attrs x o k s h e t. exec-sum set (a .motifs .now) p job attrs x o t h e
+    (rw (c .before .sum .given .1) at (f .call-of .ensures (x .held) k s (h .few)))
 
 returns-2 : tie.Need-returns-2
 returns-2 c =
     let f = c .before .before .before in
     let a = f .before .before .args in
-    λ set job attrs x o k e t. exec-no set (a .motifs .now) job attrs x o t e (rw (c .before .code .given .1) at (f .call-of .ensures (x .held) k))
+    λ set p job attrs x o k s h e t. exec-no set (a .motifs .now) p job attrs x o t e
+    (rw (c .before .code .given .1) at (f .call-of .ensures (x .held) k s (h .few)))
 
 pub exec-stream-spec : {M : Type 1} → statement M
 exec-stream-spec =

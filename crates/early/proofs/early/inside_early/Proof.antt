@@ -1,5 +1,8 @@
 -- `early::inside_early` meets its contract: case by case of what the session is at.
 -- Assumes nothing.
+use mathlib.Core.Path.{refl}
+use Rattle.patterns.specs.Numbers.{OfMotif}
+use Rattle.early.proofs.Places.{unchanged, drawn-hatched}
 use Rattle.setting.specs.Views.{settingAs}
 use Rattle.place.proofs.Standing.{rest-phase, is-drawn}
 use borrow.Author.Needs.{needs}
@@ -26,19 +29,38 @@ drawing-early-requires c κs = search needs
 
 returns : tie.Need-returns
 returns c =
-    let a = c .before .before .before .before .before .args in
-    rw (c .before .enum-told .given .1) (λ x k y s w m. c .resting-early .ensures (settingAs (a .set)) x (k .tables .keeps) s (rw (← rest-phase y) at m))
+    let a = c .before .before .before .before .before .args in (
+      unchanged _ OfMotif,
+      (
+        refl,
+        rw (c .before .enum-told .given .1)
+            (λ x k h y s w m. c .resting-early .ensures (settingAs (a .set)) (a .patterns .now) x (k .tables .keeps) s (rw (← rest-phase y) at m)),
+      ),
+    )
 
 returns-2 : tie.Need-returns-2
 returns-2 c =
-    let b = c .before .before in
-    let a = b .before .before .before .before .args in
-    rw (b .busy .given .1) (λ x k y s w m. c .reading-early .ensures (a .job .now) (a .attrs .now) x _ _ k y w m)
+    let b = c .before .before .before in
+    let a = b .before .before .before .before .args in (
+      c .reading-early .ensures .0,
+      (
+        c .reading-early .ensures .1 .0,
+        rw (b .busy .given .1)
+            (λ x k h y s w m. c .reading-early .ensures .1 .1 (a .job .now) (a .attrs .now) x _ _ k y w m),
+      ),
+    )
 
 returns-3 : tie.Need-returns-3
 returns-3 c =
-    let a = c .before .before .before .before .before .args in
-    rw (c .before .enum-told2 .given .1) (λ x k y s w m. c .drawing-early .ensures (settingAs (a .set)) x (k .tables) s (is-drawn y) m)
+    let b = c .before .before in
+    let a = b .before .before .before .before .args in (
+      unchanged _ OfMotif,
+      (
+        refl,
+        rw (b .enum-told2 .given .1)
+            (λ x k h y s w m. c .drawing-early .ensures (a .patterns .now) x (k .tables) (h .selects) (drawn-hatched h y) s (is-drawn y) m),
+      ),
+    )
 
 pub inside-early-spec : {M : Type 1} → statement M
 inside-early-spec =

@@ -21,13 +21,13 @@ enum-known-busy : tie.Need-enum-known-busy
 enum-known-busy c = search needs
 
 returns : tie.Need-returns
-returns c = rw (c .before .enum-told .given .1) (λ q job work kept ms h. rest-page (c .blank .ensures) h)
+returns c = rw (c .before .enum-told .given .1) (λ q job work p kept ms h. rest-page (c .blank .ensures) h)
 
 returns-2 : tie.Need-returns-2
-returns-2 c = rw (c .before .enum-told2 .given .1) (λ q job work kept ms h. stream-page (c .blank2 .ensures) h)
+returns-2 c = rw (c .before .enum-told2 .given .1) (λ q job work p kept ms h. stream-page (c .blank2 .ensures) h)
 
 returns-3 : tie.Need-returns-3
-returns-3 c = rw (c .before .busy .given .1) (λ q job work kept ms h. drawn-page h)
+returns-3 c = rw (c .before .busy .given .1) (λ q job work p kept ms h. drawn-page h)
 
 pub page-busy-spec : {M : Type 1} → statement M
 page-busy-spec =

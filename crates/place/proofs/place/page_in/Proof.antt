@@ -18,10 +18,10 @@ page-busy-requires : tie.Need-page-busy-requires
 page-busy-requires c κs = search needs
 
 returns : tie.Need-returns
-returns c = rw (c .before .enum-told .given .1) (λ q set job work t h. outer-page (c .blank .ensures) h)
+returns c = rw (c .before .enum-told .given .1) (λ q set job work t p h. outer-page (c .blank .ensures) h)
 
 returns-2 : tie.Need-returns-2
-returns-2 c = rw (c .before .before .place .given .1) (λ q set job work t h. inner-page (c .page-busy .result) (c .page-busy .ensures) h)
+returns-2 c = rw (c .before .before .place .given .1) (λ q set job work t p h. inner-page (c .page-busy .result) (c .page-busy .ensures) h)
 
 pub page-in-spec : {M : Type 1} → statement M
 page-in-spec =

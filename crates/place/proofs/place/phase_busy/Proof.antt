@@ -18,10 +18,10 @@ phase-drawing-requires : tie.Need-phase-drawing-requires
 phase-drawing-requires c κs = search needs
 
 returns : tie.Need-returns
-returns c = rw (c .enum-told .given .1) (λ q job work kept ms h. rest-phase h)
+returns c = rw (c .enum-told .given .1) (λ q job work p kept ms h. rest-phase h)
 
 returns-2 : tie.Need-returns-2
-returns-2 c = rw (c .enum-told2 .given .1) (λ q job work kept ms h. stream-phase h)
+returns-2 c = rw (c .enum-told2 .given .1) (λ q job work p kept ms h. stream-phase h)
 
 returns-3 : tie.Need-returns-3
 returns-3 c = rw (c .before .before .busy .given .1) (c .phase-drawing .ensures)

@@ -15,10 +15,10 @@ phase-busy-requires : tie.Need-phase-busy-requires
 phase-busy-requires c κs = search needs
 
 returns : tie.Need-returns
-returns c = rw (c .enum-told .given .1) (λ q set job work t h. outer-phase h)
+returns c = rw (c .enum-told .given .1) (λ q set job work t p h. outer-phase h)
 
 returns-2 : tie.Need-returns-2
-returns-2 c = rw (c .before .before .place .given .1) (λ q set job work t h. inner-phase (c .phase-busy .result) (c .phase-busy .ensures) h)
+returns-2 c = rw (c .before .before .place .given .1) (λ q set job work t p h. inner-phase (c .phase-busy .result) (c .phase-busy .ensures) h)
 
 pub phase-of-spec : {M : Type 1} → statement M
 phase-of-spec =

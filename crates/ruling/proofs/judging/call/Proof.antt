@@ -22,10 +22,10 @@ call-requires c κs = search needs
 returns : tie.Need-returns
 returns c =
     let a = c .before .before .before .before .args in
-    λ q st by job work t o h e f.
+    λ q st by job work t p o h e f.
     call-judged by job st (sessionOf q) o (c .before .before .opened-in .result) (a .performed) (c .call .result)
-    (c .before .before .opened-in .ensures q by job work t h) e t (a .sum) f
-    (λ row k. c .call .ensures _ _ row (c .before .before .before .page-in .ensures q by job work t h) refl (c .before .unpacked .ensures row k))
+    (c .before .before .opened-in .ensures q by job work t p h) e t p (a .sum) (a .bare) f
+    (λ row k. c .call .ensures _ _ row (c .before .before .before .page-in .ensures q by job work t p h) refl (c .before .unpacked .ensures row k))
 
 pub call-spec : {M : Type 1} → statement M
 call-spec =

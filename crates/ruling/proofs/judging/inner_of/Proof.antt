@@ -10,7 +10,7 @@ use borrow.Author.Needs.{needs}
 use Rattle.ruling.proofs.judging.inner_of.Statement.{statement}
 use Rattle.ruling.proofs.judging.inner_of.Tie as tie
 
-fits : {t : List ℕ} {c : Case} {code inner : ℕ} → Earlies t c (No code inner) → inner < 4_294_967_296
+fits : {t p : List ℕ} {c : Case} {code inner : ℕ} → Earlies t p c (No code inner) → inner < 4_294_967_296
 fits (early-no f l) = l
 
 enum-told : tie.Need-enum-told
@@ -29,16 +29,16 @@ cast-result : tie.Need-cast-result
 cast-result c = search needs
 
 returns : tie.Need-returns
-returns c t k e = rw (c .enum-told .given .1)
+returns c t p k e = rw (c .enum-told .given .1)
 
 returns-2 : tie.Need-returns-2
-returns-2 c t k e = rw (c .enum-told2 .given .1)
+returns-2 c t p k e = rw (c .enum-told2 .given .1)
 
 returns-3 : tie.Need-returns-3
-returns-3 c t k e = rw (c .enum-told3 .given .1)
+returns-3 c t p k e = rw (c .enum-told3 .given .1)
 
 returns-4 : tie.Need-returns-4
-returns-4 c t k e = rw (c .before .early .given .1) (let l = fits (rw (c .before .early .given .1) at e) in omega arith)
+returns-4 c t p k e = rw (c .before .early .given .1) (let l = fits (rw (c .before .early .given .1) at e) in omega arith)
 
 pub inner-of-spec : {M : Type 1} → statement M
 inner-of-spec =

@@ -4,9 +4,12 @@ use mathlib.Core.Path.{sym, ap, _∙_}
 use Rattle.setting.specs.Views.{settingAs}
 use Rattle.arm.specs.Views.{keeping}
 use Rattle.reader.specs.Reads.{operatorAs}
+use mathlib.Core.Bool.{false}
+use Rattle.scope.specs.Arm.{Act}
 use Rattle.scope.specs.Session.{sessionOf}
 use Rattle.act.proofs.Operators.{act-is, plain-keeps}
 use Rattle.ruling.proofs.Ruling.{plain-judged}
+use Rattle.ruling.proofs.Selecting.{selects-none, bare-is}
 use borrow.Author.Needs.{needs}
 use Rattle.ruling.proofs.judging.perform.Statement.{statement}
 use Rattle.ruling.proofs.judging.perform.Tie as tie
@@ -31,12 +34,13 @@ returns c =
     let p = c .before .before .before in
     let i = p .before in
     let a = i .before .before .before .args in
-    λ q st work t h z e y u.
+    λ q st work t h z e m y u.
     let o = operatorAs (a .o) (a .attrs .now) in
-    plain-judged (settingAs (a .set)) (a .job .now) st (sessionOf q) o (i .opened-in .result) (a .performed) (c .keep .result)
-    (i .opened-in .ensures q (settingAs (a .set)) (a .job .now) work t h) e u y
-    (c .keep .ensures _ _ (i .before .page-in .ensures q (settingAs (a .set)) (a .job .now) work t h)
-    (plain-keeps (settingAs (a .set)) (a .job .now) o (sym (p .is-plain .ensures) ∙ c .before .before .if1 .taken) ∙ ap (keeping (a .o .reads)) (sym (c .before .needs-cursor .ensures))))
+    let set = settingAs (a .set) in
+    let k = plain-keeps set (a .job .now) o (sym (p .is-plain .ensures) ∙ c .before .before .if1 .taken) in
+    plain-judged set (a .job .now) st (sessionOf q) o (i .opened-in .result) (a .performed) (c .keep .result) (i .opened-in .ensures q set (a .job .now) work t _ h) e u y
+    false (selects-none set (a .job .now) st (sessionOf q) o y (ap (λ (x : Act). x .select) k))
+    (c .keep .ensures _ _ (i .before .page-in .ensures q set (a .job .now) work t _ h) (k ∙ ap (keeping (a .o .reads)) (sym (c .before .needs-cursor .ensures))))
 
 act-of-requires : tie.Need-act-of-requires
 act-of-requires c κs = search needs
@@ -44,15 +48,21 @@ act-of-requires c κs = search needs
 perform-requires : tie.Need-perform-requires
 perform-requires c κs = search needs
 
+bare-of-requires : tie.Need-bare-of-requires
+bare-of-requires c κs = search needs
+
 returns-2 : tie.Need-returns-2
 returns-2 c =
-    let i = c .before .before .before .before in
+    let b = c .before in
+    let i = b .before .before .before .before in
     let a = i .before .before .before .args in
-    λ q st work t h z e y u.
+    λ q st work t h z e m y u.
     let o = operatorAs (a .o) (a .attrs .now) in
-    plain-judged (settingAs (a .set)) (a .job .now) st (sessionOf q) o (i .opened-in .result) (a .performed) (c .perform .result)
-    (i .opened-in .ensures q (settingAs (a .set)) (a .job .now) work t h) e u y
-    (c .perform .ensures _ _ (i .before .page-in .ensures q (settingAs (a .set)) (a .job .now) work t h) (sym (c .before .act-of .ensures z ∙ act-is (settingAs (a .set)) (a .job .now) o)))
+    let set = settingAs (a .set) in
+    let k = b .before .act-of .ensures z ∙ act-is set (a .job .now) o in
+    plain-judged set (a .job .now) st (sessionOf q) o (i .opened-in .result) (a .performed) (c .perform .result) (i .opened-in .ensures q set (a .job .now) work t _ h) e u y
+    (b .bare-of .result) (bare-is set (a .job .now) o (a .patterns .now) st (b .bare-of .result) _ h m y k (b .bare-of .ensures))
+    (c .perform .ensures _ _ (i .before .page-in .ensures q set (a .job .now) work t _ h) (sym k))
 
 pub perform-spec : {M : Type 1} → statement M
 perform-spec =
@@ -65,5 +75,6 @@ perform-spec =
     keep-requires
     returns
     act-of-requires
+    bare-of-requires
     perform-requires
     returns-2)

@@ -72,8 +72,8 @@ returns-3 c =
             on = omega arith;
             within = λ h. omega arith;
             counted = omega arith;
-            leads = λ list₀ table work set d order e h.
-                one-alone (a .job .now) list₀ table work (a .list .now) (k .list-alone .last .0) set opened kept (a .from) (n .next .given .0 .0) _ (omega arith) refl (omega arith) e
+            leads = λ list₀ table patterns work set d order e h.
+                one-alone (a .job .now) list₀ table patterns work (a .list .now) (k .list-alone .last .0) set opened kept (a .from) (n .next .given .0 .0) _ (omega arith) refl (omega arith) e
                 (sym f ∙ k .list-alone .ensures .0) (rw f at (k .list-alone .ensures .1)) (rw (n .next .given .1) at (s .past .ensures)) d h;
           },
     )

@@ -101,8 +101,8 @@ returns-4 c =
             on = omega arith;
             within = λ h. omega arith;
             counted = omega arith;
-            leads = λ list₀ table work set d order e h.
-                one-line (a .job .now) list₀ table work (a .list .now) (k .list-one .last .0) set opened kept (a .from) (o .op .given .0 .0) (rw (sym order) at (found o)) (omega arith)
+            leads = λ list₀ table patterns work set d order e h.
+                one-line (a .job .now) list₀ table patterns work (a .list .now) (k .list-one .last .0) set opened kept (a .from) (o .op .given .0 .0) (rw (sym order) at (found o)) (omega arith)
                 (not-false _ (m .before .if1 .left)) e (sym f ∙ k .list-one .ensures .0) (rw f at (k .list-one .ensures .1)) d h;
           },
     )

@@ -26,6 +26,9 @@ enum-told-4 c = search needs
 enum-told-5 : tie.Need-enum-told-5
 enum-told-5 c = search needs
 
+enum-told-6 : tie.Need-enum-told-6
+enum-told-6 c = search needs
+
 past-run-requires : tie.Need-past-run-requires
 past-run-requires c κs = search needs
 
@@ -41,15 +44,18 @@ returns-3 c = runs-none
 returns-4 : tie.Need-returns-4
 returns-4 c = runs-none
 
+returns-5 : tie.Need-returns-5
+returns-5 c = runs-none
+
 same-length : tie.Need-same-length
 same-length c = search needs
 
-returns-5 : tie.Need-returns-5
-returns-5 c =
+returns-6 : tie.Need-returns-6
+returns-6 c =
     let n = c .before .before .before .before in
     let b = n .before .before .before in
     let p = b .before .before .before in
-    c .before .before .past-run .ensures (rw (p .place .given .1, b .busy .given .1, n .enum-told5 .given .1))
+    c .before .before .past-run .ensures (rw (p .place .given .1, b .busy .given .1, n .enum-told6 .given .1))
 
 pub run-on-spec : {M : Type 1} → statement M
 run-on-spec =
@@ -62,10 +68,12 @@ run-on-spec =
     enum-known-busy
     enum-told-4
     enum-told-5
+    enum-told-6
     past-run-requires
     returns
     returns-2
     returns-3
     returns-4
+    returns-5
     same-length
-    returns-5)
+    returns-6)

@@ -40,8 +40,8 @@ read-is : (c : tie.After-operator-at) (r : CodeRead) → c .operator-at .result 
 read-is c r e list₀ l d z h =
     let a = begun c .args in
     sym (context-is (settingAs (a .set)) (a .job .now) (a .st .at) d (phaseAs (c .before .before .before .phase-of .result)) (c .before .before .opened-in .result) (h .at)
-    (c .before .before .before .phase-of .ensures (d .place) (settingAs (a .set)) (a .job .now) (l .work) (l .table) (h .place))
-    (c .before .before .opened-in .ensures (d .place) (settingAs (a .set)) (a .job .now) (l .work) (l .table) (h .place))) ∙ sym (c .operator-at .ensures .1 .0 z) ∙ ap (λ x. readAs x (c .operator-at .last .1 .1 .1 .0)) e
+    (c .before .before .before .phase-of .ensures (d .place) (settingAs (a .set)) (a .job .now) (l .work) (l .table) (l .patterns) (h .place))
+    (c .before .before .opened-in .ensures (d .place) (settingAs (a .set)) (a .job .now) (l .work) (l .table) (l .patterns) (h .place))) ∙ sym (c .operator-at .ensures .1 .0 z) ∙ ap (λ x. readAs x (c .operator-at .last .1 .1 .1 .0)) e
 
 is-over-requires : tie.Need-is-over-requires
 is-over-requires c κs = search needs
@@ -64,9 +64,9 @@ returns c =
           λ d list₀ l z h.
               let set : Setting = settingAs (a .set) in
               let q = read-end (contextOf every (settingAs (a .set)) (d .place)) (a .job .now) (d .at) (omega (arith, c .before .before .before .is-over .ensures (c .before .before .if1 .taken), h .at)) in
-              stopped (c .stop .result) (jobStep every set (a .job .now) (length list₀) d) (endCode (d .place)) (length (a .job .now)) outer h (step-ended set (a .job .now) (length list₀) d q)
+              stopped (c .stop .result) (jobStep every set (a .job .now) (length list₀) d) (endCode (d .place)) (length (a .job .now)) outer (h .listed) (step-ended set (a .job .now) (length list₀) d q)
               (c .stop .ensures d (omega (arith, st .pre)) (omega (arith, st .pre)) (h .records) (h .performed)
-              ∙ ap (λ k. told (refusedAt k (length (a .job .now)) outer d)) (c .before .end-code .ensures (d .place) _ _ _ _ (h .place))),
+              ∙ ap (λ k. told (refusedAt k (length (a .job .now)) outer d)) (c .before .end-code .ensures (d .place) _ _ _ _ _ (h .place))),
         ),
       ),
     )
@@ -100,9 +100,9 @@ enum-known-o c = search needs
 
 perform-requires : tie.Need-perform-requires
 perform-requires c κs =
-    let f = c .before .before .before .before .before .before .before in
+    let f = c .before .before .before .before .before .before .before .before in
     let st = begun f in
-    let w = rw (c .before .before .before .before .before .o .given .1) at (f .operator-at .ensures .1 .1) in
+    let w = rw (c .before .before .before .before .before .before .o .given .1) at (f .operator-at .ensures .1 .1) in
     (st .pre .0, st .pre .1, w .0, w .1, w .2, w .4, st .pre .3)
 
 returns-2 : tie.Need-returns-2
@@ -119,7 +119,7 @@ returns-2 c =
               let set : Setting = settingAs (a .set) in
               let q = read-is f _ (c .before .before .code .given .1) list₀ _ d z h in
               let p = read-placed (contextOf every (settingAs (a .set)) (d .place)) (a .job .now) (d .at) _ _ q in
-              stopped (c .stop2 .result) (jobStep every set (a .job .now) (length list₀) d) _ _ outer h (step-no set (a .job .now) (length list₀) d _ _ q)
+              stopped (c .stop2 .result) (jobStep every set (a .job .now) (length list₀) d) _ _ outer (h .listed) (step-no set (a .job .now) (length list₀) d _ _ q)
               (c .stop2 .ensures d (omega (arith, p, st .pre)) (omega (arith, st .pre)) (h .records) (h .performed)),
         ),
       ),
@@ -138,9 +138,9 @@ returns-3 c =
           λ d list₀ l z h.
               let set : Setting = settingAs (a .set) in
               let q = read-is f _ (c .before .before .enum-told .given .1) list₀ _ d z h in
-              stopped (c .stop3 .result) (jobStep every set (a .job .now) (length list₀) d) (endCode (d .place)) (length (a .job .now)) outer h (step-ended set (a .job .now) (length list₀) d q)
+              stopped (c .stop3 .result) (jobStep every set (a .job .now) (length list₀) d) (endCode (d .place)) (length (a .job .now)) outer (h .listed) (step-ended set (a .job .now) (length list₀) d q)
               (c .stop3 .ensures d (omega (arith, st .pre)) (omega (arith, st .pre)) (h .records) (h .performed)
-              ∙ ap (λ k. told (refusedAt k (length (a .job .now)) outer d)) (c .before .end-code2 .ensures (d .place) _ _ _ _ (h .place))),
+              ∙ ap (λ k. told (refusedAt k (length (a .job .now)) outer d)) (c .before .end-code2 .ensures (d .place) _ _ _ _ _ (h .place))),
         ),
       ),
     )
@@ -154,10 +154,10 @@ same-length-2 c = search needs
 returns-4 : tie.Need-returns-4
 returns-4 c =
     let g = c .before .before .before .before in
-    let f = g .before .before .before .before .before .before .before .before in
+    let f = g .before .before .before .before .before .before .before .before .before in
     let st = begun f in
     let a = st .args in
-    let e = g .before .before .before .before .before .before .o .given .1 in
+    let e = g .before .before .before .before .before .before .before .o .given .1 in
     let w = rw e at (f .operator-at .ensures .1 .1) in (
       g .perform .ensures .0,
       (

@@ -16,10 +16,10 @@ enum-told : tie.Need-enum-told
 enum-told c = search needs
 
 returns : tie.Need-returns
-returns c = λ q by job work t h. c .pass-after .ensures ∙ sym (end-outside (rw (c .before .before .place .given .1) at h))
+returns c = λ q by job work t p h. c .pass-after .ensures ∙ sym (end-outside (rw (c .before .before .place .given .1) at h))
 
 returns-2 : tie.Need-returns-2
-returns-2 c = λ q by job work t h. sym (end-inside (rw (c .enum-told .given .1) at h))
+returns-2 c = λ q by job work t p h. sym (end-inside (rw (c .enum-told .given .1) at h))
 
 pub end-code-spec : {M : Type 1} → statement M
 end-code-spec =

@@ -25,16 +25,16 @@ same-length c = search needs
 returns : tie.Need-returns
 returns c =
     let e = c .before .before .before .before in
-    let st = e .before .before .before .before .before .before in
+    let st = e .before .before .before .before .before .before .before in
     let a = st .args in
     let f : e .list-operator .result ≡ false = not-true _ (c .before .if1 .taken) in (
       record { work-long = refl; list-long = e .list-operator .ensures .0; rest = refl },
       (
         tt,
         λ d list₀ l z w h m.
-            let o = operatorAs (a .o) (a .attrs .now) in
-            let y = e .list-operator .ensures .1 .0 z (comes-bytes (a .motifs .now) (a .job .now) list₀ (settingAs (a .set)) d o (a .passed .early) (a .passed .page) (a .passed .performed) m) in
-            listed-no (a .job .now) list₀ _ (a .st) d (settingAs (a .set)) o (a .o .count) h (sym (length-rows (a .attrs .now) (a .o .count))) l (m .rules) _ (c .stop .result)
+            let o = operatorAs (a .allowed .o) (a .attrs .now) in
+            let y = e .list-operator .ensures .1 .0 z (comes-bytes (a .motifs .now) (a .patterns .now) (a .job .now) list₀ (settingAs (a .set)) d o (a .allowed .passed .early) (a .allowed .passed .page) (a .allowed .performed) m) in
+            listed-no (a .job .now) list₀ _ (a .st) d (settingAs (a .set)) o (a .allowed .o .count) h (sym (length-rows (a .attrs .now) (a .allowed .o .count))) l (m .rules) _ (c .stop .result)
             (rw f at (y .1)) (sym f ∙ y .0)
             (c .stop .ensures d (omega (arith, st .pre)) (omega (arith, st .pre)) (h .records) (h .performed)),
       ),
@@ -43,11 +43,11 @@ returns c =
 place-after-requires : tie.Need-place-after-requires
 place-after-requires c κs = search needs
 
-add-t22 : tie.Need-add-t22
-add-t22 c = search needs
-
 add-t23 : tie.Need-add-t23
 add-t23 c = search needs
+
+add-t24 : tie.Need-add-t24
+add-t24 c = search needs
 
 same-length-2 : tie.Need-same-length-2
 same-length-2 c = search needs
@@ -58,21 +58,21 @@ same-length-3 c = search needs
 returns-2 : tie.Need-returns-2
 returns-2 c =
     let p = c .before .before .before .before in
-    let e = p .before .before .before .before .before .before in
-    let st = e .before .before .before .before .before .before in
+    let e = p .before .before .before .before .before .before .before in
+    let st = e .before .before .before .before .before .before .before in
     let a = st .args in
-    let f : e .list-operator .result ≡ true = not-false _ (p .before .before .before .if1 .left) in
+    let f : e .list-operator .result ≡ true = not-false _ (p .before .before .before .before .if1 .left) in
     let k = p .place-after .ensures in (
-      record { work-long = k .0; list-long = e .list-operator .ensures .0; rest = k .1 .1 .0 },
+      record { work-long = k .0; list-long = e .list-operator .ensures .0; rest = k .1 .1 .1 .0 },
       (
         (omega (arith, st .pre), omega (arith, st .pre), omega (arith, st .pre)),
         λ d list₀ l z w h m.
-            let o = operatorAs (a .o) (a .attrs .now) in
+            let o = operatorAs (a .allowed .o) (a .attrs .now) in
             let set : Setting = settingAs (a .set) in
-            let y = e .list-operator .ensures .1 .0 z (comes-bytes (a .motifs .now) (a .job .now) list₀ set d o (a .passed .early) (a .passed .page) (a .passed .performed) m) in
-            listed-go (a .job .now) list₀ _ (a .st) d set o (a .o .count) h (sym (length-rows (a .attrs .now) (a .o .count))) l (m .rules) _ _
+            let y = e .list-operator .ensures .1 .0 z (comes-bytes (a .motifs .now) (a .patterns .now) (a .job .now) list₀ set d o (a .allowed .passed .early) (a .allowed .passed .page) (a .allowed .performed) m) in
+            listed-go (a .job .now) list₀ _ (a .st) d set o (a .allowed .o .count) h (sym (length-rows (a .attrs .now) (a .allowed .o .count))) l (m .rules) _ _
             (sym f ∙ y .0) refl
-            (k .1 .1 .1 .keeps (d .place) d (comes-in (a .job .now) (a .attrs .now) _ _ list₀ set d (a .o) (a .passed .early) (a .passed .page) (a .passed .performed) (a .st .place) (h .place) z (h .table-long) (st .pre .1) w m))
+            (k .1 .1 .1 .1 .keeps (d .place) d (comes-in (a .job .now) (a .attrs .now) _ _ _ list₀ set d (a .allowed .o) (a .allowed .passed .early) (a .allowed .passed .page) (a .allowed .performed) (a .st .place) (h .place) z (h .table-long) (st .pre .1) w m))
             (m .counts) refl (rw f at (y .1)) (k .1 .0),
       ),
     )
@@ -86,8 +86,8 @@ go-on-spec =
     same-length
     returns
     place-after-requires
-    add-t22
     add-t23
+    add-t24
     same-length-2
     same-length-3
     returns-2)

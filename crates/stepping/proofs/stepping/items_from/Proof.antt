@@ -10,6 +10,7 @@ use Rattle.scope.specs.Judge as scope
 use Rattle.scope.specs.Judge.{judgedFrom}
 use Rattle.scope.specs.Verdict.{every}
 use Rattle.place.specs.Places.{outside-holds}
+use Rattle.place.proofs.Starting.{quiet-zeros}
 use Rattle.state.specs.Standing.{Stands}
 use Rattle.ruling.proofs.Turns.{starts, turned-go, turned-stop}
 use borrow.Author.Needs.{needs}
@@ -17,20 +18,20 @@ use Rattle.stepping.proofs.stepping.items_from.Statement.{statement}
 use Rattle.stepping.proofs.stepping.items_from.Tie as tie
 
 abbrev Inv-loop : tie.InvT-loop
-Inv-loop job set next work₀ list₀ motifs₀ attrs₀ st₀ work list motifs attrs st =
+Inv-loop job set next work₀ list₀ motifs₀ patterns₀ attrs₀ st₀ work list motifs patterns attrs st =
     (length work ≡ length work₀) × (length list ≡ length list₀) × (length attrs ≡ 80) × (st .at ≤ length job) × (st .records ≤ st .at * 17)
     × (drop 16384 work ≡ drop 16384 work₀)
-    × ((d : scope.State) × (Stands (settingAs set) job list₀ (record { table = motifs; work = work; list = list }) st d
+    × ((d : scope.State) × (Stands (settingAs set) job list₀ (record { table = motifs; patterns = patterns; work = work; list = list }) st d
     × (judgedFrom every (settingAs set) job (length list₀) d ≡ judgedFrom every (settingAs set) job (length list₀) (scope.starting next))))
 
 abbrev μ-loop : tie.MeasureT-loop
-μ-loop job set next work₀ list₀ motifs₀ attrs₀ st₀ work list motifs attrs st = length job - st .at
+μ-loop job set next work₀ list₀ motifs₀ patterns₀ attrs₀ st₀ work list motifs patterns attrs st = length job - st .at
 
 loop-holds : tie.Need-loop-holds Inv-loop μ-loop
 loop-holds c =
     let st = c .before .before .before in
     let a = st .args in
-    (refl, refl, refl, st .pre .2, omega arith, refl, (scope.starting (a .next), (starts (settingAs (a .set)) (a .job .now) (a .list .now) _ _ (a .next) refl outside-holds refl refl refl refl, refl)))
+    (refl, refl, refl, st .pre .2, omega arith, refl, (scope.starting (a .next), (starts (settingAs (a .set)) (a .job .now) (a .list .now) _ _ (a .next) refl (outside-holds (quiet-zeros 4423)) refl refl refl refl, refl)))
 
 run-on-requires : tie.Need-run-on-requires Inv-loop μ-loop
 run-on-requires c κs = search needs
@@ -48,7 +49,7 @@ past c =
 
 advance-requires : tie.Need-advance-requires Inv-loop μ-loop
 advance-requires c κs =
-    let p = past (c .before .before .before .before .before .before) in
+    let p = past (c .before .before .before .before .before .before .before) in
     (search needs, search needs, p .0, p .1)
 
 enum-known-on : tie.Need-enum-known-on Inv-loop μ-loop
@@ -58,13 +59,13 @@ loop-less : tie.Need-loop-less Inv-loop μ-loop
 loop-less c =
     let d = c .before .before .before .before .before .before .before in
     let p = rw (c .before .on .given .1) at (d .advance .ensures .1 .1 .0) in
-    let y = d .before .before .before .before .before .before .before .run-on .ensures .on in
+    let y = d .before .before .before .before .before .before .before .before .run-on .ensures .on in
     omega (arith, p)
 
 loop-again : tie.Need-loop-again Inv-loop μ-loop
 loop-again c =
     let d = c .before .before .before .before .before .before .before in
-    let r = d .before .before .before .before .before .before .before in
+    let r = d .before .before .before .before .before .before .before .before in
     let h = r .before .before in
     let i = h .loop .inv in
     let a = h .before .before .before .before .args in
@@ -72,7 +73,7 @@ loop-again c =
     let n = d .advance .ensures in
     let p = rw e at (n .1 .1 .0) in
     let set : Setting = settingAs (a .set) in
-    let g = r .run-on .ensures .leads (a .list .now) _ _ set (i .6 .0) refl (sym (i .1)) (i .6 .1 .0) in
+    let g = r .run-on .ensures .leads (a .list .now) _ _ _ set (i .6 .0) refl (sym (i .1)) (i .6 .1 .0) in
     let l = r .run-on .ensures .long ∙ i .1 in (
       n .0 .work-long ∙ i .0,
       n .0 .list-long ∙ l,
@@ -95,14 +96,14 @@ same-length-2 c = search needs
 returns : tie.Need-returns Inv-loop μ-loop
 returns c =
     let d = c .before .before .before .before .before .before .before in
-    let r = d .before .before .before .before .before .before .before in
+    let r = d .before .before .before .before .before .before .before .before in
     let h = r .before .before in
     let i = h .loop .inv in
     let a = h .before .before .before .before .args in
     let e = c .before .verdict .given .1 in
     let n = d .advance .ensures in
     let set : Setting = settingAs (a .set) in
-    let g = r .run-on .ensures .leads (a .list .now) _ _ set (i .6 .0) refl (sym (i .1)) (i .6 .1 .0) in
+    let g = r .run-on .ensures .leads (a .list .now) _ _ _ set (i .6 .0) refl (sym (i .1)) (i .6 .1 .0) in
     let l = r .run-on .ensures .long ∙ i .1 in (
       record { work-long = n .0 .work-long ∙ i .0; list-long = n .0 .list-long ∙ l; rest = n .0 .rest ∙ i .5 },
       turned-stop (a .job .now) (a .list .now) set _ _ _ (g .there) (g .judged ∙ i .6 .1 .1) (rw e at (n .1 .1 .1 (g .there) (a .list .now) (sym l) (i .2) (g .stands))),

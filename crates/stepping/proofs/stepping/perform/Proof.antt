@@ -10,7 +10,7 @@ use Rattle.scope.specs.Judge.{contextOf, refusedAt, onRead}
 use Rattle.scope.specs.Setting.{Setting}
 use Rattle.reader.specs.Reads.{operatorAs}
 use Rattle.ruling.specs.Judged.{innerOf}
-use Rattle.ruling.proofs.Turns.{read-may, stopped, step-refused, judged-refused, judged-rules, judged-page, judged-count, judged-passes}
+use Rattle.ruling.proofs.Turns.{read-may, stopped, step-refused, judged-refused, judged-rules, judged-page, judged-count, judged-passes, stands-kept}
 use borrow.Author.Needs.{needs}
 use Rattle.stepping.proofs.stepping.perform.Statement.{statement}
 use Rattle.stepping.proofs.stepping.perform.Tie as tie
@@ -43,8 +43,8 @@ returns : tie.Need-returns
 unfolding contextOf
 returns c =
     let j = c .before .before .before .before .before in
-    let e = j .before in
-    let st = e .before .before .before .before .before .before in
+    let e = j .before .before in
+    let st = e .before .before .before .before .before .before .before in
     let a = st .args in (
       record { work-long = refl; list-long = refl; rest = refl },
       (
@@ -52,11 +52,13 @@ returns c =
         λ d list₀ l z w h q.
             let o = operatorAs (a .o) (a .attrs .now) in
             let set : Setting = settingAs (a .set) in
-            let r = e .early-of .ensures (d .place) d (h .place) z (st .pre .1) (read-may (contextOf every (settingAs (a .set)) (d .place)) (a .job .now) (d .at) o q) in
-            let n = rw (c .before .before .before .code .given .1) at (j .judge .ensures (d .place) d _ _ (h .place) z (h .performed) r) in
-            stopped (c .stop .result) (onRead every set (a .job .now) (length list₀) d (operator o)) _ (a .o .at) (innerOf (e .early-of .result)) h
+            let m = read-may (contextOf every (settingAs (a .set)) (d .place)) (a .job .now) (d .at) o q in
+            let k = stands-kept (e .early-of .ensures .0) (e .early-of .ensures .1 .0) h in
+            let r = e .early-of .ensures .1 .1 (d .place) d (h .place) z (st .pre .1) m in
+            let n = rw (c .before .before .before .code .given .1) at (j .judge .ensures (d .place) d _ _ (k .place) z (h .performed) m r) in
+            stopped (c .stop .result) (onRead every set (a .job .now) (length list₀) d (operator o)) _ (a .o .at) (innerOf (e .early-of .result)) (h .listed)
             (step-refused set (a .job .now) (length list₀) d o _ _ (judged-refused n (length list₀)))
-            (c .stop .ensures d (omega (arith, st .pre)) (omega (arith, st .pre)) (h .records) (h .performed) ∙ ap (λ i. told (refusedAt (c .before .before .before .code .given .0 .0) (a .o .at) i d)) (c .before .inner-of .ensures _ _ r)),
+            (c .stop .ensures d (omega (arith, st .pre)) (omega (arith, st .pre)) (h .records) (h .performed) ∙ ap (λ i. told (refusedAt (c .before .before .before .code .given .0 .0) (a .o .at) i d)) (c .before .inner-of .ensures _ _ _ r)),
       ),
     )
 
@@ -70,18 +72,20 @@ returns-2 : tie.Need-returns-2
 unfolding contextOf
 returns-2 c =
     let g = c .before .before .before .before in
-    let j = g .before .before .before .before .before .before .before in
-    let e = j .before in
-    let st = e .before .before .before .before .before .before in
+    let j = g .before .before .before .before .before .before .before .before in
+    let e = j .before .before in
+    let st = e .before .before .before .before .before .before .before in
     let a = st .args in (
       g .go-on .ensures .0,
       (
         g .go-on .ensures .1 .0,
         λ d list₀ l z w h q.
             let o = operatorAs (a .o) (a .attrs .now) in
-            let r = e .early-of .ensures (d .place) d (h .place) z (st .pre .1) (read-may (contextOf every (settingAs (a .set)) (d .place)) (a .job .now) (d .at) o q) in
-            let n = rw (g .before .before .before .before .before .page .given .1) at (j .judge .ensures (d .place) d _ _ (h .place) z (h .performed) r) in
-            g .go-on .ensures .1 .1 d list₀ l z w h
+            let m = read-may (contextOf every (settingAs (a .set)) (d .place)) (a .job .now) (d .at) o q in
+            let k = stands-kept (e .early-of .ensures .0) (e .early-of .ensures .1 .0) h in
+            let r = e .early-of .ensures .1 .1 (d .place) d (h .place) z (st .pre .1) m in
+            let n = rw (g .before .before .before .before .before .before .page .given .1) at (j .judge .ensures (d .place) d _ _ (k .place) z (h .performed) m r) in
+            g .go-on .ensures .1 .1 d list₀ l z w k
             (record { read = q; passes = judged-passes (e .early-of .result) n r; earlier = r; drawn = judged-page n; counts = judged-count n; rules = judged-rules n (length list₀) }),
       ),
     )

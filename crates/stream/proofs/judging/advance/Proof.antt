@@ -11,7 +11,8 @@ use Rattle.scope.specs.Motif.{Motif, contextIn}
 use Rattle.order.specs.Views.{phaseAs}
 use Rattle.reader.specs.Reads.{readAs}
 use Rattle.stream.specs.Judging.{Follows}
-use Rattle.stream.proofs.Stepping.{context-is, rows-read, pop-read, step-no, step-ended, step-on, ahead}
+use Rattle.stream.proofs.Stepping.{context-is, rows-read, pop-read, step-no, step-ended, step-on, notes-no, notes-ended, notes-on, ahead}
+use Rattle.stream.proofs.Noting.{call-notes}
 use borrow.Author.Needs.{needs}
 use Rattle.stream.proofs.judging.advance.Statement.{statement}
 use Rattle.stream.proofs.judging.advance.Tie as tie
@@ -56,8 +57,15 @@ returns c =
       f .operator-at .ensures .0,
       (
         ahead (length (a .s .now)) (a .inside .at) (o .next) (a .inside .saved) (c .call .result) (omega arith) (v .2) (st .pre .1) (c .call .ensures .0),
-        λ ms w l k g. step-on (a .motifs .now) ms (settingAs (a .set)) (a .s .now) w _ _ (read-is f ms w l g ∙ rw e)
-            (c .call .ensures .1 (settingAs (a .set)) ms w (record { long = f .operator-at .ensures .0 ∙ l; few = v .4 }) k (c .before .before .if1 .taken) g),
+        (
+          λ ms w l k g. step-on (a .motifs .now) ms (settingAs (a .set)) (a .s .now) w _ _ (read-is f ms w l g ∙ rw e)
+              (c .call .ensures .1 (settingAs (a .set)) ms w (record { long = f .operator-at .ensures .0 ∙ l; few = v .4 }) k (c .before .before .if1 .taken) g),
+          (
+            refl,
+            λ ms w l g. notes-on (settingAs (a .set)) (a .s .now) w (a .own .now) (a .own .now) _ (rw e at (read-is f ms w l g))
+                (call-notes (settingAs (a .set)) (a .s .now) _ (a .own .now) (w .ops) (c .before .before .if1 .taken)),
+          ),
+        ),
       ),
     )
 
@@ -68,7 +76,16 @@ returns-2 : tie.Need-returns-2
 returns-2 c =
     let f = c .before .before .before in
     let a = f .before .before .before .before .args in
-    (f .operator-at .ensures .0, (tt, λ ms w l k g. step-no (a .motifs .now) ms (settingAs (a .set)) (a .s .now) w _ _ (read-is f ms w l g ∙ rw (c .before .code .given .1))))
+    let e = c .before .code .given .1 in (
+      f .operator-at .ensures .0,
+      (
+        tt,
+        (
+          λ ms w l k g. step-no (a .motifs .now) ms (settingAs (a .set)) (a .s .now) w _ _ (read-is f ms w l g ∙ rw e),
+          (refl, λ ms w l g. notes-no (settingAs (a .set)) (a .s .now) w (a .own .now) (a .own .now) _ _ (rw e at (read-is f ms w l g))),
+        ),
+      ),
+    )
 
 returns-3 : tie.Need-returns-3
 returns-3 c =
@@ -77,27 +94,39 @@ returns-3 c =
       f .operator-at .ensures .0,
       (
         tt,
-        λ ms w l k g. step-ended (a .motifs .now) ms (settingAs (a .set)) (a .s .now) w _ (read-is f ms w l g ∙ rw (c .before .enum-told .given .1))
-            (c .ended .ensures (a .motifs .now) ms w (a .s .now) refl g),
+        (
+          λ ms w l k g. step-ended (a .motifs .now) ms (settingAs (a .set)) (a .s .now) w _ (read-is f ms w l g ∙ rw (c .before .enum-told .given .1))
+              (c .ended .ensures (a .motifs .now) ms w (a .s .now) refl g),
+          (refl, λ ms w l g. notes-ended (settingAs (a .set)) (a .s .now) w (a .own .now) (read-is f ms w l g ∙ rw (c .before .enum-told .given .1))),
+        ),
       ),
     )
 
 returns-4 : tie.Need-returns-4
 returns-4 c =
-    let f = c .before .before .before .before .before .before .before in
+    let o = c .before .before .before .before .before .before .o .given .0 .0 in
+    let e = c .before .before .before .before .before .before .o .given .1 in
+    let f = c .before .before .before .before .before .before .before .before in
     let st = f .before .before .before .before in
     let a = st .args in
-    let e = c .before .before .before .before .before .o .given .1 in
-    let o = c .before .before .before .before .before .o .given .0 .0 in
+    let n = c .before .before .before .if1 .left in
+    let d = c .deed .ensures .1 in
     let v = rw e at (f .operator-at .ensures .1 .1) in (
       f .operator-at .ensures .0,
       (
-        ahead (length (a .s .now)) (a .inside .at) (o .next) (a .inside .saved) (c .deed .result) (omega arith) (v .2) (st .pre .1) (c .deed .ensures .0),
-        λ ms w l k g.
-            let q = rw e at (read-is f ms w l g) in
-            step-on (a .motifs .now) ms (settingAs (a .set)) (a .s .now) w _ _ q
-            (c .deed .ensures .1 (a .motifs .now) ms w (record { long = f .operator-at .ensures .0 ∙ l; few = v .4 }) (c .before .before .if1 .left) g
-            (rows-read (settingAs (a .set)) (a .s .now) w _ q) (pop-read (settingAs (a .set)) (a .s .now) w _ q)),
+        ahead (length (a .s .now)) (a .inside .at) (o .next) (a .inside .saved) (c .deed .result) (omega arith) (v .2) (st .pre .1) (d .1 .0),
+        (
+          λ ms w l k g.
+              let q = rw e at (read-is f ms w l g) in
+              step-on (a .motifs .now) ms (settingAs (a .set)) (a .s .now) w _ _ q
+              (d .1 .1 (a .motifs .now) ms w (record { long = f .operator-at .ensures .0 ∙ l; few = v .4 }) n g
+              (rows-read (settingAs (a .set)) (a .s .now) w _ q) (pop-read (settingAs (a .set)) (a .s .now) w _ q)),
+          (
+            c .deed .ensures .0,
+            λ ms w l g. notes-on (settingAs (a .set)) (a .s .now) w (a .own .now) _ _ (rw e at (read-is f ms w l g))
+                (d .0 (w .ops) (record { long = f .operator-at .ensures .0 ∙ l; few = v .4 }) n),
+          ),
+        ),
       ),
     )
 

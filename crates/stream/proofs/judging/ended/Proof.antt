@@ -1,8 +1,9 @@
 -- `ended` meets its contract.
 -- Assumes nothing.
 use Rattle.order.specs.Views.{imageAs}
-use mathlib.Core.Path.{sym, _∙_}
-use Rattle.stream.proofs.Turning.{ended-open, ended-closed}
+use Rattle.order.specs.Pictures.{pictureAs}
+use mathlib.Core.Path.{sym, ap, _∙_}
+use Rattle.stream.proofs.Turning.{ended-open, ended-hatching, ended-closed}
 use borrow.Author.Needs.{needs}
 use Rattle.stream.proofs.judging.ended.Statement.{statement}
 use Rattle.stream.proofs.judging.ended.Tie as tie
@@ -12,6 +13,9 @@ enum-told c = search needs
 
 enum-told-2 : tie.Need-enum-told-2
 enum-told-2 c = search needs
+
+enum-told-3 : tie.Need-enum-told-3
+enum-told-3 c = search needs
 
 balanced-requires : tie.Need-balanced-requires
 balanced-requires c κs = search needs
@@ -23,8 +27,13 @@ returns c =
 
 returns-2 : tie.Need-returns-2
 returns-2 c =
+    let a = c .before .before .args in
+    λ t ms w s e f. ended-hatching t ms s w (a .len) e _ _ (sym (f .picture) ∙ ap pictureAs (c .enum-told2 .given .1))
+
+returns-3 : tie.Need-returns-3
+returns-3 c =
     let a = c .before .before .before .args in
-    λ t ms w s e f. ended-closed t ms s w (a .len) e _ (sym (f .picture) ∙ rw (c .before .enum-told2 .given .1)) (c .balanced .ensures t ms w f)
+    λ t ms w s e f. ended-closed t ms s w (a .len) e _ (sym (f .picture) ∙ rw (c .before .enum-told3 .given .1)) (c .balanced .ensures t ms w f)
 
 pub ended-spec : {M : Type 1} → statement M
-ended-spec = tie.close (tie.spec enum-told enum-told-2 balanced-requires returns returns-2)
+ended-spec = tie.close (tie.spec enum-told enum-told-2 enum-told-3 balanced-requires returns returns-2 returns-3)

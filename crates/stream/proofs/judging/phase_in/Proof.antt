@@ -11,6 +11,9 @@ enum-told c = search needs
 enum-known-picture : tie.Need-enum-known-picture
 enum-known-picture c = search needs
 
+enum-known-picture-2 : tie.Need-enum-known-picture-2
+enum-known-picture-2 c = search needs
+
 returns : tie.Need-returns
 unfolding phaseIn
 returns c = rw (c .enum-told .given .1)
@@ -19,5 +22,9 @@ returns-2 : tie.Need-returns-2
 unfolding phaseIn
 returns-2 c = rw (c .before .picture .given .1)
 
+returns-3 : tie.Need-returns-3
+unfolding phaseIn
+returns-3 c = rw (c .before .picture2 .given .1)
+
 pub phase-in-spec : {M : Type 1} → statement M
-phase-in-spec = tie.close (tie.spec enum-told enum-known-picture returns returns-2)
+phase-in-spec = tie.close (tie.spec enum-told enum-known-picture enum-known-picture-2 returns returns-2 returns-3)
