@@ -5,6 +5,7 @@ use crate::call::NONE;
 use crate::call::note_called;
 use crate::call::performed;
 use crate::page::page_at;
+use crate::select::bare;
 use arm::page::Page;
 use arm::seen::Seen;
 use attributes::Part;
@@ -18,11 +19,13 @@ use trail::TAG;
 // The code of the rule, among the numbers of a walk.
 const CODE: usize = 15;
 
-// A motif with the operator: where its bytes lie in the store, and its row; the row of the motif that the job calls, 64 if its name is not held; and how many are held.
+// A motif with the operator: where its bytes lie in the store, and its row; the row of the motif that the job calls, 64 if its name is not held, and
+// where it calls; and how many are held.
 pub struct Breach {
     pub bytes: Part,
     pub motif: usize,
     pub called: usize,
+    pub at: usize,
     pub held: usize,
 }
 
@@ -42,16 +45,6 @@ fn is_broken(code: usize, st: &[usize; 16], seen: Seen) -> bool {
         23 => 24 < seen.most,
         24 => seen.lost,
         _ => seen.wrong,
-    }
-}
-
-// What a job with a header is read with, whose pages start in gray or else in RGB.
-fn setting_of(job: &[u8], gray: bool) -> Setting {
-    let class = trail::class_in(job);
-    Setting {
-        class,
-        high: number::byte_at(job, 0) == 0x28,
-        gray,
     }
 }
 
@@ -95,7 +88,7 @@ fn through(
 }
 
 // The bytes of the motif of a row.
-fn bytes_of(motifs: &[usize; 704], k: usize) -> Part {
+pub(crate) fn bytes_of(motifs: &[usize; 704], k: usize) -> Part {
     if 63 < k {
         return Part { first: 0, count: 0 };
     }
@@ -166,9 +159,11 @@ fn lacking(
 
 // The row of the motif with the operator that breaks the rule of a code; of a ring it is the motif that is called.
 fn found(
+    job: &[u8],
+    to: usize,
     set: Setting,
     store: &[u8],
-    motifs: &[usize; 704],
+    motifs: &mut [usize; 704],
     start: Page,
     attrs: &mut [usize; 80],
     st: &mut [usize; 16],
@@ -176,6 +171,7 @@ fn found(
     match st[CODE] {
         21 => lacking(set, store, motifs, start, attrs, st),
         32 => st[CALLED],
+        34 => bare(job, to, store, motifs, attrs, st),
         _ => down(set, store, motifs, start, attrs, st),
     }
 }
@@ -191,16 +187,17 @@ pub fn breach_in(
     attrs: &mut [usize; 80],
     st: &mut [usize; 16],
 ) -> Breach {
-    let set = setting_of(job, gray);
+    let set = trail::setting_in(job, gray);
     let page = page_at(job, to, set, store, motifs, attrs, st);
     st[CODE] = code as usize;
     note_called(job, motifs, attrs, st);
     let called = st[CALLED];
-    let motif = found(set, store, motifs, page, attrs, st);
+    let motif = found(job, to, set, store, motifs, page, attrs, st);
     Breach {
         bytes: bytes_of(motifs, motif),
         motif,
         called,
+        at: to,
         held: st[MANY],
     }
 }

@@ -2,6 +2,7 @@
 mod call;
 mod down;
 mod page;
+mod select;
 
 pub use down::Breach;
 pub use down::breach_in;

@@ -39,6 +39,9 @@ fn line_of(code: u32, s: &[u8], at: usize, st: &[usize; 16], f: Facts) -> usize 
             return ATTRIBUTE_OF_TWO;
         }
     }
+    if code == 34 {
+        return trail::undefined_line(s, at, f.pattern);
+    }
     trail::line_of(code, s, st)
 }
 

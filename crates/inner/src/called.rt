@@ -1,18 +1,18 @@
 // Which operator, name or ring a call comes to by which it is refused.
 use crate::named::by_call;
-use crate::named::name_of;
 use crate::ring::ring;
 use descent::Breach;
 use fault::ending;
 use fault::of_job;
+use roster::name_of;
 use text::say;
 
 // Lines of cures for an operator of a motif that is called.
-const SAVES: usize = 72;
+const SAVES: usize = 84;
 
-const LACKS_CURSOR: usize = 73;
+const LACKS_CURSOR: usize = 85;
 
-const LACKS_COLOUR: usize = 74;
+const LACKS_COLOUR: usize = 86;
 
 // The line of the cure for an operator of a motif that is called.
 fn cure_in(code: u32) -> usize {
@@ -71,6 +71,26 @@ fn of_lacking(
     ending(motif, k, 21, f);
 }
 
+// Of 34: says which pattern is not defined and why, the motif that selects it, and the cure.
+fn of_bare(
+    job: &[u8],
+    motifs: &[usize; 704],
+    motif: &[u8],
+    b: Breach,
+    attrs: &[usize; 80],
+    st: &[usize; 16],
+) {
+    let f = tell::facts_in(motif, st[trail::PLACE], attrs, st);
+    let k = trail::undefined_line(job, b.at, f.pattern);
+    tell::cause(k, motif, f);
+    say(b"; the motif ");
+    name_of(motifs, b.motif);
+    say(b" selects it at its byte ");
+    text::plain(f.at);
+    by_call(motifs, b.motif, b.called);
+    ending(motif, k, 34, f);
+}
+
 // Of 32: says the ring that a call comes to, and the cure.
 fn of_ring(job: &[u8], motifs: &[usize; 704], b: Breach, attrs: &[usize; 80], st: &[usize; 16]) {
     let mut next = [0usize; 64];
@@ -93,10 +113,10 @@ fn of_inner(
     attrs: &[usize; 80],
     st: &[usize; 16],
 ) {
-    if code == 21 {
-        of_lacking(job, list, records, motifs, motif, b, attrs, st);
-    } else {
-        of_breach(motifs, motif, b, code, attrs, st);
+    match code {
+        21 => of_lacking(job, list, records, motifs, motif, b, attrs, st),
+        34 => of_bare(job, motifs, motif, b, attrs, st),
+        _ => of_breach(motifs, motif, b, code, attrs, st),
     }
 }
 

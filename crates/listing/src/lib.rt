@@ -5,6 +5,6 @@ mod records;
 
 pub use inside::gather;
 pub use inside::say_name;
-pub use operators::lines;
+pub use operators::line;
 pub use records::field;
 pub use records::field_four;

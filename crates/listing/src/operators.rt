@@ -92,8 +92,8 @@ fn operator(job: &[u8], list: &[u8], i: usize, tag: u8) {
     say(b"\n");
 }
 
-// The line of record i, if it is an operator's, and the depth behind it.
-fn line(job: &[u8], list: &[u8], i: usize, depth: u32) -> u32 {
+// Says the line of record i, if it is an operator's; the answer is the depth behind it.
+pub fn line(job: &[u8], list: &[u8], i: usize, depth: u32) -> u32 {
     if field(list, i, 0) != 2 {
         return depth;
     }
@@ -102,14 +102,4 @@ fn line(job: &[u8], list: &[u8], i: usize, depth: u32) -> u32 {
     indent(own);
     operator(job, list, i, tag);
     depth_behind(tag, own)
-}
-
-// The lines of so many records.
-pub fn lines(job: &[u8], list: &[u8], records: usize) {
-    let mut depth: u32 = 0;
-    let mut i: usize = 0;
-    while i < records {
-        depth = line(job, list, i, depth);
-        i += 1;
-    }
 }

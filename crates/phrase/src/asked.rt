@@ -50,6 +50,7 @@ fn values(kind: Kind, low: usize, high: usize) {
         Kind::M => say(b" takes a ubyte, 0 to 12 or 14 to 16"),
         Kind::M2 => say(b" takes a ubyte, 0 to 21 or 96, or a name of 1 to 1,024 bytes"),
         Kind::L => say(b" takes a ubyte, uint16 or uint32"),
+        Kind::I => say(b" takes a sint16"),
     }
 }
 
@@ -91,7 +92,7 @@ pub fn all_of(class: Class, tag: u8) {
     }
 }
 
-// Of ReadImage.
+// Of ReadImage and ReadRastPattern.
 fn rows_of(class: Class) {
     say(b"let StartLine be the rows so far, and send no more rows than SourceHeight");
     match class {
@@ -103,9 +104,10 @@ fn rows_of(class: Class) {
 // Says what an operator with a choice of attributes may have in a class.
 pub fn choice(class: Class, tag: u8) {
     match tag {
-        0x63 => say(b"give one of RGBColor, GrayLevel and NullBrush"),
+        0x63 => say(b"give one of RGBColor, GrayLevel, NullBrush and PatternSelectID"),
         0x79 => say(b"give one of RGBColor, GrayLevel and NullPen"),
         0xb1 => rows_of(class),
+        0xb4 => rows_of(class),
         _ => say(b"give EndPoint alone, or NumberOfPoints and PointType"),
     }
 }

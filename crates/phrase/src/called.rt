@@ -4,9 +4,9 @@ use words::AttributeName;
 use words::OperatorName;
 
 // How many names there are.
-const OPERATORS: usize = 29;
+const OPERATORS: usize = 32;
 
-const ATTRIBUTES: usize = 34;
+const ATTRIBUTES: usize = 37;
 
 // The line of an operator's name in the text below.
 fn operator_line(name: OperatorName) -> usize {
@@ -40,6 +40,9 @@ fn operator_line(name: OperatorName) -> usize {
         OperatorName::BeginImage => 26,
         OperatorName::ReadImage => 27,
         OperatorName::EndImage => 28,
+        OperatorName::BeginRastPattern => 29,
+        OperatorName::ReadRastPattern => 30,
+        OperatorName::EndRastPattern => 31,
         OperatorName::Unknown => OPERATORS,
     }
 }
@@ -50,37 +53,40 @@ fn attribute_line(name: AttributeName) -> usize {
         AttributeName::ColorSpace => 0,
         AttributeName::NullBrush => 1,
         AttributeName::NullPen => 2,
-        AttributeName::GrayLevel => 3,
-        AttributeName::RGBColor => 4,
-        AttributeName::MediaSize => 5,
-        AttributeName::MediaSource => 6,
-        AttributeName::MediaType => 7,
-        AttributeName::Orientation => 8,
-        AttributeName::PageCopies => 9,
-        AttributeName::BoundingBox => 10,
-        AttributeName::EndPoint => 11,
-        AttributeName::PenWidth => 12,
-        AttributeName::Point => 13,
-        AttributeName::NumberOfPoints => 14,
-        AttributeName::PointType => 15,
-        AttributeName::ColorDepth => 16,
-        AttributeName::BlockHeight => 17,
-        AttributeName::ColorMapping => 18,
-        AttributeName::CompressMode => 19,
-        AttributeName::DestinationSize => 20,
-        AttributeName::SourceHeight => 21,
-        AttributeName::SourceWidth => 22,
-        AttributeName::StartLine => 23,
-        AttributeName::PadBytesMultiple => 24,
-        AttributeName::BlockByteLength => 25,
-        AttributeName::CommentData => 26,
-        AttributeName::DataOrg => 27,
-        AttributeName::Measure => 28,
-        AttributeName::SourceType => 29,
-        AttributeName::UnitsPerMeasure => 30,
-        AttributeName::StreamName => 31,
-        AttributeName::StreamDataLength => 32,
-        AttributeName::ErrorReport => 33,
+        AttributeName::PatternSelectID => 3,
+        AttributeName::GrayLevel => 4,
+        AttributeName::RGBColor => 5,
+        AttributeName::MediaSize => 6,
+        AttributeName::MediaSource => 7,
+        AttributeName::MediaType => 8,
+        AttributeName::Orientation => 9,
+        AttributeName::PageCopies => 10,
+        AttributeName::BoundingBox => 11,
+        AttributeName::EndPoint => 12,
+        AttributeName::PenWidth => 13,
+        AttributeName::Point => 14,
+        AttributeName::NumberOfPoints => 15,
+        AttributeName::PointType => 16,
+        AttributeName::ColorDepth => 17,
+        AttributeName::BlockHeight => 18,
+        AttributeName::ColorMapping => 19,
+        AttributeName::CompressMode => 20,
+        AttributeName::DestinationSize => 21,
+        AttributeName::PatternPersistence => 22,
+        AttributeName::PatternDefineID => 23,
+        AttributeName::SourceHeight => 24,
+        AttributeName::SourceWidth => 25,
+        AttributeName::StartLine => 26,
+        AttributeName::PadBytesMultiple => 27,
+        AttributeName::BlockByteLength => 28,
+        AttributeName::CommentData => 29,
+        AttributeName::DataOrg => 30,
+        AttributeName::Measure => 31,
+        AttributeName::SourceType => 32,
+        AttributeName::UnitsPerMeasure => 33,
+        AttributeName::StreamName => 34,
+        AttributeName::StreamDataLength => 35,
+        AttributeName::ErrorReport => 36,
         AttributeName::Unknown => ATTRIBUTES,
     }
 }
@@ -116,6 +122,9 @@ Rectangle
 BeginImage
 ReadImage
 EndImage
+BeginRastPattern
+ReadRastPattern
+EndRastPattern
 ",
         k,
     );
@@ -126,6 +135,7 @@ fn attribute_names(k: usize) {
         b"ColorSpace
 NullBrush
 NullPen
+PatternSelectID
 GrayLevel
 RGBColor
 MediaSize
@@ -144,6 +154,8 @@ BlockHeight
 ColorMapping
 CompressMode
 DestinationSize
+PatternPersistence
+PatternDefineID
 SourceHeight
 SourceWidth
 StartLine
@@ -214,9 +226,6 @@ fn foreign_operator(tag: u8) -> bool {
 \xa3RoundRectanglePath
 \xa8Text
 \xa9TextPath
-\xb3BeginRastPattern
-\xb4ReadRastPattern
-\xb5EndRastPattern
 \xb6BeginScan
 \xb8EndScan
 \xb9ScanLineRel
@@ -230,7 +239,6 @@ fn foreign_attribute(n: u8) -> bool {
     text::keyed(
         b"\x02PaletteDepth
 \x06PaletteData
-\x08PatternSelectID
 \x0cPatternOrigin
 \x0dNewDestinationSize
 \x21DeviceMatrix
@@ -264,8 +272,6 @@ fn foreign_attribute(n: u8) -> bool {
 \x53ClipRegion
 \x54ClipMode
 \x66DestinationBox
-\x68PatternPersistence
-\x69PatternDefineID
 \x71XStart
 \x72XEnd
 \x73NumberOfScanLines

@@ -11,4 +11,5 @@ pub use called::attribute;
 pub use called::operator;
 pub use kinds::kind;
 pub use values::after;
+pub use values::signed;
 pub use values::value;

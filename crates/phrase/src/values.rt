@@ -17,7 +17,8 @@ pub fn after(at: usize, k: usize) -> usize {
     at + k
 }
 
-fn signed(n: u32) {
+// Says a sint16 by its two bytes.
+pub fn signed(n: u32) {
     if n < 32_768 {
         number(n);
         return;

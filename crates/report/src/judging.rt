@@ -49,7 +49,7 @@ fn other_start(job: &[u8], gray: bool) {
     }
 }
 
-// A code of what a call comes to: 17, 21, 23 to 25, or 32.
+// A code of what a call comes to: 17, 21, 23 to 25, 32, or 34.
 fn is_inner(code: u32) -> bool {
     match code {
         17 => true,
@@ -58,6 +58,7 @@ fn is_inner(code: u32) -> bool {
         24 => true,
         25 => true,
         32 => true,
+        34 => true,
         _ => false,
     }
 }
@@ -107,9 +108,10 @@ fn refused(job: &[u8], list: &[u8], v: Verdict, gray: bool) {
     say(b"\n");
 }
 
-// The operators, and the refused one, marked.
-fn listed_lines(job: &[u8], list: &[u8], v: Verdict) {
-    listing::lines(job, list, v.records as usize);
+// The operators and motifs, and the refused operator, marked.
+fn listed_lines(job: &[u8], list: &[u8], v: Verdict, gray: bool) {
+    let mut store = rooms::work();
+    roster::lines(job, list, v.records as usize, gray, &mut store);
     if v.code == 0 {
         return;
     }
@@ -127,7 +129,7 @@ pub fn judged(job: &[u8], asked: Asked) -> bool {
         refused(job, &list, v, asked.gray);
     }
     if asked.listed {
-        listed_lines(job, &list, v);
+        listed_lines(job, &list, v, asked.gray);
     }
     v.code == 0
 }

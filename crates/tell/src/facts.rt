@@ -1,5 +1,8 @@
 // What a refusal is about.
 use crate::missing::missing;
+use names::attributes::PATTERN_DEFINE_ID;
+use names::attributes::PATTERN_PERSISTENCE;
+use names::attributes::PATTERN_SELECT_ID;
 use names::attributes::STREAM_NAME;
 use number::byte_at;
 use setting::Class;
@@ -10,7 +13,8 @@ use trail::SAVED;
 use trail::TAG;
 
 // The place and its byte; of the value there its attribute's number, count of numbers and place of the first; the class, the operator's tag, the
-// attribute that it lacks, the data that it asks for and that is told; the name that it gives; states saved, rows read and all rows.
+// attribute that it lacks, the data that it asks for and that is told; the name that it gives; the pattern that it selects or defines, and whether that
+// is for the session; states saved, rows read and all rows.
 pub struct Facts {
     pub at: u32,
     pub byte: u8,
@@ -24,6 +28,8 @@ pub struct Facts {
     pub told: u32,
     pub name: usize,
     pub letters: usize,
+    pub pattern: u32,
+    pub lasting: bool,
     pub saved: u32,
     pub rows: u32,
     pub height: u32,
@@ -48,6 +54,14 @@ fn index_of(attrs: &[usize; 80], n: usize, at: usize) -> usize {
     0
 }
 
+// The number of the pattern that an operator selects, or else defines.
+fn pattern_in(s: &[u8], high: bool, attrs: &[usize; 80], n: usize) -> u32 {
+    if attributes::has(attrs, n, PATTERN_SELECT_ID) {
+        return attributes::value_in(s, high, attrs, n, PATTERN_SELECT_ID);
+    }
+    attributes::value_in(s, high, attrs, n, PATTERN_DEFINE_ID)
+}
+
 // The facts of the operator that a walk has found, and of the value at a place before it.
 pub fn facts_in(s: &[u8], at: usize, attrs: &[usize; 80], st: &[usize; 16]) -> Facts {
     let high = byte_at(s, 0) == 0x28;
@@ -69,6 +83,8 @@ pub fn facts_in(s: &[u8], at: usize, attrs: &[usize; 80], st: &[usize; 16]) -> F
         told: trail::told(s, high, st),
         name: part.first,
         letters: part.count,
+        pattern: pattern_in(s, high, attrs, n),
+        lasting: attributes::value_in(s, high, attrs, n, PATTERN_PERSISTENCE) == 2,
         saved: small(st[SAVED]),
         rows: small(st[ROWS]),
         height: small(st[HEIGHT]),

@@ -76,6 +76,18 @@ the motif %u is defined only later
 of another class than the job
 %o is an operator of class 2;1, and this job is of class 1;1
 %a is an attribute of class 2;1, and this job is of class 1;1
+no place for pattern %n at %o: 32 are defined for the %l
+pattern %n is not defined
+pattern %n was defined for the page before and ended with it
+pattern %n was defined for an earlier page and ended with it
+pattern %n was defined in an earlier session and is not known in this one
+ends in a pattern, with %w of %h read
+out of order: EndRastPattern after %w of %h
+out of order: %o in a pattern
+out of order: %o with no pattern begun
+out of order: %o in a motif
+out of order: %o in an image
+out of order: %o in a pattern
 ";
     sentence(lines, k, s, f);
 }
@@ -107,9 +119,9 @@ define it before the page, in this session
 let motifs call each other less deep
 put a PopGS before it, or leave it out
 put a SetCursor before it
-put a SetColorSpace before it: RGB for RGBColor, gray for GrayLevel and images
+put a SetColorSpace before it: RGB for RGBColor, gray for GrayLevel, images and patterns
 call motifs fewer times
-close the motif, image, page or session, or send the whole file again
+close the motif, image, pattern, page or session, or send the whole file again
 lend a longer list
 lend a work buffer of 16,384 bytes
 save the job again, and send that file
@@ -154,14 +166,27 @@ define it in this session too, before the page
 give the motif's header the class of the job's own
 take it out, or save the job as PCL XL 2;1
 take it out, or save the job as PCL XL 2;1
+define one of their numbers again, or begin another %l before it
+define it in this page, before it is selected
+define it again in this page, or in that one for the session, by PatternPersistence 2
+define it again in this page, or in that one for the session, by PatternPersistence 2
+define it again in this page, before it is selected
+send the other rows by ReadRastPattern, then an EndRastPattern and what must follow
+send the other rows by ReadRastPattern before it
+put an EndRastPattern before it, once all rows are read
+put a BeginRastPattern before it
+take it out: define the pattern in the page, before the motif is called
+send rows by ReadImage, and end the image by EndImage
+send rows by ReadRastPattern, and end the pattern by EndRastPattern
 take it and its PopGS out of that motif
 in that motif, put a SetCursor before it
 in that motif, put a SetColorSpace before it: RGB for RGBColor, gray for GrayLevel and images
 take it out: between sessions only BeginSession may come
 take it out: in a session, outside its pages, only Comment, OpenDataSource, CloseDataSource, BeginStream, BeginPage and EndSession may come
 take it out: in the definition of a motif only ReadStream and EndStream may come
-take it out: in a page only Comment, EndPage, ExecStream, PushGS, PopGS, SetBrushSource, SetColorSpace, SetCursor, SetCursorRel, SetPenSource, SetPenWidth, CloseSubPath, NewPath, PaintPath, LinePath, LineRelPath, Rectangle and BeginImage may come, and in class 2;1 SetDefaultGS
+take it out: in a page only Comment, EndPage, ExecStream, PushGS, PopGS, SetBrushSource, SetColorSpace, SetCursor, SetCursorRel, SetPenSource, SetPenWidth, CloseSubPath, NewPath, PaintPath, LinePath, LineRelPath, Rectangle, BeginImage and BeginRastPattern may come, and in class 2;1 SetDefaultGS
 take it out: in an image only ReadImage and EndImage may come
+take it out: in a pattern only ReadRastPattern and EndRastPattern may come
 take it out: in a motif only Comment, ExecStream, PushGS, PopGS, SetBrushSource, SetColorSpace, SetCursor, SetCursorRel, SetPenSource, SetPenWidth, CloseSubPath, NewPath, PaintPath, LinePath, LineRelPath, Rectangle and BeginImage may come, and in class 2;1 SetDefaultGS
 let the motif not call itself
 ";

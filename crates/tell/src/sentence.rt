@@ -2,6 +2,15 @@
 use crate::facts::Facts;
 use text::number;
 
+// For what a pattern is defined.
+fn lasting(session: bool) {
+    if session {
+        text::say(b"session");
+    } else {
+        text::say(b"page");
+    }
+}
+
 // Says the fact of a letter.
 fn fact(s: &[u8], f: Facts, letter: u8) {
     let class = f.class;
@@ -11,7 +20,9 @@ fn fact(s: &[u8], f: Facts, letter: u8) {
         b'c' => phrase::choice(class, f.tag),
         b'h' => text::many(f.height, b"row"),
         b'k' => phrase::all_of(class, f.tag),
+        b'l' => lasting(f.lasting),
         b'm' => phrase::attribute(f.missing),
+        b'n' => phrase::signed(f.pattern),
         b'o' => phrase::operator(f.tag),
         b'p' => text::plain(f.at),
         b'q' => phrase::takes(class, f.missing),

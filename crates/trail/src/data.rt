@@ -55,21 +55,35 @@ fn points(kind: u32, many: usize) -> usize {
     times(many, 4)
 }
 
+// ReadImage and ReadRastPattern read rows.
+fn reads_rows(tag: usize) -> bool {
+    if tag == 0xb1 {
+        return true;
+    }
+    tag == 0xb4
+}
+
+// Of rows: BlockHeight of them, each filled up.
+fn rows(s: &[u8], high: bool, attrs: &[usize; 80], st: &[usize; 16]) -> usize {
+    let n = st[COUNT];
+    let many = attributes::value_in(s, high, attrs, n, BLOCK_HEIGHT) as usize;
+    let pad = order::pad_of(s, high, attrs, n);
+    let row = order::row_of(
+        (st[WIDTH] % 65_536) as u16,
+        (st[DEPTH] % 65_536) as u16,
+        pad,
+    );
+    times(many, row)
+}
+
 // The length that the operator asks for.
 pub fn asked(s: &[u8], high: bool, attrs: &[usize; 80], st: &[usize; 16]) -> usize {
     let n = st[COUNT];
     if st[TAG] == 0x5c {
         return attributes::value_in(s, high, attrs, n, STREAM_DATA_LENGTH) as usize;
     }
-    if st[TAG] == 0xb1 {
-        let rows = attributes::value_in(s, high, attrs, n, BLOCK_HEIGHT) as usize;
-        let pad = order::pad_of(s, high, attrs, n);
-        let row = order::row_of(
-            (st[WIDTH] % 65_536) as u16,
-            (st[DEPTH] % 65_536) as u16,
-            pad,
-        );
-        return times(rows, row);
+    if reads_rows(st[TAG]) {
+        return rows(s, high, attrs, st);
     }
     let kind = attributes::value_in(s, high, attrs, n, POINT_TYPE);
     points(

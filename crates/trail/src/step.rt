@@ -4,7 +4,7 @@ use names::attributes::COLOR_DEPTH;
 use names::attributes::SOURCE_HEIGHT;
 use names::attributes::SOURCE_WIDTH;
 
-// Between sessions, in a session, in a motif's definition, in a page, in an image.
+// Between sessions, in a session, in a motif's definition, in a page, in an image, in a pattern.
 pub const PHASE: usize = 0;
 
 pub const BETWEEN: usize = 0;
@@ -17,13 +17,15 @@ pub const PAGE: usize = 3;
 
 pub const IMAGE: usize = 4;
 
+pub const PATTERN: usize = 5;
+
 // 1 if the data source is open.
 pub const OPENED: usize = 1;
 
 // The states saved.
 pub const SAVED: usize = 2;
 
-// Of an image: width, depth, height, and the rows read.
+// Of an image or a pattern: width, depth, height, and the rows read.
 pub const WIDTH: usize = 3;
 
 pub const DEPTH: usize = 4;
@@ -39,9 +41,8 @@ fn value(s: &[u8], high: bool, attrs: &[usize; 80], n: usize, number: u8) -> usi
     attributes::value_in(s, high, attrs, n, number) as usize
 }
 
-// BeginImage.
-fn begin_image(s: &[u8], high: bool, attrs: &[usize; 80], n: usize, st: &mut [usize; 16]) {
-    st[PHASE] = IMAGE;
+// BeginImage and BeginRastPattern.
+fn begin_rows(s: &[u8], high: bool, attrs: &[usize; 80], n: usize, st: &mut [usize; 16]) {
     st[WIDTH] = value(s, high, attrs, n, SOURCE_WIDTH);
     st[DEPTH] = value(s, high, attrs, n, COLOR_DEPTH);
     st[HEIGHT] = value(s, high, attrs, n, SOURCE_HEIGHT);
@@ -76,9 +77,18 @@ pub fn step(s: &[u8], high: bool, tag: u8, attrs: &[usize; 80], n: usize, st: &m
         0x5d => st[PHASE] = SESSION,
         0x60 => st[SAVED] = less(st[SAVED]),
         0x61 => st[SAVED] = more(st[SAVED], 1),
-        0xb0 => begin_image(s, high, attrs, n, st),
+        0xb0 => {
+            begin_rows(s, high, attrs, n, st);
+            st[PHASE] = IMAGE;
+        }
         0xb1 => st[ROWS] = more(st[ROWS], value(s, high, attrs, n, BLOCK_HEIGHT)),
         0xb2 => st[PHASE] = PAGE,
+        0xb3 => {
+            begin_rows(s, high, attrs, n, st);
+            st[PHASE] = PATTERN;
+        }
+        0xb4 => st[ROWS] = more(st[ROWS], value(s, high, attrs, n, BLOCK_HEIGHT)),
+        0xb5 => st[PHASE] = PAGE,
         _ => {}
     }
 }

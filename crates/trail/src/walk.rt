@@ -9,6 +9,7 @@ use number::Width;
 use number::byte_at;
 use number::number_at;
 use setting::Class;
+use setting::Setting;
 
 // Of the operator at the place: where its items begin, its tag, the number of its attributes, and the tag's place; of none the tag 0.
 pub const START: usize = 8;
@@ -134,6 +135,16 @@ pub fn class_in(s: &[u8]) -> Class {
     match byte_at(s, 12) {
         0x32 => Class::Two,
         _ => Class::One,
+    }
+}
+
+// What a job with a header is read with, whose pages start in gray or else in RGB.
+pub fn setting_in(job: &[u8], gray: bool) -> Setting {
+    let class = class_in(job);
+    Setting {
+        class,
+        high: byte_at(job, 0) == 0x28,
+        gray,
     }
 }
 

@@ -1,10 +1,13 @@
 // Which sentence says why: the line of the code itself, or a line further down that says more.
 use crate::data;
+use crate::hatched::Until;
+use crate::hatched::hatched;
 use crate::step::BETWEEN;
 use crate::step::IMAGE;
 use crate::step::MOTIF;
 use crate::step::OPENED;
 use crate::step::PAGE;
+use crate::step::PATTERN;
 use crate::step::PHASE;
 use crate::step::SAVED;
 use crate::step::SESSION;
@@ -70,10 +73,34 @@ const OTHER_CLASS: usize = 69;
 
 const OPERATOR_OF_TWO: usize = 70;
 
-// The first of the cures' lines of what may come, and the one of a motif.
-const MAY_COME: usize = 75;
+const NO_PLACE: usize = 72;
 
-const MAY_COME_IN_A_MOTIF: usize = 80;
+const NOT_DEFINED: usize = 73;
+
+const ENDED_WITH_PAGE: usize = 74;
+
+const OF_EARLIER_PAGE: usize = 75;
+
+const OF_EARLIER_SESSION: usize = 76;
+
+const IN_PATTERN: usize = 77;
+
+const PATTERN_ROWS_MISSING: usize = 78;
+
+const IN_A_PATTERN: usize = 79;
+
+const NO_PATTERN: usize = 80;
+
+const PATTERN_IN_A_MOTIF: usize = 81;
+
+const NOT_OF_AN_IMAGE: usize = 82;
+
+const NOT_OF_A_PATTERN: usize = 83;
+
+// The first of the cures' lines of what may come, and the one of a motif.
+const MAY_COME: usize = 87;
+
+const MAY_COME_IN_A_MOTIF: usize = 93;
 
 // Of 10 in a session.
 fn session_line(tag: usize) -> usize {
@@ -88,10 +115,42 @@ fn session_line(tag: usize) -> usize {
     }
 }
 
+// Of 10 at an operator of patterns, in a page or in a motif.
+fn pattern_line(motif: usize) -> usize {
+    if motif == 1 {
+        PATTERN_IN_A_MOTIF
+    } else {
+        NO_PATTERN
+    }
+}
+
+// Of 10 in an image.
+fn image_line(tag: usize) -> usize {
+    match tag {
+        0xb2 => ROWS_MISSING,
+        0xb4 => NOT_OF_AN_IMAGE,
+        0xb5 => NOT_OF_AN_IMAGE,
+        _ => IN_AN_IMAGE,
+    }
+}
+
+// Of 10 in a pattern.
+fn in_pattern_line(tag: usize) -> usize {
+    match tag {
+        0xb1 => NOT_OF_A_PATTERN,
+        0xb2 => NOT_OF_A_PATTERN,
+        0xb5 => PATTERN_ROWS_MISSING,
+        _ => IN_A_PATTERN,
+    }
+}
+
 // Of 10 in a page, or in a motif.
 fn page_line(tag: usize, motif: usize) -> usize {
     if tag == 0x60 {
         return NOTHING_SAVED;
+    }
+    if 0xb2 < tag {
+        return pattern_line(motif);
     }
     if 0xb0 < tag {
         return NO_IMAGE;
@@ -121,10 +180,10 @@ fn order_line(st: &[usize; 16]) -> usize {
     if phase == PAGE {
         return page_line(tag, st[MOTIF]);
     }
-    if tag == 0xb2 {
-        return ROWS_MISSING;
+    if phase == PATTERN {
+        return in_pattern_line(tag);
     }
-    IN_AN_IMAGE
+    image_line(tag)
 }
 
 // Of 27 in a session, by the source.
@@ -149,6 +208,9 @@ fn open_line(s: &[u8], st: &[usize; 16]) -> usize {
     }
     if phase == IMAGE {
         return IN_IMAGE;
+    }
+    if phase == PATTERN {
+        return IN_PATTERN;
     }
     if st[MOTIF] == 1 {
         STATES_SAVED
@@ -191,7 +253,19 @@ pub fn line_of(code: u32, s: &[u8], st: &[usize; 16]) -> usize {
         18 => data_line(s, st),
         27 => open_line(s, st),
         32 => RING,
+        33 => NO_PLACE,
         _ => code as usize,
+    }
+}
+
+// The line of 34: why the pattern of a number is not defined at a place of the job.
+pub fn undefined_line(job: &[u8], at: usize, number: u32) -> usize {
+    match hatched(job, at, number) {
+        Until::Now => NOT_DEFINED,
+        Until::PageBefore => ENDED_WITH_PAGE,
+        Until::EarlierPage => OF_EARLIER_PAGE,
+        Until::EarlierSession => OF_EARLIER_SESSION,
+        Until::Never => NOT_DEFINED,
     }
 }
 
@@ -202,6 +276,7 @@ pub fn may_come_line(st: &[usize; 16]) -> usize {
         SESSION => MAY_COME + 1,
         STREAM => MAY_COME + 2,
         PAGE => may_come_in_page(st[MOTIF]),
+        PATTERN => MAY_COME + 5,
         _ => MAY_COME + 4,
     }
 }
