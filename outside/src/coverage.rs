@@ -1,13 +1,13 @@
 //! What a run of cases has reached: codes outside and inside motifs, and attribute rules broken.
 
 use crate::generate::{all_rules, class_of, shapes_of, Broken, Class, Need, Size, CLASSES};
-use crate::plain::{Profile, Verdict, MOTIFS_MAX, NO_INNER};
+use crate::plain::{Profile, Verdict, MOTIFS_MAX, NO_INNER, PATTERNS_MAX};
 use crate::text::{attribute_name, operator_name, read_header, read_statement, Piece, Statement};
 use std::collections::{BTreeMap, BTreeSet};
 use std::fmt::Write;
 
 /// One more than the highest code.
-const CODES: usize = 33;
+const CODES: usize = 35;
 /// Codes no job gives: 20 is retired, 30 and 31 are not a checker's.
 pub const NEVER: [u32; 3] = [20, 30, 31];
 /// Codes a motif can have at its EndStream.
@@ -43,7 +43,7 @@ fn takes_real(number: u16, class: Class) -> bool {
 }
 
 /// What some passed job must have, and whether some motif of one too.
-pub const SHOWN: [(&str, bool); 22] = [
+pub const SHOWN: [(&str, bool); 30] = [
     ("zero bytes between items", true),
     ("class 2.1", true),
     ("SetDefaultGS", true),
@@ -66,6 +66,14 @@ pub const SHOWN: [(&str, bool); 22] = [
     ("names told apart by the highest bit", false),
     ("64 names held in rising order", false),
     ("64 names held in falling order", false),
+    ("PatternSelectID", true),
+    ("a replaced pattern", false),
+    ("a page pattern hiding a session one", false),
+    ("a session pattern hidden before", false),
+    ("a session pattern of another page", false),
+    ("32 patterns of each persistence", false),
+    ("a call that selects a pattern", false),
+    ("a call that selects 64 patterns", false),
 ];
 
 /// The operators of a string of items, as far as they can be told.
@@ -191,6 +199,77 @@ fn shown_by_motifs(all: &[Statement]) -> BTreeSet<&'static str> {
     shown
 }
 
+/// The number that an attribute of an operator has.
+fn number_of(s: &Statement, wanted: u16) -> Option<u32> {
+    s.pieces.windows(2).find_map(|pair| match pair {
+        [(_, Piece::Value(v)), (_, Piece::Number { number, .. })] if *number == wanted => v.numbers.first().copied(),
+        _ => None,
+    })
+}
+
+/// What of SHOWN the patterns of a passed job have to do with each other.
+fn shown_by_patterns(all: &[Statement]) -> BTreeSet<&'static str> {
+    let mut shown = BTreeSet::new();
+    // Numbers of the page and of the session, those that were hidden, and those that were defined in another page.
+    let [mut page, mut session, mut hidden, mut old]: [BTreeSet<u32>; 4] = Default::default();
+    let mut bodies = motifs(all).into_iter();
+    let mut held: BTreeMap<Vec<u8>, Vec<Statement>> = BTreeMap::new();
+    for s in all {
+        match s.tag {
+            0x42 => {
+                [&mut session, &mut hidden, &mut old].into_iter().for_each(BTreeSet::clear);
+                held.clear();
+            }
+            0x44 => {
+                hidden.extend(page.intersection(&session));
+                old.extend(session.iter());
+                page.clear();
+            }
+            0x5b => {
+                held.insert(name_of(s), statements(&bodies.next().unwrap_or_default()));
+            }
+            0x5e => match selected_by(&held, &name_of(s)).len() {
+                0 => {}
+                n if n == 2 * PATTERNS_MAX => shown.extend(["a call that selects 64 patterns"]),
+                _ => shown.extend(["a call that selects a pattern"]),
+            },
+            0x63 => {
+                let Some(number) = number_of(s, 8) else { continue };
+                match (page.contains(&number), session.contains(&number)) {
+                    (true, true) => shown.extend(["a page pattern hiding a session one"]),
+                    (false, true) if hidden.contains(&number) => shown.extend(["a session pattern hidden before"]),
+                    (false, true) if old.contains(&number) => shown.extend(["a session pattern of another page"]),
+                    _ => {}
+                }
+            }
+            0xb3 => {
+                let own = if number_of(s, 104) == Some(1) { &mut page } else { &mut session };
+                if !own.insert(number_of(s, 105).unwrap_or(0)) {
+                    shown.insert("a replaced pattern");
+                }
+                if page.len() == PATTERNS_MAX && session.len() == PATTERNS_MAX {
+                    shown.insert("32 patterns of each persistence");
+                }
+            }
+            _ => {}
+        }
+    }
+    shown
+}
+
+/// The numbers that a call selects; a passed job has no rings.
+fn selected_by(held: &BTreeMap<Vec<u8>, Vec<Statement>>, name: &[u8]) -> BTreeSet<u32> {
+    let mut selected = BTreeSet::new();
+    let (mut next, mut met) = (vec![name.to_vec()], BTreeSet::new());
+    while let Some(name) = next.pop() {
+        if let Some(body) = held.get(&name).filter(|_| met.insert(name.clone())) {
+            selected.extend(body.iter().filter(|s| s.tag == 0x63).filter_map(|s| number_of(s, 8)));
+            next.extend(body.iter().filter(|s| s.tag == 0x5e).map(name_of));
+        }
+    }
+    selected
+}
+
 /// What of SHOWN a job or motif has.
 fn shown_by(bytes: &[u8], all: &[Statement]) -> Vec<&'static str> {
     let mut shown = Vec::new();
@@ -205,6 +284,7 @@ fn shown_by(bytes: &[u8], all: &[Statement]) -> Vec<&'static str> {
             [(_, Piece::Value(_)), (_, Piece::Number { number: 110, .. })] => shown.push("PadBytesMultiple"),
             [(_, Piece::Value(_)), (_, Piece::Number { number: 111, .. })] => shown.push("BlockByteLength"),
             [(_, Piece::Value(_)), (_, Piece::Number { number: 39, .. })] => shown.push("MediaType"),
+            [(_, Piece::Value(_)), (_, Piece::Number { number: 8, .. })] => shown.push("PatternSelectID"),
             [(_, Piece::Value(v)), (_, Piece::Number { number: 37, .. })] if v.kind == 0xc8 => {
                 shown.push("MediaSize as a name");
             }
@@ -215,6 +295,7 @@ fn shown_by(bytes: &[u8], all: &[Statement]) -> Vec<&'static str> {
         shown.push("zero bytes between items");
     }
     shown.extend(shown_by_motifs(all));
+    shown.extend(shown_by_patterns(all));
     shown.sort();
     shown.dedup();
     shown
@@ -271,7 +352,9 @@ fn rules_of(bytes: &[u8], code: u32, position: usize) -> Vec<Broken> {
             }
         }
         // Which of StartLine, rows and length was wrong is not told, so all that were given count.
-        14 if s.tag == 0xb1 => [109, 99, 111].into_iter().filter(|n| numbers.contains(n)).map(rule).collect(),
+        14 if matches!(s.tag, 0xb1 | 0xb4) => {
+            [109, 99, 111].into_iter().filter(|n| numbers.contains(n)).map(rule).collect()
+        }
         14 => numbers.into_iter().map(rule).collect(),
         _ => Vec::new(),
     }
@@ -438,7 +521,7 @@ mod tests {
     #[test]
     fn generated_cases_reach_everything() {
         let mut c = Coverage::default();
-        for index in 0..12_000 {
+        for index in 0..20_000 {
             let mut case = generate::case(1, index);
             let verdict = plain::check(&case.job, &mut case.work, &mut case.list, case.rgb);
             c.add(case.kind, &case.job, case.rgb, &verdict);

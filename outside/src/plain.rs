@@ -1,6 +1,6 @@
 //! The independent checker: written from the rules alone, plain and safe, judging calls by walking them.
 
-use std::collections::{HashMap, VecDeque};
+use std::collections::{BTreeSet, HashMap, VecDeque};
 
 /// Longest job that is judged.
 pub const JOB_MAX: usize = 61_440;
@@ -14,6 +14,8 @@ pub const PERFORMED_MAX: u64 = 1_000_000;
 pub const SAVED_MAX: usize = 24;
 /// Most motifs a session holds.
 pub const MOTIFS_MAX: usize = 64;
+/// Most patterns of each persistence.
+pub const PATTERNS_MAX: usize = 32;
 /// Most calls nested.
 pub const NESTING_MAX: usize = 32;
 /// Most attributes of one operator.
@@ -323,6 +325,8 @@ enum Rule {
     Number(u32, u32),
     /// One ubyte, uint16 or uint32.
     Length,
+    /// One sint16.
+    Signed,
     /// Two uint16, both at least 1, or two real32 above zero.
     Sizes,
     /// Two ubyte, uint16, sint16 or real32.
@@ -340,8 +344,8 @@ fn rule(profile: Profile, tag: u8, number: u16) -> Option<Rule> {
         match (tag, number) {
             (0x43, 37) => return Some(MediaSizeOrName),
             (0x43, 39) => return Some(Array(0, ARRAY_MAX)),
-            (0xb1, 110) => return Some(Enumeration(1, 255)),
-            (0xb1, 111) => return Some(Length),
+            (0xb1 | 0xb4, 110) => return Some(Enumeration(1, 255)),
+            (0xb1 | 0xb4, 111) => return Some(Length),
             _ => {}
         }
     }
@@ -361,6 +365,7 @@ fn rule(profile: Profile, tag: u8, number: u16) -> Option<Rule> {
         (0x63 | 0x79, 11) => Array(3, 3),
         (0x63 | 0x79, 9) => Enumeration(0, 255),
         (0x63, 4) | (0x79, 5) => Enumeration(0, 0),
+        (0x63, 8) => Signed,
         (0x6a, 3) => Enumeration(1, 2),
         (0x6b | 0x6c, 76) => Point,
         (0x7a, 75) => Number(0, 0xffff),
@@ -368,13 +373,15 @@ fn rule(profile: Profile, tag: u8, number: u16) -> Option<Rule> {
         (0x9b | 0x9d, 77) => Number(1, 0xffff),
         (0x9b | 0x9d, 80) => Enumeration(0, 3),
         (0xa0, 66) => Box,
-        (0xb0, 100) => Enumeration(0, 0),
-        (0xb0, 98) => Enumeration(0, 2),
-        (0xb0, 108 | 107) => Number(1, 0xffff),
-        (0xb0, 103) => Sizes,
-        (0xb1, 109) => Number(0, 0xffff),
-        (0xb1, 99) => Number(1, 0xffff),
-        (0xb1, 101) => Enumeration(0, 0),
+        (0xb0 | 0xb3, 100) => Enumeration(0, 0),
+        (0xb0 | 0xb3, 98) => Enumeration(0, 2),
+        (0xb0 | 0xb3, 108 | 107) => Number(1, 0xffff),
+        (0xb0 | 0xb3, 103) => Sizes,
+        (0xb3, 105) => Signed,
+        (0xb3, 104) => Enumeration(1, 2),
+        (0xb1 | 0xb4, 109) => Number(0, 0xffff),
+        (0xb1 | 0xb4, 99) => Number(1, 0xffff),
+        (0xb1 | 0xb4, 101) => Enumeration(0, 0),
         _ => return None,
     })
 }
@@ -399,6 +406,7 @@ impl Rule {
             Rule::MediaSizeOrName => matches!(kind, 0xc0 | 0xc8),
             Rule::Number(..) => matches!(kind, 0xc0 | 0xc1),
             Rule::Length => matches!(kind, 0xc0..=0xc2),
+            Rule::Signed => kind == 0xc3,
             Rule::Sizes => matches!(kind, 0xd1 | REALS),
             Rule::Point => matches!(kind, 0xd0 | 0xd1 | 0xd3 | REALS),
             Rule::Box => matches!(kind, 0xe0 | 0xe1 | 0xe3),
@@ -418,7 +426,7 @@ impl Rule {
             }),
             Rule::Sizes => reader.element(a, 0) >= 1 && reader.element(a, 1) >= 1,
             Rule::Point if a.kind == REALS => is_finite(reader.element(a, 0)) && is_finite(reader.element(a, 1)),
-            Rule::Point | Rule::Box | Rule::Length => true,
+            Rule::Point | Rule::Box | Rule::Length | Rule::Signed => true,
             Rule::Array(from, to) => (from..=to).contains(&a.count),
         }
     }
@@ -430,14 +438,14 @@ fn in_table(profile: Profile, tag: u8) -> bool {
         || matches!(
             tag,
             0x41..=0x44 | 0x47..=0x49 | 0x5b..=0x5e | 0x60 | 0x61 | 0x63 | 0x6a..=0x6c | 0x79 | 0x7a
-                | 0x84..=0x86 | 0x9b | 0x9d | 0xa0 | 0xb0..=0xb2
+                | 0x84..=0x86 | 0x9b | 0x9d | 0xa0 | 0xb0..=0xb5
         )
 }
 
 /// Operators without attributes.
 #[inline(always)]
 fn takes_none(tag: u8) -> bool {
-    matches!(tag, 0x42 | 0x49 | 0x57 | 0x5d | 0x60 | 0x61 | 0x84..=0x86 | 0xb2)
+    matches!(tag, 0x42 | 0x49 | 0x57 | 0x5d | 0x60 | 0x61 | 0x84..=0x86 | 0xb2 | 0xb5)
 }
 
 /// Attributes an operator must have.
@@ -453,7 +461,8 @@ fn required(profile: Profile, tag: u8) -> &'static [u16] {
         0x7a => &[75],
         0xa0 => &[66],
         0xb0 => &[100, 98, 108, 107, 103],
-        0xb1 => &[109, 99, 101],
+        0xb1 | 0xb4 => &[109, 99, 101],
+        0xb3 => &[100, 98, 108, 107, 103, 105, 104],
         _ => &[],
     }
 }
@@ -496,9 +505,9 @@ fn judge_attributes(reader: &Reader, op: &Operator) -> Result<(), Fault> {
     }
 }
 
-// ---------------------------------------------------------------- images and data
+// ---------------------------------------------------------------- images, patterns and data
 
-/// An image being read.
+/// An image or a pattern being read.
 #[derive(Debug, Clone, Copy)]
 struct Image {
     width: u32,
@@ -527,7 +536,7 @@ impl Image {
         self.rows == self.height
     }
 
-    /// Bytes of the rows that a ReadImage has; its PadBytesMultiple stands in place of the 4.
+    /// Bytes of the rows that a ReadImage or ReadRastPattern has; its PadBytesMultiple stands in place of the 4.
     fn block_bytes(&self, reader: &Reader, op: &Operator) -> u64 {
         let pad = if op.has(110) { reader.scalar(op, 110) } else { 4 };
         row_bytes(self.width, self.depth, pad) * u64::from(reader.scalar(op, 99))
@@ -541,13 +550,13 @@ impl Image {
     }
 }
 
-/// What an accepted operator does to the image being read.
+/// What an accepted operator does to the image or pattern being read.
 #[inline(always)]
 fn image_after(image: &mut Option<Image>, reader: &Reader, op: &Operator) {
     match (op.tag, image) {
-        (0xb0, image) => *image = Some(Image::begin(reader, op)),
-        (0xb1, Some(image)) => image.rows += reader.scalar(op, 99),
-        (0xb2, image) => *image = None,
+        (0xb0 | 0xb3, image) => *image = Some(Image::begin(reader, op)),
+        (0xb1 | 0xb4, Some(image)) => image.rows += reader.scalar(op, 99),
+        (0xb2 | 0xb5, image) => *image = None,
         _ => {}
     }
 }
@@ -561,7 +570,7 @@ fn data_due(reader: &Reader, op: &Operator, image: Option<&Image>) -> Option<u64
             let each = if reader.scalar(op, 80) < 2 { 2 } else { 4 };
             Some(u64::from(reader.scalar(op, 77)) * each)
         }
-        0xb1 => image.map(|i| i.block_bytes(reader, op)),
+        0xb1 | 0xb4 => image.map(|i| i.block_bytes(reader, op)),
         _ => None,
     }
 }
@@ -588,6 +597,8 @@ enum Step {
     NeedBoth,
     /// Cursor not set, and gray or RGB as a page starts.
     Start(bool),
+    /// SetBrushSource with the number of a pattern, which must be defined.
+    Select(u16),
     Call(usize),
     Other,
 }
@@ -605,7 +616,9 @@ fn step(reader: &Reader, op: &Operator) -> Step {
         0x6c | 0x9b | 0x9d => Step::NeedCursor,
         0x63 | 0x79 if op.has(11) => Step::NeedGray(false),
         0x63 | 0x79 if op.has(9) => Step::NeedGray(true),
+        0x63 if op.has(8) => Step::Select(reader.scalar(op, 8) as u16),
         0xb0 => Step::NeedBoth,
+        0xb3 => Step::NeedGray(true),
         _ => Step::Other,
     }
 }
@@ -623,6 +636,10 @@ impl Step {
         }
     }
 
+    fn breaks_pattern(self, patterns: &Patterns) -> bool {
+        matches!(self, Step::Select(number) if !patterns.defined(number))
+    }
+
     /// The effect on cursor and colour space alone.
     fn change(self, look: &mut Look) {
         match self {
@@ -634,9 +651,31 @@ impl Step {
     }
 }
 
-/// Order inside a page: every operator that may stand there, EndPage and counts of saves apart.
+/// Order inside a page or motif: every operator that may stand there, EndPage, BeginRastPattern and counts of saves apart.
 fn page_operator(tag: u8) -> bool {
     matches!(tag, 0x47 | 0x57 | 0x5e | 0x60 | 0x61) || (0x63..=0xb0).contains(&tag)
+}
+
+/// The numbers of the patterns that are defined; which of two of the same number is meant changes no answer.
+#[derive(Debug, Default)]
+struct Patterns {
+    page: BTreeSet<u16>,
+    session: BTreeSet<u16>,
+}
+
+impl Patterns {
+    fn defined(&self, number: u16) -> bool {
+        self.page.contains(&number) || self.session.contains(&number)
+    }
+
+    /// Those of a persistence: 1 is the page's, 2 the session's.
+    fn of(&mut self, persistence: u32) -> &mut BTreeSet<u16> {
+        if persistence == 1 {
+            &mut self.page
+        } else {
+            &mut self.session
+        }
+    }
 }
 
 // ---------------------------------------------------------------- motifs
@@ -655,6 +694,8 @@ struct Motif {
 struct Motifs {
     ids: HashMap<Vec<u8>, usize>,
     held: Vec<Option<Motif>>,
+    /// The patterns that a motif may select if it is called now.
+    patterns: Patterns,
 }
 
 impl Motifs {
@@ -688,7 +729,12 @@ fn name_of<'a>(reader: &Reader<'a>, op: &Operator) -> &'a [u8] {
     op.find(139).map_or(&[], |a| &reader.bytes[a.body..a.body + a.count as usize])
 }
 
-/// Judges the bytes of a motif of a job at its EndStream, all but names, nesting, 17 and 23 to 26.
+/// Persistence and number of a BeginRastPattern.
+fn pattern_of(reader: &Reader, op: &Operator) -> (u32, u16) {
+    (reader.scalar(op, 104), reader.scalar(op, 105) as u16)
+}
+
+/// Judges the bytes of a motif of a job at its EndStream, all but names, nesting, patterns, 17 and 23 to 26.
 fn judge_motif(bytes: &[u8], motifs: &mut Motifs, job: &Reader) -> Result<Motif, Fault> {
     let (high_first, profile, at) = header(bytes)?;
     if profile != job.profile {
@@ -746,6 +792,8 @@ struct Walk {
     saved: usize,
     cursor_broken: bool,
     gray_broken: bool,
+    /// A pattern selected that is not defined.
+    bare: bool,
     reads: bool,
     /// Operators performed, the call that is judged not among them; stops at the largest u64.
     count: u64,
@@ -762,6 +810,7 @@ impl Walk {
             saved: 0,
             cursor_broken: false,
             gray_broken: false,
+            bare: false,
             reads: false,
             count: 0,
             not_held: false,
@@ -771,12 +820,19 @@ impl Walk {
     }
 
     /// Performs the operators of a motif one after the other; what a call comes to is left to `call`.
-    fn pass(&mut self, motif: &Motif, stack: &mut Vec<Look>, mut call: impl FnMut(&mut Walk, &mut Vec<Look>, usize)) {
+    fn pass(
+        &mut self,
+        motif: &Motif,
+        patterns: &Patterns,
+        stack: &mut Vec<Look>,
+        mut call: impl FnMut(&mut Walk, &mut Vec<Look>, usize),
+    ) {
         self.reads |= motif.reads;
         for &step in &motif.steps {
             self.count = self.count.saturating_add(1);
             self.cursor_broken |= step.breaks_cursor(self.look);
             self.gray_broken |= step.breaks_gray(self.look);
+            self.bare |= step.breaks_pattern(patterns);
             match step {
                 Step::Save => {
                     stack.push(self.look);
@@ -809,7 +865,9 @@ fn walk(motifs: &Motifs, id: usize, running: &mut Vec<usize>, stack: &mut Vec<Lo
         found.too_deep = true;
     } else if found.count <= WALK_MAX {
         running.push(id);
-        found.pass(motif, stack, |found, stack, called| walk(motifs, called, running, stack, found));
+        found.pass(motif, &motifs.patterns, stack, |found, stack, called| {
+            walk(motifs, called, running, stack, found);
+        });
         running.pop();
     }
 }
@@ -887,12 +945,13 @@ impl<'a> Facts<'a> {
         let mut found = Walk::from(look);
         let motifs = self.motifs;
         if let Some(motif) = &motifs.held[id] {
-            found.pass(motif, &mut Vec::new(), |found, stack, called| {
+            found.pass(motif, &motifs.patterns, &mut Vec::new(), |found, stack, called| {
                 let inside = self.of(called, found.look);
                 found.look = inside.look;
                 found.saved = found.saved.max(stack.len() + inside.saved);
                 found.cursor_broken |= inside.cursor_broken;
                 found.gray_broken |= inside.gray_broken;
+                found.bare |= inside.bare;
                 found.reads |= inside.reads;
                 found.count = found.count.saturating_add(inside.count);
             });
@@ -912,6 +971,7 @@ enum Place {
     Stream,
     Page,
     Image,
+    Pattern,
 }
 
 /// The arm while it reads a job.
@@ -928,7 +988,10 @@ struct Arm<'b> {
     stream: (usize, Vec<u8>),
     look: Look,
     saved: Vec<Look>,
+    /// The image or pattern being read.
     image: Option<Image>,
+    /// Persistence and number of the pattern being read.
+    pattern: (u32, u16),
 }
 
 impl<'b> Arm<'b> {
@@ -945,6 +1008,7 @@ impl<'b> Arm<'b> {
             look: Look { cursor: false, gray: false },
             saved: Vec::new(),
             image: None,
+            pattern: (0, 0),
         }
     }
 
@@ -977,11 +1041,16 @@ impl<'b> Arm<'b> {
             Place::Page => match tag {
                 0x44 => self.saved.is_empty(),
                 0x60 => !self.saved.is_empty(),
-                _ => page_operator(tag),
+                _ => tag == 0xb3 || page_operator(tag),
             },
             Place::Image => match tag {
                 0xb1 => true,
                 0xb2 => self.image.is_some_and(|i| i.done()),
+                _ => false,
+            },
+            Place::Pattern => match tag {
+                0xb4 => true,
+                0xb5 => self.image.is_some_and(|i| i.done()),
                 _ => false,
             },
         }
@@ -996,7 +1065,7 @@ impl<'b> Arm<'b> {
             return fault(10, op.at);
         }
         judge_attributes(reader, op)?;
-        if op.tag == 0xb1 && !self.image.is_some_and(|i| i.takes_block(reader, op)) {
+        if matches!(op.tag, 0xb1 | 0xb4) && !self.image.is_some_and(|i| i.takes_block(reader, op)) {
             return fault(14, op.at);
         }
         let mut data = (0, 0);
@@ -1040,10 +1109,15 @@ impl<'b> Arm<'b> {
                 if found.gray_broken {
                     return fault(25, op.at);
                 }
+                if found.bare {
+                    return fault(34, op.at);
+                }
                 look = found.look;
                 count = found.count.saturating_add(1);
             }
             0x61 if self.saved.len() == SAVED_MAX => return fault(23, op.at),
+            // A number that is defined needs no further place.
+            0xb3 if self.no_place(reader, op) => return fault(33, op.at),
             _ => {
                 let step = step(reader, op);
                 if step.breaks_cursor(look) {
@@ -1051,6 +1125,9 @@ impl<'b> Arm<'b> {
                 }
                 if step.breaks_gray(look) {
                     return fault(25, op.at);
+                }
+                if step.breaks_pattern(&self.motifs.patterns) {
+                    return fault(34, op.at);
                 }
                 step.change(&mut look);
             }
@@ -1063,6 +1140,13 @@ impl<'b> Arm<'b> {
         self.look = look;
         self.effect(reader, op, data, motif);
         Ok(())
+    }
+
+    /// Whether a BeginRastPattern has a number not defined at its persistence, and all places there are taken.
+    fn no_place(&mut self, reader: &Reader, op: &Operator) -> bool {
+        let (persistence, number) = pattern_of(reader, op);
+        let defined = self.motifs.patterns.of(persistence);
+        defined.len() == PATTERNS_MAX && !defined.contains(&number)
     }
 
     /// Walks a call from the state of the page, or refuses it by 21, 32 or 22. A motif never pops below its start, so its own
@@ -1101,7 +1185,7 @@ impl<'b> Arm<'b> {
         Ok(())
     }
 
-    /// The effect of an accepted operator on order, source, motifs, saves and images.
+    /// The effect of an accepted operator on order, source, motifs, saves, images and patterns.
     fn effect(&mut self, reader: &Reader, op: &Operator, data: (usize, usize), motif: Option<Motif>) {
         match op.tag {
             0x41 => self.place = Place::Session,
@@ -1113,7 +1197,10 @@ impl<'b> Arm<'b> {
                 self.place = Place::Page;
                 self.look = Look { cursor: false, gray: self.starts_gray };
             }
-            0x44 => self.place = Place::Session,
+            0x44 => {
+                self.place = Place::Session;
+                self.motifs.patterns.page.clear();
+            }
             0x48 => self.source_open = true,
             0x49 => self.source_open = false,
             0x5b => {
@@ -1133,6 +1220,15 @@ impl<'b> Arm<'b> {
             0x61 => self.saved.push(self.look),
             0xb0 => self.place = Place::Image,
             0xb2 => self.place = Place::Page,
+            0xb3 => {
+                self.place = Place::Pattern;
+                self.pattern = pattern_of(reader, op);
+            }
+            0xb5 => {
+                self.place = Place::Page;
+                let (persistence, number) = self.pattern;
+                self.motifs.patterns.of(persistence).insert(number);
+            }
             _ => {}
         }
         image_after(&mut self.image, reader, op);
@@ -1193,7 +1289,7 @@ mod tests {
         let mut steps = Vec::new();
         let mut saved = 0;
         for _ in 0..rng.below(8) {
-            steps.push(match rng.below(8) {
+            steps.push(match rng.below(9) {
                 0 => {
                     saved += 1;
                     Step::Save
@@ -1207,6 +1303,7 @@ mod tests {
                 4 => Step::NeedCursor,
                 5 => Step::NeedGray(rng.one_in(2)),
                 6 if held > 0 => Step::Call(rng.below(held)),
+                7 => Step::Select(rng.below(3) as u16),
                 _ => Step::Other,
             });
         }
@@ -1218,6 +1315,8 @@ mod tests {
     fn random_motifs(rng: &mut Rng, n: usize) -> Motifs {
         let mut motifs = Motifs::default();
         let (tame, lost) = (rng.one_in(2), rng.one_in(3));
+        motifs.patterns.page.extend([0, 1].iter().filter(|_| rng.one_in(2)));
+        motifs.patterns.session.extend([1, 2].iter().filter(|_| rng.one_in(2)));
         for i in 0..n {
             let id = motifs.id(&[i as u8]);
             // Calls of earlier ones only make no ring.
@@ -1296,6 +1395,8 @@ mod tests {
         cursor: bool,
         gray: bool,
         saved: Vec<(bool, bool)>,
+        /// Numbers of patterns, of the page and of the session.
+        patterns: [BTreeSet<u32>; 2],
         count: u64,
     }
 
@@ -1320,6 +1421,11 @@ mod tests {
                 let kept = match s.tag {
                     0x42 => {
                         self.held.clear();
+                        self.patterns[1].clear();
+                        true
+                    }
+                    0x44 => {
+                        self.patterns[0].clear();
                         true
                     }
                     0x43 => {
@@ -1368,11 +1474,18 @@ mod tests {
                         self.cursor = s.tag == 0x6b;
                         true
                     }
+                    0x63 if has(8) => self.patterns.iter().any(|of| of.contains(&pairs[0].1.numbers[0])),
                     0x63 | 0x79 => !(has(9) && !self.gray || has(11) && self.gray),
                     0x6c => self.cursor,
                     0x9b | 0x9d => self.cursor && (!has(77) || self.open),
                     0xb0 => self.cursor && self.gray,
-                    0xb1 => self.open,
+                    0xb1 | 0xb4 => self.open,
+                    // No operator of the page comes before its end, so it may count as defined at once.
+                    0xb3 => {
+                        let number = |n: u16| pairs.iter().find(|p| p.0 == n).map_or(0, |p| p.1.numbers[0]);
+                        self.patterns[number(104) as usize - 1].insert(number(105));
+                        self.gray
+                    }
                     _ => true,
                 };
                 if !kept || self.count > 1_000_000 {
@@ -1393,7 +1506,8 @@ mod tests {
         let limits = (0..160u64).map(|i| (i / 3, generate::limit(&mut Rng::new(i, 6), setting(i / 3), i as usize)));
         // A ring never ends for the slow arm, so what is refused by 21, 32 or 22 is not performed.
         let motifs = (0..1500u64).map(|i| (i, generate::motifs(&mut Rng::new(i, 7), setting(i))));
-        for (i, job) in jobs.chain(limits).chain(motifs) {
+        let patterns = (0..600u64).map(|i| (i, generate::patterns(&mut Rng::new(i, 8), setting(i))));
+        for (i, job) in jobs.chain(limits).chain(motifs).chain(patterns) {
             let starts_gray = setting(i).gray;
             let v = judge(&job, u32::from(!starts_gray));
             seen[v.code as usize] += 1;
@@ -1403,14 +1517,14 @@ mod tests {
                     assert!(slow.perform(&job), "{v:?}\n{}", text::list(&job));
                     assert_eq!(slow.count, v.performed.into());
                 }
-                17 | 23..=26 => {
+                17 | 23..=26 | 34 => {
                     let mut slow = Slow { starts_gray, ..Slow::default() };
                     assert!(!slow.perform(&job), "{v:?}\n{}", text::list(&job));
                 }
                 _ => {}
             }
         }
-        assert!([0, 17, 23, 24, 25, 26].iter().all(|&c| seen[c] > 0), "{seen:?}");
+        assert!([0, 17, 23, 24, 25, 26, 34].iter().all(|&c| seen[c] > 0), "{seen:?}");
     }
 
     #[test]

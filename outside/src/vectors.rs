@@ -189,7 +189,7 @@ mod tests {
         let all = all();
         assert!(all.len() >= 300, "{}", all.len());
         // 20 is retired.
-        for code in (0..=29).filter(|&code| code != 20).chain([32]) {
+        for code in (0..=29).filter(|&code| code != 20).chain(32..=34) {
             assert!(all.iter().any(|v| v.want.code == code), "no vector of code {code}");
         }
     }

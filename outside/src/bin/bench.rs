@@ -41,6 +41,24 @@ fn kinds(length: usize) -> Vec<(&'static str, Vec<Vec<u8>>)> {
     let wing = format!("motif [1] {{ header low; {drawn} }}");
     let (bird, _) = each(2..=8, |k| (format!("motif [{k}] {{ header low; {} {} }}", exec(1), exec(k - 1)), exec(k)));
     let corrected = format!("{wing}; {new_page}; {}; EndPage", exec(8));
+    let hatch = |number: usize, persistence: usize| {
+        format!(
+            "BeginRastPattern ColorMapping=0 ColorDepth=0 SourceWidth=32 SourceHeight=2 DestinationSize=(1,1) \
+             PatternDefineID={number}:sint16 PatternPersistence={persistence}; \
+             ReadRastPattern StartLine=0 BlockHeight=2 CompressMode=0 data=00*8; EndRastPattern; "
+        )
+    };
+    let select = |number: usize| format!("SetBrushSource PatternSelectID={number}:sint16; ");
+    let hatcher = format!("motif \"a\" {{ header low; {} PaintPath }}", select(1));
+    let hatched =
+        format!("{}{}{} ExecStream StreamName=\"a\"; EndPage; {new_page}", hatch(1, 1), hatch(2, 2), select(2));
+    // As "many calls", but each motif selects four numbers of the 32 that are defined.
+    let (selecting, all_hatched) = each(1..=64, |k| {
+        let calls = if k % 8 == 1 { String::new() } else { exec(k - 1) };
+        let selects: String = (0..4).map(|i| select((k + 8 * i) % 32 + 1)).collect();
+        (format!("motif [{k}] {{ header low; {selects} {calls} }}"), exec(k))
+    });
+    let all_numbers: String = (1..=32).map(|n| hatch(n, 1)).collect();
     let small = assemble(&format!("header low; {session}; EndSession")).expect("a job");
     vec![
         ("one-byte operators", vec![filled(length, &page, "PaintPath", ended)]),
@@ -63,6 +81,16 @@ fn kinds(length: usize) -> Vec<(&'static str, Vec<Vec<u8>>)> {
                 &format!("header low; {open}; {wing}; {bird}"),
                 &corrected,
                 "CloseDataSource; EndSession",
+            )],
+        ),
+        ("patterns", vec![filled(length, &format!("header low; {open}; {hatcher}; {new_page}"), &hatched, ended)]),
+        (
+            "calls that select",
+            vec![filled(
+                length.max(12_288),
+                &format!("header low; {open}; {selecting} {new_page}; {all_numbers}"),
+                &all_hatched,
+                ended,
             )],
         ),
         ("many sessions", vec![filled(length, &header, &both, &both)]),

@@ -40,16 +40,21 @@ pub fn all_rules() -> Vec<Broken> {
                 }
             }
         }
-        all.extend([rule(0xb1, 109, 14), rule(0xb1, 99, 14)]);
+        all.extend([0xb1, 0xb4].iter().flat_map(|&tag| [rule(tag, 109, 14), rule(tag, 99, 14)]));
     }
-    all.push(Broken { profile: Profile::Two, tag: 0xb1, number: 111, code: 14 });
+    all.extend([0xb1, 0xb4].map(|tag| Broken { profile: Profile::Two, tag, number: 111, code: 14 }));
     all.sort();
     all.dedup();
     all
 }
 
 fn page_tag(tag: u8) -> bool {
-    matches!(tag, 0x47 | 0x57 | 0x5e..=0x61) || (0x63..=0xb2).contains(&tag)
+    matches!(tag, 0x47 | 0x57 | 0x5e..=0x61) || (0x63..=0xb5).contains(&tag)
+}
+
+/// Operators that may stand in a motif: those of a page but patterns.
+fn motif_tag(tag: u8) -> bool {
+    page_tag(tag) && !(0xb3..=0xb5).contains(&tag)
 }
 
 /// A job that breaks one rule first, in the job or, where it may stand in one, in a motif.
@@ -65,7 +70,7 @@ pub(super) fn ending_in(
     inside: bool,
     change: impl Fn(&mut Rng, &mut Op),
 ) -> Job {
-    let inside = inside && page_tag(rule.tag);
+    let inside = inside && motif_tag(rule.tag);
     let mut m = Maker::new(rng.clone(), Setting { gray, profile: rule.profile });
     rng.draw();
     if rng.one_in(3) {
@@ -80,7 +85,7 @@ pub(super) fn ending_in(
             m.nodes.push(begin);
         }
         before = operators_before(&mut m, rule.tag, inside);
-        if matches!(rule.tag, 0xb1 | 0xb2) {
+        if matches!(rule.tag, 0xb1 | 0xb2 | 0xb4 | 0xb5) {
             let (rows, last) = part_of_image(&mut m, rule);
             before.extend(rows);
             made = last;
@@ -102,7 +107,7 @@ pub(super) fn ending_in(
 
 /// A session, the source open and a motif, as far as the operator may stand behind them.
 fn start(m: &mut Maker, tag: u8) {
-    m.held.clear();
+    m.forget();
     let outer = m.op(0x41, 0).node();
     let open = m.op(0x48, 0).node();
     m.open = true;
@@ -149,13 +154,13 @@ fn operators_before(m: &mut Maker, tag: u8, inside: bool) -> Vec<Node> {
     before
 }
 
-/// Cursor, gray and an image up to the operator of the rule, and that operator.
+/// Cursor, gray and an image or pattern up to the operator of the rule, and that operator.
 fn part_of_image(m: &mut Maker, rule: Broken) -> (Vec<Node>, Op) {
     let mut before = vec![m.op(0x6b, 0).node(), colour_space(1)];
-    let mut image = m.image();
+    let mut image = if rule.tag < 0xb3 { m.image() } else { m.pattern() };
     let end = image.len() - 1;
     let stop = match rule {
-        Broken { tag: 0xb2, .. } => end,
+        Broken { tag: 0xb2 | 0xb5, .. } => end,
         // The last block, so that one row more is one too many.
         Broken { number: 99, code: 14, .. } => end - 1,
         _ => 1 + m.rng.below(end - 1),
@@ -178,7 +183,7 @@ fn break_op(rng: &mut Rng, made: &mut Op, rule: Broken) {
         12 => put_twice(rng, made, rule),
         13 if rule.number == 0 => made.pairs.clear(),
         13 => made.pairs.retain(|p| p.number != rule.number),
-        14 if rule.tag == 0xb1 => put_wrong_rows(rng, made, rule.number),
+        14 if matches!(rule.tag, 0xb1 | 0xb4) => put_wrong_rows(rng, made, rule.number),
         14 => put_clash(rng, made, rule),
         15 | 16 => put_wrong_value(rng, made, rule),
         _ => {}
@@ -231,7 +236,7 @@ fn put_clash(rng: &mut Rng, made: &mut Op, rule: Broken) {
     made.pairs.push(pair);
 }
 
-/// Another StartLine, more rows than the image has, or another length than the rows have.
+/// Another StartLine, more rows than there are, or another length than the rows have.
 fn put_wrong_rows(rng: &mut Rng, made: &mut Op, wrong: u16) {
     let Some(p) = made.pairs.iter_mut().find(|p| p.number == wrong) else {
         let value = number(0xc2, rng.pick(&[0, 0x00ff_ffff, u32::MAX]));
@@ -271,7 +276,7 @@ mod tests {
                     let job = write(&broken(&mut Rng::new(round, i as u64), round % 2 == 0, rule, inside));
                     let verdict = judged(&job, Setting { gray: round % 2 == 0, profile: rule.profile });
                     assert_eq!(verdict.code, rule.code, "{rule:x?} {verdict:?}\n{}", text::list(&job));
-                    assert_eq!(verdict.inner != plain::NO_INNER, inside && page_tag(rule.tag));
+                    assert_eq!(verdict.inner != plain::NO_INNER, inside && motif_tag(rule.tag));
                 }
             }
         }

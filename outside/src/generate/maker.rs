@@ -18,6 +18,8 @@ pub(super) struct Page {
     reads: bool,
     count: u64,
     deep: u32,
+    /// Numbers of the patterns that a motif selects.
+    wants: Vec<u16>,
 }
 
 /// A motif as the maker knows it; it sets cursor and colour space before it needs them.
@@ -34,6 +36,8 @@ pub(super) struct Maker {
     pub(super) set: Setting,
     pub(super) held: Vec<Held>,
     pub(super) open: bool,
+    /// Numbers of the patterns that are defined, of the page and of the session.
+    patterns: [Vec<u16>; 2],
     pub(super) nodes: Vec<Node>,
     /// Once in so many operators the state is not looked at; 0 never.
     wild: usize,
@@ -42,7 +46,16 @@ pub(super) struct Maker {
 impl Page {
     /// A page that starts as the setting says.
     pub(super) fn new(set: Setting) -> Page {
-        Page { cursor: false, gray: set.gray, saved: Vec::new(), most: 0, reads: false, count: 0, deep: 1 }
+        Page {
+            cursor: false,
+            gray: set.gray,
+            saved: Vec::new(),
+            most: 0,
+            reads: false,
+            count: 0,
+            deep: 1,
+            wants: Vec::new(),
+        }
     }
 
     fn bring_back(&mut self) {
@@ -52,7 +65,7 @@ impl Page {
 
 impl Maker {
     pub(super) fn new(rng: Rng, set: Setting) -> Maker {
-        Maker { rng, set, held: Vec::new(), open: false, nodes: Vec::new(), wild: 0 }
+        Maker { rng, set, held: Vec::new(), open: false, patterns: Default::default(), nodes: Vec::new(), wild: 0 }
     }
 
     pub(super) fn pair(&mut self, tag: u8, n: u16) -> Pair {
@@ -105,10 +118,61 @@ impl Maker {
         made.data(bytes)
     }
 
+    /// Drops what a session holds.
+    pub(super) fn forget(&mut self) {
+        self.held.clear();
+        self.patterns = Default::default();
+    }
+
     /// An image with all its rows.
     pub(super) fn image(&mut self) -> Vec<Op> {
+        self.rows(0xb0)
+    }
+
+    /// A pattern with all its rows, of a few numbers, so that some are replaced or hide others.
+    pub(super) fn pattern(&mut self) -> Vec<Op> {
+        let persistence = self.rng.below(2);
+        let defined = &self.patterns[persistence];
+        let number_of = if defined.len() < plain::PATTERNS_MAX { self.any_pattern() } else { self.rng.pick(defined) };
+        if !self.patterns[persistence].contains(&number_of) {
+            self.patterns[persistence].push(number_of);
+        }
+        let mut all = self.rows(0xb3);
+        Self::set(&mut all[0], 104, number(0xc0, persistence as u32 + 1));
+        Self::set(&mut all[0], 105, number(0xc3, number_of.into()));
+        all
+    }
+
+    /// The number of a pattern, often one of a few.
+    fn any_pattern(&mut self) -> u16 {
+        let any = self.rng.draw() as u16;
+        self.rng.pick(&[0, 1, 1, 2, 0x7fff, 0x8000, 0xffff, any])
+    }
+
+    fn defined(&self, number: u16) -> bool {
+        self.patterns.iter().any(|of| of.contains(&number))
+    }
+
+    /// SetBrushSource with a pattern that is defined, or any if wild; a motif may want one that is not, and is then not called.
+    fn select(&mut self, page: &mut Page, inside: bool, wild: bool) -> Vec<Op> {
+        let of = if inside { self.patterns[1].clone() } else { self.patterns.concat() };
+        let chosen =
+            if of.is_empty() || wild || inside && self.rng.one_in(6) { self.any_pattern() } else { self.rng.pick(&of) };
+        if !inside && !wild && !self.defined(chosen) {
+            return vec![];
+        }
+        if inside {
+            page.wants.push(chosen);
+        }
+        let mut made = self.op(0x63, 3);
+        Self::set(&mut made, 8, number(0xc3, chosen.into()));
+        vec![made]
+    }
+
+    /// An image or pattern, by the tag of its Begin, with all its rows.
+    fn rows(&mut self, tag: u8) -> Vec<Op> {
         let (width, height, depth) = (1 + self.rng.below(70), 1 + self.rng.below(5), self.rng.below(3));
-        let mut begin = self.op(0xb0, 0);
+        let mut begin = self.op(tag, 0);
         let kind = self.rng.pick(&[0xc0, 0xc1]);
         Self::set(&mut begin, 98, number(0xc0, depth as u32));
         Self::set(&mut begin, 108, number(kind, width as u32));
@@ -117,26 +181,26 @@ impl Maker {
         let mut rows = 0;
         while rows < height {
             let block = 1 + self.rng.below(height - rows);
-            all.push(self.block(width as u32, depth as u32, rows as u32, block as u32));
+            let mut read = self.op(tag + 1, 0);
+            self.fill(&mut read, (width as u32, depth as u32), rows as u32, block as u32);
+            all.push(read);
             rows += block;
         }
-        all.push(op(0xb2));
+        all.push(op(tag + 2));
         all
     }
 
-    /// Rows of an image; in class 2;1 perhaps padded otherwise, and with their length.
-    fn block(&mut self, width: u32, depth: u32, from: u32, rows: u32) -> Op {
-        let mut read = self.op(0xb1, 0);
+    /// Puts rows into an operator that reads them; in class 2;1 perhaps padded otherwise, and with their length.
+    fn fill(&mut self, read: &mut Op, (width, depth): (u32, u32), from: u32, rows: u32) {
         let kind = self.rng.pick(&[0xc0, 0xc1]);
-        Self::set(&mut read, 109, number(kind, from));
-        Self::set(&mut read, 99, number(kind, rows));
+        Self::set(read, 109, number(kind, from));
+        Self::set(read, 99, number(kind, rows));
         let pad = read.pairs.iter().find(|p| p.number == 110).map_or(4, |p| p.value.numbers[0]);
         let length = plain::row_bytes(width, depth, pad) as u32 * rows;
         let least = [0xff, 0xffff].iter().filter(|&&most| length > most).count() as u8;
         let kind = 0xc0 + least + self.rng.below(3 - usize::from(least)) as u8;
-        Self::set(&mut read, 111, number(kind, length));
-        let bytes = self.rng.bytes(length as usize);
-        read.data(bytes)
+        Self::set(read, 111, number(kind, length));
+        read.data = Some(self.rng.bytes(length as usize));
     }
 
     /// A call of a held motif that keeps the rules, or of any if wild.
@@ -145,9 +209,11 @@ impl Maker {
             return None;
         }
         let index = self.rng.below(self.held.len());
+        let wanted = inside || self.held[index].after.wants.iter().all(|&number| self.defined(number));
         let held = &mut self.held[index];
         let after = &held.after;
-        let fits = page.saved.len() + after.most <= 24
+        let fits = wanted
+            && page.saved.len() + after.most <= 24
             && (self.open || inside || !after.reads)
             && page.count + after.count < 20_000;
         if (inside && after.deep >= 32 && !wild) || !fits && !wild {
@@ -159,6 +225,7 @@ impl Maker {
         page.reads |= after.reads;
         page.count += after.count;
         page.deep = page.deep.max(after.deep + 1);
+        page.wants.extend(&after.wants);
         held.called |= inside;
         let name = held.name.clone();
         let wide = self.rng.one_in(4);
@@ -171,11 +238,12 @@ impl Maker {
         let floor = page.saved.len();
         for _ in 0..n {
             let wild = self.wild > 0 && self.rng.one_in(self.wild);
-            let ops = match self.rng.below(22) {
+            let ops = match self.rng.below(24) {
                 which @ 1..=4 => self.save_or_bring_back(which, page, floor, wild),
                 which @ 5..=9 => vec![self.change(which, page)],
-                which @ 15..=18 => self.needing(which, page, inside, wild),
-                19.. => self.call(page, inside, wild).into_iter().collect(),
+                22 if inside || !self.rng.one_in(3) => self.select(page, inside, wild),
+                which @ (15..=18 | 22..) => self.needing(which, page, inside, wild),
+                19..=21 => self.call(page, inside, wild).into_iter().collect(),
                 which => vec![self.indifferent(which, page, wild)],
             };
             page.count += ops.len() as u64;
@@ -263,6 +331,8 @@ impl Maker {
                 page.reads = true;
                 self.image()
             }
+            // Only in a page, and no cursor is needed.
+            22.. if !inside && (page.gray && data || wild && self.rng.one_in(3)) => self.pattern(),
             _ => vec![],
         }
     }
@@ -322,7 +392,7 @@ impl Maker {
     }
 
     pub(super) fn session(&mut self, motifs: usize, pages: usize, size: usize) {
-        self.held.clear();
+        self.forget();
         self.open = false;
         let begin = self.op(0x41, 0);
         self.nodes.push(begin.node());
@@ -367,6 +437,7 @@ impl Maker {
         self.nodes.extend(ops);
         let end = self.op(0x44, 0);
         self.nodes.push(end.node());
+        self.patterns[0].clear();
     }
 
     pub(super) fn job(mut self, space: usize) -> Job {

@@ -1,5 +1,5 @@
 //! Jobs made from a seed: valid ones, edges of every limit, broken rules, mutants, rich states, padded ones, reals, rings and
-//! replacements of motifs, names near one another, tags, truncations.
+//! replacements of motifs, names near one another, patterns, tags, truncations.
 //!
 //! `case(seed, index)` is the same for the same numbers, so a difference can be made again.
 
@@ -12,6 +12,7 @@ mod motifs;
 mod mutant;
 mod names;
 mod padding;
+mod patterns;
 mod reals;
 mod rng;
 mod runs;
@@ -26,6 +27,7 @@ pub use motifs::motifs;
 pub use mutant::mutant;
 pub use names::names;
 pub use padding::padded;
+pub use patterns::patterns;
 pub use reals::reals;
 pub use rng::Rng;
 pub use runs::runs;
@@ -76,6 +78,7 @@ pub fn case(seed: u64, index: u64) -> Case {
         10 if sixteenth.is_multiple_of(2) => ("names", names(&mut rng, set)),
         2 | 3 | 10 => ("mutant", mutant(&mut rng, set)),
         13 => ("motifs", motifs(&mut rng, set)),
+        12 if sixteenth.is_multiple_of(2) => ("patterns", patterns(&mut rng, set)),
         4 | 5 | 12 => ("rich", write(&rich(&mut rng, set))),
         // The longer limit jobs come less often.
         6 if sixteenth.is_multiple_of(2) => ("limit", limit(&mut rng, set, (sixteenth / 2) as usize)),

@@ -23,6 +23,8 @@ pub enum Shape {
     Media,
     /// ubyte, uint16 or uint32.
     Length,
+    /// sint16.
+    Signed,
 }
 
 /// Whether an attribute may be missing.
@@ -34,10 +36,10 @@ pub enum Need {
 }
 
 use Need::{Choice, May, Must};
-use Shape::{Box, Length, Media, Point, Sizes, A, E, N};
+use Shape::{Box, Length, Media, Point, Signed, Sizes, A, E, N};
 
 /// Every attribute of every operator that has any, in class 1;1.
-const SHAPES: [(u8, u16, Shape, Need); 38] = [
+const SHAPES: [(u8, u16, Shape, Need); 49] = [
     (0x41, 134, E(0, 2, 0, 2), Must),
     (0x41, 137, Sizes, Must),
     (0x41, 143, E(0, 3, 0, 3), May),
@@ -54,6 +56,7 @@ const SHAPES: [(u8, u16, Shape, Need); 38] = [
     (0x63, 11, A(3, 3), Choice),
     (0x63, 9, E(0, 255, 0, 255), Choice),
     (0x63, 4, E(0, 0, 0, 0), Choice),
+    (0x63, 8, Signed, Choice),
     (0x6a, 3, E(1, 2, 1, 2), Must),
     (0x6b, 76, Point, Must),
     (0x6c, 76, Point, Must),
@@ -76,21 +79,33 @@ const SHAPES: [(u8, u16, Shape, Need); 38] = [
     (0xb1, 109, N(0, 0xffff), Must),
     (0xb1, 99, N(1, 0xffff), Must),
     (0xb1, 101, E(0, 0, 0, 0), Must),
+    (0xb3, 100, E(0, 0, 0, 0), Must),
+    (0xb3, 98, E(0, 2, 0, 2), Must),
+    (0xb3, 108, N(1, 0xffff), Must),
+    (0xb3, 107, N(1, 0xffff), Must),
+    (0xb3, 103, Sizes, Must),
+    (0xb3, 105, Signed, Must),
+    (0xb3, 104, E(1, 2, 1, 2), Must),
+    (0xb4, 109, N(0, 0xffff), Must),
+    (0xb4, 99, N(1, 0xffff), Must),
+    (0xb4, 101, E(0, 0, 0, 0), Must),
 ];
 
 /// What class 2;1 has besides or in place of these.
-const SHAPES_TWO: [(u8, u16, Shape, Need); 5] = [
+const SHAPES_TWO: [(u8, u16, Shape, Need); 7] = [
     (0x43, 37, Media, May),
     (0x43, 39, A(0, 1024), May),
     (0x43, 40, E(0, 3, 0, 3), May),
     (0xb1, 110, E(1, 255, 1, 255), May),
     (0xb1, 111, Length, May),
+    (0xb4, 110, E(1, 255, 1, 255), May),
+    (0xb4, 111, Length, May),
 ];
 
 /// Tags of the operator table of class 2;1; class 1;1 has all but 0x57.
-pub const TAGS: [u8; 29] = [
+pub const TAGS: [u8; 32] = [
     0x41, 0x42, 0x43, 0x44, 0x47, 0x48, 0x49, 0x57, 0x5b, 0x5c, 0x5d, 0x5e, 0x60, 0x61, 0x63, 0x6a, 0x6b, 0x6c, 0x79,
-    0x7a, 0x84, 0x85, 0x86, 0x9b, 0x9d, 0xa0, 0xb0, 0xb1, 0xb2,
+    0x7a, 0x84, 0x85, 0x86, 0x9b, 0x9d, 0xa0, 0xb0, 0xb1, 0xb2, 0xb3, 0xb4, 0xb5,
 ];
 
 /// The tags of a class.
@@ -115,7 +130,7 @@ pub(super) fn shape_of(profile: Profile, tag: u8, number: u16) -> Option<Shape> 
     shapes_of(profile, tag).find(|s| s.0 == number).map(|s| s.1)
 }
 
-/// The number of any attribute, of both classes and of patterns too.
+/// The number of any attribute, of both classes, those of patterns often.
 pub(super) fn any_number(rng: &mut Rng) -> u16 {
     if rng.one_in(6) {
         rng.pick(&[8, 39, 104, 105, 110, 111])
@@ -141,6 +156,10 @@ pub(super) fn good_value(rng: &mut Rng, shape: Shape) -> Value {
         Length => {
             let kind = rng.pick(&[0xc0, 0xc1, 0xc2]);
             any_value(rng, kind)
+        }
+        Signed => {
+            let any = rng.draw() as u32 & 0xffff;
+            number(0xc3, rng.pick(&[0, 1, 2, 0x7fff, 0x8000, 0xffff, any]))
         }
         E(a, b, c, d) => {
             let (from, to) = if rng.one_in(2) { (a, b) } else { (c, d) };
@@ -190,6 +209,7 @@ pub(super) fn takes_type(shape: Shape, kind: u8) -> bool {
         A(..) => kind == 0xc8,
         Media => kind == 0xc0 || kind == 0xc8,
         Length => [0xc0, 0xc1, 0xc2].contains(&kind),
+        Signed => kind == 0xc3,
     }
 }
 
@@ -222,7 +242,7 @@ pub(super) fn any_type(rng: &mut Rng) -> u8 {
 pub(super) fn bad_type(rng: &mut Rng, shape: Shape) -> Value {
     // Half of them of the right family, where a mistake is easiest.
     let family = match shape {
-        E(..) | N(..) | Media | Length => 0xc0,
+        E(..) | N(..) | Media | Length | Signed => 0xc0,
         Sizes | Point => 0xd0,
         Box => 0xe0,
         A(..) => 0xc8,
@@ -238,7 +258,7 @@ pub(super) fn bad_type(rng: &mut Rng, shape: Shape) -> Value {
 /// A value of a right type but out of range, if there is any.
 pub(super) fn bad_range(rng: &mut Rng, shape: Shape) -> Option<Value> {
     Some(match shape {
-        E(0, 255, ..) | N(0, 0xffff) | Box | Length | A(0, _) => return None,
+        E(0, 255, ..) | N(0, 0xffff) | Box | Length | Signed | A(0, _) => return None,
         Media if rng.one_in(2) => array(&[], rng.one_in(2)),
         Media => return bad_range(rng, E(0, 21, 96, 96)),
         E(a, b, c, d) => loop {

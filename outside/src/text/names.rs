@@ -1,6 +1,6 @@
 //! Names of operators, attributes and types, and the nearest of some words.
 
-pub const OPERATORS: [(u8, &str); 29] = [
+pub const OPERATORS: [(u8, &str); 32] = [
     (0x41, "BeginSession"),
     (0x42, "EndSession"),
     (0x43, "BeginPage"),
@@ -30,12 +30,16 @@ pub const OPERATORS: [(u8, &str); 29] = [
     (0xb0, "BeginImage"),
     (0xb1, "ReadImage"),
     (0xb2, "EndImage"),
+    (0xb3, "BeginRastPattern"),
+    (0xb4, "ReadRastPattern"),
+    (0xb5, "EndRastPattern"),
 ];
 
-pub const ATTRIBUTES: [(u16, &str); 34] = [
+pub const ATTRIBUTES: [(u16, &str); 37] = [
     (3, "ColorSpace"),
     (4, "NullBrush"),
     (5, "NullPen"),
+    (8, "PatternSelectID"),
     (9, "GrayLevel"),
     (11, "RGBColor"),
     (37, "MediaSize"),
@@ -54,6 +58,8 @@ pub const ATTRIBUTES: [(u16, &str); 34] = [
     (100, "ColorMapping"),
     (101, "CompressMode"),
     (103, "DestinationSize"),
+    (104, "PatternPersistence"),
+    (105, "PatternDefineID"),
     (107, "SourceHeight"),
     (108, "SourceWidth"),
     (109, "StartLine"),
