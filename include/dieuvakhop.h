@@ -15,8 +15,9 @@ extern "C" {
 #endif
 
 /* The version of the library. 2.0: dieuvakhop_check has the parameter rgb.
- * 3.0: code 20 is retired, code 32 is new; 21 and 22 are those of a call. */
-#define DIEUVAKHOP_VERSION "3.0"
+ * 3.0: code 20 is retired, code 32 is new; 21 and 22 are those of a call.
+ * 4.0: raster patterns are taken, codes 33 and 34 are new. */
+#define DIEUVAKHOP_VERSION "4.0"
 
 /* The longest job that is judged, in bytes. A longer one gets code 1. */
 #define DIEUVAKHOP_JOB_MOST 61440u
@@ -68,7 +69,9 @@ enum dieuvakhop_code {
     DIEUVAKHOP_LIST_FULL = 28,
     DIEUVAKHOP_WORK_SHORT = 29,
     /* 30 and 31 are not given. */
-    DIEUVAKHOP_RING = 32
+    DIEUVAKHOP_RING = 32,
+    DIEUVAKHOP_PATTERNS_FULL = 33,
+    DIEUVAKHOP_NO_PATTERN = 34
 };
 
 /* What a code means, in a few words. */
@@ -107,6 +110,8 @@ static inline const char *dieuvakhop_text(uint32_t code) {
         NULL,
         NULL,
         "a motif calls itself, directly or through others",
+        "no room for more patterns",
+        "a pattern that is not defined",
     };
     return code < sizeof text / sizeof text[0] && text[code] ? text[code] : "unknown code";
 }
@@ -168,13 +173,13 @@ struct dieuvakhop_verdict {
  * same verdict and the same records. Nothing is kept from one call to the next.
  *
  * What it takes of the machine (`examples/measure` measures it):
- *   - stack: 8,712 bytes at most over the jobs of crates/explain/data; there is
+ *   - stack: 19,064 bytes at most over the jobs of crates/explain/data; there is
  *     no recursion, and no memory but what is lent;
- *   - code and constants: 29,061 bytes; no data that is written;
+ *   - code and constants: 32,993 bytes; no data that is written;
  *   - alignment: none, each buffer may begin at any address;
  *   - re-entrant: it may run in several threads at once, or be interrupted by
  *     another call, as long as no two calls share `work` or `list`;
- *   - from the C library `memset` only.
+ *   - from the C library `memset` and `memcpy` only.
  */
 struct dieuvakhop_verdict dieuvakhop_check(
     const uint8_t *job, size_t job_len,
