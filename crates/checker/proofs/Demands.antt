@@ -3,11 +3,13 @@
 use Prim.Native.Nat.{ℕ, _+_, _*_, _≤_}
 use mathlib.Core.Path.{_≡_, sym, ap, _∙_, subst, subst₂, subst⁻¹}
 use mathlib.Core.Bool.{Bool}
-use mathlib.Core.List.{List, _++_, append-assoc}
+use mathlib.Core.List.{List, [], _++_, append-assoc}
 use lib.ListN.{length, take, drop}
 use native.Mathlib.Omega.{arith}
 use lib.Seq.{take-at, take-all}
-use Rattle.scope.specs.Verdict.{verdictOf, listOf, listAfter, entryOf, clearedBy, workAfter}
+use Rattle.scope.specs.Judge.{Outcome}
+use Rattle.scope.specs.Verdict.{every, told, recordsBefore, verdictOf, listOf, listAfter, entryOf, clearedBy, workAfter}
+use Rattle.scope.specs.Before.{listBefore}
 use Rattle.scope.specs.Claims.{limit, Further, Shifted, recordsFrom, RecordsMoved, moveBy, putIn}
 use Rattle.scope.specs.Exchange.{recordsOf, operators, exchanged}
 use Rattle.scope.proofs.Demand.{demand-3}
@@ -17,13 +19,14 @@ use Rattle.scope.proofs.Records.{list-long, reached-long, lists-moved, outcome-
 use Rattle.scope.proofs.White.{white-between}
 use Rattle.scope.proofs.WhiteItems.{white-between-items}
 use Rattle.scope.proofs.ByteOrder.{byte-order}
+use Rattle.scope.proofs.OneAsBefore.{one-as-before}
 use Rattle.scope.proofs.Exchange.{sessions-exchanged}
 use Rattle.scope.proofs.ExchangeList.{lists-exchanged}
 use Rattle.scope.proofs.ExchangeOrder.{any-order}
 use Rattle.scope.proofs.Buffers.{no-motif-left, zeroed}
 use Rattle.state.specs.Views.{verdictAs}
 use Rattle.state.specs.declared.verdict.Verdict.{Verdict}
-use Rattle.checker.specs.Claims.{Answer, Promised, OneAnswer, PlaceInJob, OldContents, NoMotifBehind, WorkCarriesNothing, SessionsIsolated, WhiteIgnored, WhiteIgnoredInside, OrderIgnored, SessionsExchanged, OrderOfPupils, PassesAsDrawn, PassesOnly}
+use Rattle.checker.specs.Claims.{Answer, Promised, OneAnswer, PlaceInJob, OldContents, NoMotifBehind, WorkCarriesNothing, SessionsIsolated, WhiteIgnored, WhiteIgnoredInside, OrderIgnored, AnsweredAsBefore, SessionsExchanged, OrderOfPupils, PassesAsDrawn, PassesOnly}
 
 -- two verdicts whose five numbers agree are one
 same-verdict : (v w : Verdict) → verdictAs v ≡ verdictAs w → v ≡ w
@@ -158,6 +161,12 @@ exchanged-of-check gray job work list before first second rest a b p q e =
 pub order-of-pupils : OrderOfPupils
 order-of-pupils gray job work list sessions order a b p q e r =
     same-verdict (b .verdict) (a .verdict) (q .verdict ∙ any-order gray job (length work) (length list) sessions order e r ∙ sym (p .verdict))
+
+pub answered-as-before : AnsweredAsBefore
+unfolding verdictOf listAfter listOf listBefore
+answered-as-before gray job work list a high next p e =
+    let x = one-as-before gray every job (length work) (length list) high next e in
+    (p .verdict ∙ ap told x, p .listed ∙ ap (λ (o : Outcome). recordsBefore (o .state .past) [] ++ drop (length (recordsBefore (o .state .past) [])) list) x)
 
 pub demand-3-of-check : PassesAsDrawn
 demand-3-of-check gray job work list a p h k r =

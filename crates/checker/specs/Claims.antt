@@ -6,12 +6,13 @@ use mathlib.Core.Logic.{_↔_}
 use mathlib.Core.Bool.{Bool, true, false}
 use mathlib.Core.List.{List, [], _++_}
 use lib.ListN.{length, take, drop}
-use Rattle.scope.specs.Header.{headerOf}
+use Rattle.scope.specs.Header.{one, Header, headerOf}
 use Rattle.scope.specs.Setting.{Setting, headed}
 use Rattle.scope.specs.Item.{spaces, after}
 use Rattle.scope.specs.Reading.{Operator}
 use Rattle.scope.specs.Judge.{State}
-use Rattle.scope.specs.Verdict.{zeros, verdictOf, listAfter, workAfter}
+use Rattle.scope.specs.Before.{outcomeBefore, listBefore}
+use Rattle.scope.specs.Verdict.{every, told, zeros, verdictOf, listAfter, workAfter}
 use Rattle.scope.specs.Plain.{unfoldingOf, comes, atStart}
 use Rattle.scope.specs.Claims.{Keeps, HasRoom, Reached, Between, limit, Further, Shifted, RecordsMoved, recordsFrom, moveBy, putIn, Gap, ItemFrom, SameItem}
 use Rattle.scope.specs.Exchange.{Lists, recordsOf, WholeSession, operators, exchanged, secondMoves, firstMoves, allOperators, bytesOf, around, woven, Reordered}
@@ -112,6 +113,13 @@ OrderIgnored =
     (set other : Setting) (job turned work list : List ℕ) (next : ℕ) (a b : Answer) → Promised (set .gray) job work list a → Promised (other .gray) turned work list b
     → 16384 ≤ length work → length job ≤ 61440 → length job ≡ length turned → set .class ≡ other .class → set .gray ≡ other .gray → headerOf job ≡ headed set next
     → headerOf turned ≡ headed other next → ((at : ℕ) → ItemFrom (set .high) job next at → SameItem (set .high) (other .high) job turned at) → a ≡ b
+
+-- request 6: a job of class 1;1 gets the answer that it got before: the five numbers, and in the list the records, behind them what stood there
+abbrev pub AnsweredAsBefore : Type 0
+AnsweredAsBefore =
+    (gray : Bool) (job work list : List ℕ) (a : Answer) (high : Bool) (next : ℕ) → Promised gray job work list a → headerOf job ≡ Header.is one high next
+    → (verdictAs (a .verdict) ≡ told (outcomeBefore gray every job (length work) (length list)))
+    × (a .list ≡ listBefore gray job (length work) (length list) ++ drop (length (listBefore gray job (length work) (length list))) list)
 
 -- two answers, to a job and to the job with two sessions exchanged, have the same verdict and the same work buffer; in the list the records before the two sessions
 -- stay, and so does all that stands behind the two; and each session's records are, record by record, the same but for the offsets

@@ -14,7 +14,6 @@ use Rattle.scope.specs.Attributes as judged
 use Rattle.table.specs.Lines.{numbersIn, upToNo, ruleOf}
 use Rattle.rules.specs.declared.judge.Fault.{Fault}
 use Rattle.rules.specs.declared.judge.Fault.the-variants.{Fine, Bad}
-use Rattle.rules.specs.declared.value.Attribute.{Attribute}
 
 -- 13 and 14 after what was found attribute by attribute
 unfoldable pub thenWhole : (at code : ℕ) → judged.Fault → judged.Fault
@@ -31,10 +30,6 @@ lineFault high s at l (scope.Line.is r) =
 abbrev pub faultAs : Fault → judged.Fault
 faultAs Fine = judged.fine
 faultAs (Bad c p) = judged.bad c p
-
--- the attribute that an attribute of the code stands for
-abbrev pub attributeAs : Attribute → item.Attribute
-attributeAs a = record { number = a .number; tag = a .tag; at = a .at; count = a .count; first = a .first }
 
 -- the rule of an attribute in a line of a class that has these numbers
 unfoldable pub ruledIn : Class → List ℕ → ℕ → scope.Ruled

@@ -12,13 +12,11 @@ ghost use Rattle.scope.specs.Attributes.{fine, bad, has as hasIn, attributeCode
 ghost use Rattle.items.specs.Rows.{rowAt, rowsOf, Sized};
 ghost use Rattle.setting.specs.Views.{classAs};
 ghost use Rattle.table.specs.Lines.{upToNo, isKnown, formAs, mustAs, briefAs, briefOf};
-ghost use Rattle.rules.specs.Judging.{attributeAs, ruledIn, Stands, Led, asUsual, faultAs, lineFault};
+ghost use Rattle.values.specs.Views.{attributeAs};
+ghost use Rattle.rules.specs.Judging.{ruledIn, Stands, Led, asUsual, faultAs, lineFault};
 use crate::line::all_there;
 use crate::line::how_many;
 use crate::line::listed;
-use crate::value::Attribute;
-use crate::value::in_range;
-use crate::value::type_taken;
 use attributes::at_most;
 use attributes::has;
 use attributes::is_given;
@@ -30,6 +28,9 @@ use table::Form;
 use table::NO;
 use table::Row;
 use table::rule_of;
+use values::Attribute;
+use values::in_range;
+use values::type_taken;
 
 // A fault has a code and a place.
 pub enum Fault {

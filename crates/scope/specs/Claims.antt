@@ -1,5 +1,5 @@
 -- The theorems to prove, as types.
-use Prim.Native.Nat.{ℕ, suc, _+_, _*_, _/_, _≤_, _<_}
+use Prim.Native.Nat.{ℕ, suc, _+_, _*_, _≤_, _<_}
 use mathlib.Core.Path.{_≡_}
 use mathlib.Core.Logic.{_↔_}
 use mathlib.Core.Bool.{Bool, true, false, _||_}
@@ -8,21 +8,20 @@ use lib.ListN.{length, take, drop, getD}
 use lib.Dec.{eqb}
 use Rattle.scope.specs.Choice.{pick, between, among}
 use Rattle.scope.specs.Number.{number}
-use Rattle.scope.specs.Header.{one, headerOf}
+use Rattle.scope.specs.Header.{one, Header, headerOf}
 use Rattle.scope.specs.Iterate.{go, stop}
 use Rattle.scope.specs.Item.{Attribute, plain, Value, kindOf, valueOf, Scan, Walk, scanStep, white, spaces, after}
 use Rattle.scope.specs.Reading.{Context, Operator, Read, operatorAt}
-use Rattle.scope.specs.Attributes.{valueIn, bytesIn}
-use Rattle.scope.specs.Data.{Image, bitsOf, blockDue}
-use Rattle.scope.specs.Order.{lengthFits}
+use Rattle.scope.specs.Attributes.{bytesIn}
 use Rattle.scope.specs.Arm.{Stroke}
 use Rattle.scope.specs.Motif.{Own, Motif, Held, heldAs, isHeld, bytesHeld, Judged, motifOf}
 use Rattle.scope.specs.Calls.{nothing as nothing-met, met}
 use Rattle.scope.specs.Reach.{fits, lost, holds, calledBy, Ring}
 use Rattle.scope.specs.Setting.{Setting, headed, settingOf}
 use Rattle.scope.specs.Session.{Session, reading, outside, inside, sessionOf, joinedOf, rowFor}
-use Rattle.scope.specs.Names.{BeginSession, SetDefaultGS, BlockHeight, BeginStream, ReadStream, EndStream, ExecStream, StreamName}
+use Rattle.scope.specs.Names.{BeginSession, SetDefaultGS, BeginStream, ReadStream, EndStream, ExecStream, StreamName}
 use Rattle.scope.specs.Judge.{State, Case, Rule, rule, motifs-own, rules, outer, Outcome, starting}
+use Rattle.scope.specs.Before.{headerBefore, operatorBefore, motifBefore, outcomeBefore}
 use Rattle.scope.specs.Runs.{caseAt, next, Performs, Runs, Comes}
 use Rattle.scope.specs.Verdict.{every, layout, verdictOf, outcomeOf, attributeRecord, operatorRecord, listOf, zeros, workAfter}
 use Rattle.scope.specs.Plain.{unfoldingOf, comes, atStart}
@@ -434,10 +433,20 @@ abbrev pub NoMotifLeft : Type 0
 NoMotifLeft =
     (job other work : List ℕ) → length job ≤ 61440 → length other ≤ 61440 → workAfter job work ≡ workAfter other work
 
--- class 1;1 is as it was before request 6: of an operator that is read there, rows are filled up to a multiple of 4 bytes, no BlockByteLength says otherwise, and
--- it is no SetDefaultGS; the rest of what judging looks at has no class but by its table, and that of 1;1 is the one of 01
+-- request 6 leaves class 1;1 as it was. There each operator is read as before, and each refusal of reading is the one before
+abbrev pub ReadAsBefore : Type 0
+ReadAsBefore = (c : Context) (s : List ℕ) (at : ℕ) → c .set .class ≡ one → operatorAt c s at ≡ operatorBefore c s at
+
+-- none that is read is SetDefaultGS, the one operator whose effect is new
+abbrev pub NoneRestores : Type 0
+NoneRestores = (c : Context) (s : List ℕ) (at : ℕ) (o : Operator) → c .set .class ≡ one → operatorAt c s at ≡ Read.operator o → eqb (o .tag) SetDefaultGS ≡ false
+
+-- a motif is judged as before
+abbrev pub MotifsAsBefore : Type 0
+MotifsAsBefore = (set : Setting) (s : List ℕ) → set .class ≡ one → motifOf set s ≡ motifBefore set s (headerBefore s)
+
+-- and the whole outcome of a job with a header of class 1;1, in either start, is the one before: verdict, and operators listed
 abbrev pub OneAsBefore : Type 0
 OneAsBefore =
-    (c : Context) (s : List ℕ) (at : ℕ) (o : Operator) (i : Image) → c .set .class ≡ one → operatorAt c s at ≡ Read.operator o
-    → (blockDue (c .set .high) s i (o .attrs) ≡ valueIn (c .set .high) s (o .attrs) BlockHeight * (((i .width * bitsOf (i .depth) + 7) / 8 + 3) / 4 * 4))
-    × (lengthFits (c .set .high) s i (o .attrs) ≡ true) × (eqb (o .tag) SetDefaultGS ≡ false)
+    (gray : Bool) (given : ℕ → Bool) (job : List ℕ) (work room : ℕ) (high : Bool) (next : ℕ) → headerOf job ≡ Header.is one high next
+    → outcomeOf gray given job work room ≡ outcomeBefore gray given job work room

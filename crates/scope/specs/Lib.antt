@@ -21,5 +21,6 @@ pub mod Judge
 pub mod Verdict
 pub mod Plain
 pub mod Runs
+pub mod Before
 pub mod Claims
 pub mod Exchange

@@ -1,4 +1,4 @@
--- `motif::act::brush_space` meets its contract: one test after the other.
+-- `act::act::brush_space` meets its contract: one test after the other.
 -- Assumes nothing.
 use mathlib.Core.Path.{sym, _∙_}
 use Rattle.act.specs.Acts.{brushSpace}

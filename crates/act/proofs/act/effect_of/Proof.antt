@@ -1,4 +1,4 @@
--- `motif::act::effect_of` meets its contract: one test after the other.
+-- `act::act::effect_of` meets its contract: one test after the other.
 -- Assumes nothing.
 use borrow.Author.Tests.{eq-eqb, ne-eqb}
 use Rattle.scope.specs.Arm.{effectOf}

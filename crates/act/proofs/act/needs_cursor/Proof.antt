@@ -1,4 +1,4 @@
--- `motif::act::needs_cursor` meets its contract: one test after the other.
+-- `act::act::needs_cursor` meets its contract: one test after the other.
 -- Assumes nothing.
 use borrow.Author.Tests.{eq-eqb, ne-eqb}
 use Rattle.scope.specs.Choice.{among}

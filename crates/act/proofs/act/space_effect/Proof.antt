@@ -1,4 +1,4 @@
--- `motif::act::space_effect` meets its contract: the value is that of the attribute.
+-- `act::act::space_effect` meets its contract: the value is that of the attribute.
 -- Assumes nothing.
 use Rattle.act.specs.Acts.{spaceEffect}
 use borrow.Author.Needs.{needs}

@@ -1,4 +1,4 @@
--- `rules::attributes::first_of` meets its contract: a number of one byte or of two.
+-- `attributes::attributes::first_of` meets its contract: a number of one byte or of two.
 -- Assumes nothing.
 use borrow.Author.Tests.{eq-eqb, ne-eqb}
 use native.Mathlib.Omega.{arith}

@@ -1,4 +1,4 @@
--- `rules::attributes::is_given` meets its contract: by the place of the first.
+-- `attributes::attributes::is_given` meets its contract: by the place of the first.
 -- Assumes nothing.
 use mathlib.Core.Path.{sym}
 use Rattle.attributes.proofs.Rowed.{has-at}

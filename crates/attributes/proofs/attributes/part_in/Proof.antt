@@ -1,4 +1,4 @@
--- `rules::attributes::part_in` meets its contract: by the place of the first.
+-- `attributes::attributes::part_in` meets its contract: by the place of the first.
 -- Assumes nothing.
 use mathlib.Core.Path.{_∙_}
 use borrow.Author.Tests.{lt-ltb, le-ltb}

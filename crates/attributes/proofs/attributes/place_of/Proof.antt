@@ -1,4 +1,4 @@
--- `rules::attributes::place_of` meets its contract: the loop goes attribute by attribute.
+-- `attributes::attributes::place_of` meets its contract: the loop goes attribute by attribute.
 -- Assumes nothing.
 use Prim.Native.Nat.{_-_, _≤_}
 use mathlib.Core.Path.{_≡_, sym, _∙_}

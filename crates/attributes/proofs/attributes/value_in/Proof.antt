@@ -1,4 +1,4 @@
--- `rules::attributes::value_in` meets its contract: by the place of the first.
+-- `attributes::attributes::value_in` meets its contract: by the place of the first.
 -- Assumes nothing.
 use mathlib.Core.Path.{sym, _∙_}
 use borrow.Author.Tests.{lt-ltb, le-ltb}

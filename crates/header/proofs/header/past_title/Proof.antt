@@ -1,4 +1,4 @@
--- `wire::header::past_title` meets its contract: the form from place i on is the header's form, and no header ends before place 15.
+-- `header::header::past_title` meets its contract: the form from place i on is the header's form, and no header ends before place 15.
 -- Assumes nothing.
 use Prim.Native.Nat.{ℕ, _-_, _≤_, _<_}
 use mathlib.Core.Path.{_≡_, refl, sym, _∙_}

@@ -1,4 +1,4 @@
--- `wire::number::number_at` meets its contract: each width by itself.
+-- `number::number::number_at` meets its contract: each width by itself.
 -- Assumes nothing.
 use mathlib.Core.Path.{sym, _∙_}
 use Prim.Native.Nat.{_<_, _^_}

@@ -8,7 +8,7 @@ use Rattle.scope.specs.Choice.{among}
 use Rattle.items.specs.Rows.{rowsOf}
 use Rattle.setting.specs.Views.{classAs}
 use Rattle.table.specs.Lines.{upToNo, takesOf, ruleOf}
-use Rattle.rules.specs.Judging.{attributeAs}
+use Rattle.values.specs.Views.{attributeAs}
 use Rattle.rules.proofs.Numbered.{listed-none, listed-is}
 use Rattle.rules.proofs.Faults.{code-11, code-12, code-15, code-16}
 use borrow.Author.Needs.{needs}
