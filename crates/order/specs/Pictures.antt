@@ -10,7 +10,7 @@ use Rattle.scope.specs.Item.{Attribute}
 use Rattle.scope.specs.Attributes.{valueIn}
 use Rattle.scope.specs.Data.{Image, readsRows}
 use Rattle.scope.specs.Motif as Def
-use Rattle.order.specs.Views.{imageAs}
+use Rattle.due.specs.Views.{imageAs}
 use Rattle.order.specs.declared.picture.Hatch.{Hatch}
 use Rattle.order.specs.declared.picture.Picture.{Picture}
 use Rattle.order.specs.declared.picture.Picture.the-variants.{Nothing, Being, Hatching}

@@ -4,6 +4,7 @@ ghost use lib.Dec.{eqb};
 ghost use Rattle.scope.specs.Choice.{pick};
 ghost use Rattle.scope.specs.Order.{mayCome, drawn, in-session, in-stream, in-page};
 ghost use Rattle.order.specs.Views.{phaseAs};
+use due::Image;
 use names::operators::BEGIN_IMAGE;
 use names::operators::BEGIN_PAGE;
 use names::operators::BEGIN_RAST_PATTERN;
@@ -25,14 +26,6 @@ use names::operators::READ_RAST_PATTERN;
 use names::operators::READ_STREAM;
 use names::operators::SET_BRUSH_SOURCE;
 use names::operators::SET_DEFAULT_GS;
-
-// An image that is being read, or a pattern.
-pub struct Image {
-    pub width: u16,
-    pub depth: u16,
-    pub height: u16,
-    pub rows: u32,
-}
 
 // Where an operator stands; in a page and in a motif with so many states saved.
 pub enum Phase {

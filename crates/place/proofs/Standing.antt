@@ -11,8 +11,9 @@ use Rattle.scope.specs.Setting.{Setting}
 use Rattle.scope.specs.Motif.{Motif}
 use Rattle.scope.specs.Session as scope
 use Rattle.scope.specs.Session.{phaseDrawing, phaseBusy, phaseOf, pageOf, joinedOf, sessionOf}
-use Rattle.order.specs.Views.{phaseAs, imageAs}
-use Rattle.order.specs.declared.order.Image.{Image}
+use Rattle.order.specs.Views.{phaseAs}
+use Rattle.due.specs.Views.{imageAs}
+use Rattle.due.specs.declared.due.Image.{Image}
 use Rattle.order.specs.declared.order.Phase.{Phase}
 use Rattle.arm.specs.Holds.{PageHolds}
 use Rattle.arm.specs.declared.page.Page.{Page}

@@ -67,8 +67,8 @@ fn reads_rows(tag: usize) -> bool {
 fn rows(s: &[u8], high: bool, attrs: &[usize; 80], st: &[usize; 16]) -> usize {
     let n = st[COUNT];
     let many = attributes::value_in(s, high, attrs, n, BLOCK_HEIGHT) as usize;
-    let pad = order::pad_of(s, high, attrs, n);
-    let row = order::row_of(
+    let pad = due::pad_of(s, high, attrs, n);
+    let row = due::row_of(
         (st[WIDTH] % 65_536) as u16,
         (st[DEPTH] % 65_536) as u16,
         pad,

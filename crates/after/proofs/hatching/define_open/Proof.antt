@@ -1,6 +1,6 @@
 -- `hatching::define_open` meets its contract: nothing is defined but by EndRastPattern, where a pattern is open.
 -- Assumes nothing.
-use Rattle.order.specs.Views.{imageAs}
+use Rattle.due.specs.Views.{imageAs}
 use Rattle.after.proofs.Defining.{defines-other, defines-none, defines-image}
 use borrow.Author.Needs.{needs}
 use Rattle.after.proofs.hatching.define_open.Statement.{statement}

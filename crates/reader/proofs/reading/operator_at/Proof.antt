@@ -18,9 +18,9 @@ use Rattle.rules.specs.declared.judge.Fault.{Fault}
 use Rattle.items.specs.Rows.{Sized, rowsOf}
 use Rattle.items.specs.Scans.{scanAs}
 use Rattle.items.specs.declared.scan.Scan.{Scan}
-use Rattle.order.specs.Views.{imageAs, dueAs}
+use Rattle.due.specs.Views.{imageAs, dueAs}
 use Rattle.reader.specs.Reads.{foundAs, contextAs}
-use Rattle.order.specs.declared.due.Due.{Due}
+use Rattle.due.specs.declared.due.Due.{Due}
 use Rattle.reader.specs.declared.data.Found.{Found}
 use Rattle.reader.proofs.Lines.{afterLine, line-after, rows-after, data-after}
 use borrow.Author.Needs.{needs}

@@ -1,6 +1,6 @@
 -- `ended` meets its contract.
 -- Assumes nothing.
-use Rattle.order.specs.Views.{imageAs}
+use Rattle.due.specs.Views.{imageAs}
 use Rattle.order.specs.Pictures.{pictureAs}
 use mathlib.Core.Path.{sym, ap, _∙_}
 use Rattle.stream.proofs.Turning.{ended-open, ended-hatching, ended-closed}

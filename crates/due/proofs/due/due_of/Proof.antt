@@ -6,10 +6,10 @@ use mathlib.Core.Logic.{⊎-elim}
 use lib.Dec.{eqb}
 use borrow.Author.Tests.{eq-eqb, ne-eqb}
 use Rattle.scope.specs.Data.{dueOf}
-use Rattle.order.specs.Views.{pointsDue}
+use Rattle.due.specs.Views.{pointsDue}
 use borrow.Author.Needs.{needs}
-use Rattle.order.proofs.due.due_of.Statement.{statement}
-use Rattle.order.proofs.due.due_of.Tie as tie
+use Rattle.due.proofs.due.due_of.Statement.{statement}
+use Rattle.due.proofs.due.due_of.Tie as tie
 
 -- where points are read, the tag is one of a line's two
 is-line : (c : tie.Joined3) → let tag = c .before .before .before .before .before .args .tag in (eqb tag 0x9b || eqb tag 0x9d) ≡ true

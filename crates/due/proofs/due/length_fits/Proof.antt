@@ -4,8 +4,8 @@ use mathlib.Core.Path.{sym, _∙_}
 use borrow.Author.Tests.{not-true, not-false}
 use Rattle.scope.specs.Order.{lengthFits}
 use borrow.Author.Needs.{needs}
-use Rattle.order.proofs.due.length_fits.Statement.{statement}
-use Rattle.order.proofs.due.length_fits.Tie as tie
+use Rattle.due.proofs.due.length_fits.Statement.{statement}
+use Rattle.due.proofs.due.length_fits.Tie as tie
 
 has-requires : tie.Need-has-requires
 has-requires c κs = search needs

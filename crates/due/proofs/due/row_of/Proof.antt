@@ -6,8 +6,8 @@ use native.Mathlib.Omega.{arith}
 use native.Mathlib.Nat.{div-mul-le-self, mul-zero}
 use Rattle.scope.specs.Data.{rowOf}
 use borrow.Author.Needs.{needs}
-use Rattle.order.proofs.due.row_of.Statement.{statement}
-use Rattle.order.proofs.due.row_of.Tie as tie
+use Rattle.due.proofs.due.row_of.Statement.{statement}
+use Rattle.due.proofs.due.row_of.Tie as tie
 
 returns : tie.Need-returns
 unfolding rowOf

@@ -5,8 +5,7 @@ ghost use Rattle.items.specs.Rows.{rowsOf, Sized};
 ghost use Rattle.scope.specs.Attributes.{has};
 ghost use Rattle.scope.specs.Data.{bitsOf, rowOf, padOf, readsRows, blockDue, pointBytes, dueOf};
 ghost use Rattle.scope.specs.Order.{lengthFits, rowsFit};
-ghost use Rattle.order.specs.Views.{dueAs, imageAs, pointsDue};
-use crate::order::Image;
+ghost use Rattle.due.specs.Views.{dueAs, imageAs, pointsDue};
 use names::attributes::BLOCK_BYTE_LENGTH;
 use names::attributes::BLOCK_HEIGHT;
 use names::attributes::NUMBER_OF_POINTS;
@@ -19,6 +18,14 @@ use names::operators::LINE_REL_PATH;
 use names::operators::READ_IMAGE;
 use names::operators::READ_RAST_PATTERN;
 use names::operators::READ_STREAM;
+
+// An image that is being read, or a pattern.
+pub struct Image {
+    pub width: u16,
+    pub depth: u16,
+    pub height: u16,
+    pub rows: u32,
+}
 
 // So many bytes, or none if the operator reads none.
 pub enum Due {

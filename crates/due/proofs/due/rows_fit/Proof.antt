@@ -4,8 +4,8 @@ use mathlib.Core.Path.{sym, _∙_}
 use borrow.Author.Tests.{eq-eqb, ne-eqb, le-leb, lt-leb, not-true, not-false}
 use Rattle.scope.specs.Order.{rowsFit}
 use borrow.Author.Needs.{needs}
-use Rattle.order.proofs.due.rows_fit.Statement.{statement}
-use Rattle.order.proofs.due.rows_fit.Tie as tie
+use Rattle.due.proofs.due.rows_fit.Statement.{statement}
+use Rattle.due.proofs.due.rows_fit.Tie as tie
 
 reads-rows-requires : tie.Need-reads-rows-requires
 reads-rows-requires c κs = search needs

@@ -2,8 +2,8 @@
 -- Assumes nothing.
 use borrow.Author.Tests.{eq-eqb, ne-eqb}
 use Rattle.scope.specs.Data.{readsRows}
-use Rattle.order.proofs.due.reads_rows.Statement.{statement}
-use Rattle.order.proofs.due.reads_rows.Tie as tie
+use Rattle.due.proofs.due.reads_rows.Statement.{statement}
+use Rattle.due.proofs.due.reads_rows.Tie as tie
 
 returns : tie.Need-returns
 unfolding readsRows

@@ -2,10 +2,10 @@
 -- Assumes nothing.
 use mathlib.Core.Path.{sym, _∙_}
 use borrow.Author.Tests.{not-true, not-false}
-use Rattle.order.specs.Views.{pointsDue}
+use Rattle.due.specs.Views.{pointsDue}
 use borrow.Author.Needs.{needs}
-use Rattle.order.proofs.due.points_due.Statement.{statement}
-use Rattle.order.proofs.due.points_due.Tie as tie
+use Rattle.due.proofs.due.points_due.Statement.{statement}
+use Rattle.due.proofs.due.points_due.Tie as tie
 
 has-requires : tie.Need-has-requires
 has-requires c κs = search needs

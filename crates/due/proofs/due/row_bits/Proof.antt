@@ -4,8 +4,8 @@ use native.Mathlib.Omega.{arith}
 use borrow.Author.Tests.{ne-eqb}
 use Rattle.scope.specs.Data.{bitsOf}
 use borrow.Author.Needs.{needs}
-use Rattle.order.proofs.due.row_bits.Statement.{statement}
-use Rattle.order.proofs.due.row_bits.Tie as tie
+use Rattle.due.proofs.due.row_bits.Statement.{statement}
+use Rattle.due.proofs.due.row_bits.Tie as tie
 
 mul-result : tie.Need-mul-result
 mul-result c = search needs

@@ -5,8 +5,8 @@ use native.Mathlib.Nat.{mul-le-mul}
 use native.Mathlib.Omega.{arith}
 use Rattle.scope.specs.Data.{blockDue}
 use borrow.Author.Needs.{needs}
-use Rattle.order.proofs.due.block_due.Statement.{statement}
-use Rattle.order.proofs.due.block_due.Tie as tie
+use Rattle.due.proofs.due.block_due.Statement.{statement}
+use Rattle.due.proofs.due.block_due.Tie as tie
 
 product : (x y : ℕ) → x ≤ 65535 → y ≤ 131070 → x * y ≤ 65535 * 131070
 product x y h k = mul-le-mul h k

@@ -3,8 +3,8 @@
 use borrow.Author.Tests.{le-leb, lt-leb}
 use Rattle.scope.specs.Data.{pointBytes}
 use borrow.Author.Needs.{needs}
-use Rattle.order.proofs.due.point_bytes.Statement.{statement}
-use Rattle.order.proofs.due.point_bytes.Tie as tie
+use Rattle.due.proofs.due.point_bytes.Statement.{statement}
+use Rattle.due.proofs.due.point_bytes.Tie as tie
 
 mul-result : tie.Need-mul-result
 mul-result c = search needs

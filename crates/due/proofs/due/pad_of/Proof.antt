@@ -4,8 +4,8 @@ use mathlib.Core.Path.{refl}
 use borrow.Author.Tests.{eq-eqb, ne-eqb}
 use Rattle.scope.specs.Data.{padOf}
 use borrow.Author.Needs.{needs}
-use Rattle.order.proofs.due.pad_of.Statement.{statement}
-use Rattle.order.proofs.due.pad_of.Tie as tie
+use Rattle.due.proofs.due.pad_of.Statement.{statement}
+use Rattle.due.proofs.due.pad_of.Tie as tie
 
 value-in-requires : tie.Need-value-in-requires
 value-in-requires c κs = search needs
