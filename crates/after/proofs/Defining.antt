@@ -21,6 +21,7 @@ use Rattle.order.specs.Pictures.{pictureFor}
 use Rattle.reader.specs.Reads.{operatorAs}
 use Rattle.reader.specs.declared.reading.Operator.{Operator}
 use Rattle.patterns.specs.Numbers.{OfPage, OfSession, numbersIn, noted, selectingIn, Others}
+use Rattle.patterns.proofs.Enough.{page-still, session-still}
 use Rattle.place.specs.Places.{HasPlace, none-place, image-place, hatch-place}
 use Rattle.place.proofs.Hatched.{beside-of, beside-same}
 use Rattle.after.specs.Hatching.{Defines}
@@ -57,7 +58,7 @@ module _ {p p₁ : List ℕ} (h : Hatch) (i : Image) (e : selectingIn p₁ ≡ s
   unfolding definedAfter
   define-session b n o =
       record {
-        beside = beside-of o (omega arith) e;
+        beside = beside-of o (omega arith) e (λ ns z. rw (n, o .same OfPage (λ x. omega (arith, x))) (session-still (h .number) (numbersIn p OfPage) (numbersIn p OfSession) ns z));
         page = λ f. rw b (o .same OfPage (λ x. omega (arith, x)));
         session = λ f. rw b (n ∙ noted-few (h .number) (numbersIn p OfSession) f);
       }
@@ -67,7 +68,7 @@ module _ {p p₁ : List ℕ} (h : Hatch) (i : Image) (e : selectingIn p₁ ≡ s
   unfolding definedAfter
   define-page b n o =
       record {
-        beside = beside-of o (omega arith) e;
+        beside = beside-of o (omega arith) e (λ ns z. rw (n, o .same OfSession (λ x. omega (arith, x))) (page-still (h .number) (numbersIn p OfPage) (numbersIn p OfSession) ns z));
         page = λ f. rw b (n ∙ noted-few (h .number) (numbersIn p OfPage) f);
         session = λ f. rw b (o .same OfSession (λ x. omega (arith, x)));
       }

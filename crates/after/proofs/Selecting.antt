@@ -16,16 +16,16 @@ use Rattle.motif.specs.Stored.{Stored}
 use Rattle.motif.specs.declared.held.Where.the-variants.{At, Nowhere}
 use Rattle.motif.specs.declared.kept.Kept.{Kept}
 use Rattle.motif.proofs.Rowed.{is-same, none-is, held-row, row-one, in-below}
-use Rattle.patterns.specs.Numbers.{OfMotif, numbersIn, collected, OtherRows, Quiet}
+use Rattle.patterns.specs.Numbers.{OfMotif, numbersIn, collected, OtherRows, Unknown, Quiet}
 use Rattle.patterns.specs.Selects.{selectsIn, Selects}
 use Rattle.settling.proofs.Reading.{sound-at}
 use Rattle.after.specs.Hatching.{OwnKept}
 
 -- the row that a search for the name finds
 pub own-at : {p p₁ name : List ℕ} {i : ℕ} {ms : List Motif} {m : Motif} → Finds ms name (At i) → heldAs name ms ≡ Held.is m → i < 64
-    → numbersIn p₁ i ≡ numbersIn p OfMotif → OtherRows p i p₁ → (Quiet p → Quiet p₁) → OwnKept p (m .number) p₁
-own-at {i = i} (finds-at f r) h l n o q =
-    record { row = i; is = ap (λ (x : Motif). x .number) (is-same (sym h ∙ f)) ∙ r .row; below = l; own = n; others = o; quiet = q }
+    → numbersIn p₁ i ≡ numbersIn p OfMotif → OtherRows p i p₁ → (Quiet p → Quiet p₁) → Unknown p₁ → OwnKept p (m .number) p₁
+own-at {i = i} (finds-at f r) h l n o q u =
+    record { row = i; is = ap (λ (x : Motif). x .number) (is-same (sym h ∙ f)) ∙ r .row; below = l; own = n; others = o; quiet = q; unknown = u }
 
 pub own-nowhere : {A : Type 0} {name : List ℕ} {ms : List Motif} {m : Motif} → Finds ms name Nowhere → heldAs name ms ≡ Held.is m → A
 own-nowhere (finds-none f) h = none-is (sym f ∙ h)
@@ -54,6 +54,10 @@ module _ {set : Setting} {work t : List ℕ} {kept : Kept} (name bytes : List �
     new-in : InRow now-held (k .row) new
     new-in = let r = held-row name (s .tables .keeps .rows) held in record { held = ap (λ x. heldAs x now-held) (r .0) ∙ held; row = k .is }
 
+    -- a row is one of 64
+    below : (i : ℕ) (m : Motif) → InRow now-held i m → i < 64
+    below i m r = omega (arith, in-below (s .tables .keeps .rows) r, s .tables .keeps .most)
+
     at-row : Selects p ms → (i : ℕ) (m : Motif) → InRow now-held i m → numbersIn p₁ i ≡ collected (selectsIn (m .ops))
     at-row z i m r = by (same (m .name) name) refl
       where
@@ -66,7 +70,8 @@ module _ {set : Setting} {work t : List ℕ} {kept : Kept} (name bytes : List �
         by false q =
             let d : m .name ≡ name → ⊥ = λ y. other y q in
             let h : heldAs (m .name) ms ≡ Held.is m = sym (kept-replaced name bytes ops ms .others (m .name) d) ∙ r .held in
-            k .others .same i (omega (arith, in-below (s .tables .keeps .rows) r, s .tables .keeps .most)) (λ y. d (named y)) ∙ z .at i m (record { held = h; row = r .row })
+            let l : i < 67 = omega (arith, below i m r) in
+            k .others .same i l (λ y. d (named y)) ∙ z .at i m (record { held = h; row = r .row })
           where
             other : m .name ≡ name → same (m .name) name ≡ false → ⊥
             other y q = true≢false (sym (same-refl name) ∙ (rw y at q))
@@ -78,4 +83,4 @@ module _ {set : Setting} {work t : List ℕ} {kept : Kept} (name bytes : List �
                 ap (λ (x : Motif). x .name) n ∙ held-row name (s .tables .keeps .rows) held .0
 
     pub selects-kept : Selects p ms → Selects p₁ now-held
-    selects-kept z = record { at = at-row z; quiet = k .quiet (z .quiet) }
+    selects-kept z = record { at = at-row z; quiet = k .quiet (z .quiet); known = λ i m r y. absurd (y (k .unknown .none i (below i m r))) }

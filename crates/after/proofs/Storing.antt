@@ -40,7 +40,7 @@ stored-none set work t l =
 
 -- so nothing is to be known of what they select
 pub selects-none : {p : List ℕ} → Quiet p → Selects p []
-selects-none q = record { at = λ i m r. no-row r; quiet = q }
+selects-none q = record { at = λ i m r. no-row r; quiet = q; known = λ i m r k. no-row r }
 
 -- the bytes behind those held do not matter
 pub stored-beside : {set : Setting} {work t : List ℕ} {kept : Kept} {ms : List Motif} (work₁ : List ℕ) → length work₁ ≡ length work

@@ -7,7 +7,7 @@ use mathlib.Core.List.{List}
 use lib.ListN.{length}
 use Rattle.scope.specs.Motif.{Picture}
 use Rattle.scope.specs.Session.{definedAfter}
-use Rattle.patterns.specs.Numbers.{OfPage, OfSession, OfMotif, numbersIn, OtherRows, Quiet}
+use Rattle.patterns.specs.Numbers.{OfPage, OfSession, OfMotif, numbersIn, OtherRows, Unknown, Quiet}
 use Rattle.place.specs.Places.{Beside}
 
 -- p₁ has what p has, and what an operator of this tag defines, where this picture is open and there is room
@@ -16,7 +16,7 @@ pub record Defines (p : List ℕ) (tag : ℕ) (v : Picture) (p₁ : List ℕ) : 
   pub page : length (numbersIn p OfPage) ≤ 32 → numbersIn p₁ OfPage ≡ definedAfter false tag v (numbersIn p OfPage)
   pub session : length (numbersIn p OfSession) ≤ 32 → numbersIn p₁ OfSession ≡ definedAfter true tag v (numbersIn p OfSession)
 
--- the row of the motif of this number has what the motif that was judged selects; every other row is as it was
+-- the row of the motif of this number has what the motif that was judged selects; every other row is as it was, and of no call it is known that it lacks none
 pub record OwnKept (p : List ℕ) (number : ℕ) (p₁ : List ℕ) : Type 0 where
   pub row : ℕ
   pub is : number ≡ suc row
@@ -24,3 +24,4 @@ pub record OwnKept (p : List ℕ) (number : ℕ) (p₁ : List ℕ) : Type 0 wher
   pub own : numbersIn p₁ row ≡ numbersIn p OfMotif
   pub others : OtherRows p row p₁
   pub quiet : Quiet p → Quiet p₁
+  pub unknown : Unknown p₁

@@ -59,7 +59,7 @@ fn begun(
     set: Setting,
     o: Operator,
     attrs: &[usize; 80],
-    patterns: &mut [u16; 4423],
+    patterns: &mut [u16; 4487],
 ) -> Busy
     ensures { λ _. ⌜ Beside (now (patterns .entry)) (now (patterns .exit)) ⌝ }
     ensures { λ _. ⌜ numbersIn (now (patterns .exit)) OfSession ≡ numbersIn (now (patterns .entry)) OfSession ⌝ }
@@ -85,7 +85,7 @@ fn resting_after(
     attrs: &[usize; 80],
     opened: bool,
     kept: Kept,
-    patterns: &mut [u16; 4423],
+    patterns: &mut [u16; 4487],
 ) -> Place
     ensures { λ _. ⌜ length (now (patterns .exit)) ≡ length (now (patterns .entry)) ⌝ }
     ensures { λ r. ⌜ ((early : Early) (page : Page) (work t : List ℕ)
@@ -179,7 +179,7 @@ fn ended(
     joined: usize,
     work: &mut [u8],
     motifs: &mut [usize; 704],
-    patterns: &mut [u16; 4423],
+    patterns: &mut [u16; 4487],
 ) -> Place
     ensures { λ _. ⌜ Stays (now (work .entry)) (now (motifs .entry)) (now (patterns .entry)) (now (work .exit)) (now (motifs .exit)) (now (patterns .exit)) ⌝ }
     ensures { λ r. ⌜ ((job attrs : List ℕ) (o : Operator) (page : Page) (first count : ℕ) → take count (drop first job) ≡ now (name .entry)
@@ -207,7 +207,7 @@ fn reading_after(
     stream: Stream,
     work: &mut [u8],
     motifs: &mut [usize; 704],
-    patterns: &mut [u16; 4423],
+    patterns: &mut [u16; 4487],
 ) -> Place
     ensures { λ _. ⌜ Stays (now (work .entry)) (now (motifs .entry)) (now (patterns .entry)) (now (work .exit)) (now (motifs .exit)) (now (patterns .exit)) ⌝ }
     ensures { λ r. ⌜ ((attrs : List ℕ) (page : Page)
@@ -256,7 +256,7 @@ pub fn place_after(
     place: Place,
     work: &mut [u8],
     motifs: &mut [usize; 704],
-    patterns: &mut [u16; 4423],
+    patterns: &mut [u16; 4487],
 ) -> Place
     ensures { λ _. ⌜ length (now (work .exit)) ≡ length (now (work .entry)) ⌝ }
     ensures { λ _. ⌜ length (now (motifs .exit)) ≡ length (now (motifs .entry)) ⌝ }

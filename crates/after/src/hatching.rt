@@ -13,7 +13,7 @@ use order::Hatch;
 use order::Picture;
 
 // EndRastPattern defines a pattern, for the session or for the page.
-fn define_hatch(patterns: &mut [u16; 4423], hatch: Hatch)
+fn define_hatch(patterns: &mut [u16; 4487], hatch: Hatch)
     ensures { λ _. ⌜ ((i : Image) → Defines (now (patterns .entry)) 0xb5 (hatching (hatchAs hatch) i) (now (patterns .exit))) ⌝ }
 {
     if hatch.session {
@@ -24,7 +24,7 @@ fn define_hatch(patterns: &mut [u16; 4423], hatch: Hatch)
 }
 
 // EndRastPattern defines the pattern that is open; another operator defines none.
-pub(crate) fn define_open(patterns: &mut [u16; 4423], tag: u8, picture: Picture)
+pub(crate) fn define_open(patterns: &mut [u16; 4487], tag: u8, picture: Picture)
     ensures { λ _. ⌜ Defines (now (patterns .entry)) tag (pictureAs picture) (now (patterns .exit)) ⌝ }
 {
     if tag != END_RAST_PATTERN {
@@ -38,7 +38,7 @@ pub(crate) fn define_open(patterns: &mut [u16; 4423], tag: u8, picture: Picture)
 }
 
 // What the motif that was judged selects, kept in the row of its name.
-pub(crate) fn keep_own(patterns: &mut [u16; 4423], motifs: &[usize; 704], held: usize, name: &[u8])
+pub(crate) fn keep_own(patterns: &mut [u16; 4487], motifs: &[usize; 704], held: usize, name: &[u8])
     ensures { λ _. ⌜ length (now (patterns .exit)) ≡ length (now (patterns .entry)) ⌝ }
     ensures { λ _. ⌜ ((ms : List Motif) (m : Motif) → Keeps (now (motifs .entry)) held ms → heldAs (now (name .entry)) ms ≡ Held.is m
         → OwnKept (now (patterns .entry)) (m .number) (now (patterns .exit))) ⌝ }

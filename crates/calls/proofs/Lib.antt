@@ -4,3 +4,4 @@ pub mod Ringing
 pub mod Refusing
 pub mod Wanting
 pub mod Baring
+pub mod Knowing

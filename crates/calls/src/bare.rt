@@ -7,7 +7,7 @@ ghost use Rattle.scope.specs.Calls.{unfolded};
 ghost use Rattle.scope.specs.Judge.{someMissing};
 ghost use Rattle.motif.specs.Held.{InRow, levelIn};
 ghost use Rattle.motif.specs.Tables.{Tables};
-ghost use Rattle.patterns.specs.Numbers.{OfPage, OfSession, numbersIn, Few};
+ghost use Rattle.patterns.specs.Numbers.{OfPage, OfSession, numbersIn, SameRows, Few};
 ghost use Rattle.patterns.specs.Selects.{wantsFrom, Selects};
 ghost use Rattle.calls.specs.Marks.{Adds, wantsMore};
 use crate::why::noted;
@@ -17,11 +17,13 @@ use motif::ROW;
 use motif::has_mark;
 use motif::in_use;
 use names::limits::NESTING_MOST;
+use patterns::is_known;
 use patterns::lacks;
+use patterns::learn;
 use patterns::selecting;
 
 // The rows that select a pattern that is not defined.
-fn lacking(patterns: &[u16; 4423], n: usize) -> usize
+fn lacking(patterns: &[u16; 4487], n: usize) -> usize
     requires { ⌜ n ≤ 64 ⌝ }
     ensures { λ r. ⌜ Adds 0 (wantsMore (now (patterns .entry))) n r ⌝ }
 {
@@ -46,7 +48,7 @@ fn rounds(level: usize) -> usize
 }
 
 // A pattern that the motif of row i, which has a level, or one that it calls selects is not defined.
-pub(crate) fn is_bare(motifs: &[usize; 704], patterns: &[u16; 4423], held: usize, i: usize) -> bool
+fn is_bare(motifs: &[usize; 704], patterns: &[u16; 4487], held: usize, i: usize) -> bool
     requires { ⌜ i < 64 ⌝ }
     ensures { λ r. ⌜ ((ms : List Motif) (m : Motif) → Tables (now (motifs .entry)) held ms → Selects (now (patterns .entry)) ms
         → Few (now (patterns .entry)) → InRow ms i m → (levelIn (now (motifs .entry)) i ≡ 0 → ⊥)
@@ -66,4 +68,30 @@ pub(crate) fn is_bare(motifs: &[usize; 704], patterns: &[u16; 4423], held: usize
         t += 1;
     }
     has_mark(table, i)
+}
+
+// The same, where row i is remembered if none is missing: until a motif is held or a page begins, the next call of it is one test.
+pub(crate) fn lacks_any(
+    motifs: &[usize; 704],
+    patterns: &mut [u16; 4487],
+    held: usize,
+    i: usize,
+) -> bool
+    requires { ⌜ i < 64 ⌝ }
+    ensures { λ _. ⌜ SameRows (now (patterns .entry)) (now (patterns .exit)) ⌝ }
+    ensures { λ _. ⌜ ((ms : List Motif) → Tables (now (motifs .entry)) held ms → Selects (now (patterns .entry)) ms
+        → Few (now (patterns .entry)) → (levelIn (now (motifs .entry)) i ≡ 0 → ⊥) → Selects (now (patterns .exit)) ms) ⌝ }
+    ensures { λ r. ⌜ ((ms : List Motif) (m : Motif) → Tables (now (motifs .entry)) held ms → Selects (now (patterns .entry)) ms
+        → Few (now (patterns .entry)) → InRow ms i m → (levelIn (now (motifs .entry)) i ≡ 0 → ⊥)
+        → r ≡ someMissing (numbersIn (now (patterns .entry)) OfPage) (numbersIn (now (patterns .entry)) OfSession)
+        (wantsFrom (unfolded ms 32 [] (m .name)) [])) ⌝ }
+{
+    if is_known(patterns, i) {
+        return false;
+    }
+    if is_bare(motifs, patterns, held, i) {
+        return true;
+    }
+    learn(patterns, i);
+    false
 }

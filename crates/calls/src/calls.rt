@@ -4,10 +4,10 @@ ghost use Prim.Native.Nat.{_<_};
 ghost use Rattle.scope.specs.Motif.{Motif};
 ghost use Rattle.motif.specs.Held.{InRow};
 ghost use Rattle.motif.specs.Tables.{Tables};
-ghost use Rattle.patterns.specs.Numbers.{OfPage, OfSession, numbersIn, Few};
+ghost use Rattle.patterns.specs.Numbers.{OfPage, OfSession, numbersIn, SameRows, Few};
 ghost use Rattle.patterns.specs.Selects.{Selects};
 ghost use Rattle.calls.specs.Judged.{Calls};
-use crate::bare::is_bare;
+use crate::bare::lacks_any;
 use crate::why::why_not;
 use motif::LEVEL;
 use motif::ROW;
@@ -22,20 +22,31 @@ pub enum Called {
 }
 
 // A call of the motif of row i: its summary, if it has a level, and whether a pattern is not defined; else why it is refused.
-fn of_row(motifs: &[usize; 704], patterns: &[u16; 4423], held: usize, i: usize) -> Called
+fn of_row(motifs: &[usize; 704], patterns: &mut [u16; 4487], held: usize, i: usize) -> Called
     requires { ⌜ i < 64 ⌝ }
+    ensures { λ _. ⌜ SameRows (now (patterns .entry)) (now (patterns .exit)) ⌝ }
+    ensures { λ _. ⌜ ((ms : List Motif) → Tables (now (motifs .entry)) held ms → Selects (now (patterns .entry)) ms → Few (now (patterns .entry))
+        → Selects (now (patterns .exit)) ms) ⌝ }
     ensures { λ r. ⌜ ((ms : List Motif) (m : Motif) → Tables (now (motifs .entry)) held ms → Selects (now (patterns .entry)) ms
         → Few (now (patterns .entry)) → InRow ms i m
         → Calls (numbersIn (now (patterns .entry)) OfPage) (numbersIn (now (patterns .entry)) OfSession) ms (m .name) r) ⌝ }
 {
     if motifs[i * ROW + LEVEL] != 0 {
-        return Called::Sum(motifs[i * ROW + SUM], is_bare(motifs, patterns, held, i));
+        return Called::Sum(motifs[i * ROW + SUM], lacks_any(motifs, patterns, held, i));
     }
     Called::No(why_not(motifs, held, i))
 }
 
-// A call of a name: 21 if it or one that it unfolds to is not held, 32 if a motif calls itself, 22 if calls nest over 32.
-pub fn call_of(motifs: &[usize; 704], patterns: &[u16; 4423], held: usize, name: &[u8]) -> Called
+// A call of a name: 21 if it or one that it unfolds to is not held, 32 if a motif calls itself, 22 if calls nest over 32. That it lacks no pattern is remembered.
+pub fn call_of(
+    motifs: &[usize; 704],
+    patterns: &mut [u16; 4487],
+    held: usize,
+    name: &[u8],
+) -> Called
+    ensures { λ _. ⌜ SameRows (now (patterns .entry)) (now (patterns .exit)) ⌝ }
+    ensures { λ _. ⌜ ((ms : List Motif) → Tables (now (motifs .entry)) held ms → Selects (now (patterns .entry)) ms → Few (now (patterns .entry))
+        → Selects (now (patterns .exit)) ms) ⌝ }
     ensures { λ r. ⌜ ((ms : List Motif) → Tables (now (motifs .entry)) held ms → Selects (now (patterns .entry)) ms → Few (now (patterns .entry))
         → Calls (numbersIn (now (patterns .entry)) OfPage) (numbersIn (now (patterns .entry)) OfSession) ms (now (name .entry)) r) ⌝ }
 {

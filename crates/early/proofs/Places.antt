@@ -63,4 +63,4 @@ module _ (c : Case) where
 
 -- numbers that stay as they are
 pub unchanged : (p : List ℕ) (row : ℕ) → Others p row p
-unchanged p row = record { long = refl; same = λ r n. refl }
+unchanged p row = record { long = refl; same = λ r n. refl; known = λ i. refl }

@@ -17,7 +17,7 @@ ghost use Rattle.reader.specs.Reads.{operatorAs};
 ghost use Rattle.motif.specs.Held.{Keeps};
 ghost use Rattle.motif.specs.Tables.{Tables};
 ghost use Rattle.motif.specs.Stored.{Stored};
-ghost use Rattle.patterns.specs.Numbers.{OfMotif, selectingIn, Others};
+ghost use Rattle.patterns.specs.Numbers.{OfMotif, selectingIn, Others, OtherRows, SameRows};
 ghost use Rattle.patterns.specs.Selects.{Selects};
 ghost use Rattle.place.specs.Places.{BusyHolds, PlaceHolds, Hatches, Drawn};
 ghost use Rattle.early.specs.Earlier.{Earlies, EarliesIn};
@@ -115,7 +115,7 @@ fn end_stream(
     set: Setting,
     work: &[u8],
     motifs: &[usize; 704],
-    patterns: &mut [u16; 4423],
+    patterns: &mut [u16; 4487],
     kept: Kept,
     joined: usize,
 ) -> Early
@@ -148,7 +148,7 @@ fn reading_early(
     set: Setting,
     work: &[u8],
     motifs: &[usize; 704],
-    patterns: &mut [u16; 4423],
+    patterns: &mut [u16; 4487],
     kept: Kept,
     joined: usize,
     o: Operator,
@@ -167,7 +167,10 @@ fn reading_early(
 }
 
 // ExecStream of a name: what a call of it comes to, from the tables alone.
-fn exec_stream(motifs: &[usize; 704], patterns: &[u16; 4423], held: usize, name: &[u8]) -> Early
+fn exec_stream(motifs: &[usize; 704], patterns: &mut [u16; 4487], held: usize, name: &[u8]) -> Early
+    ensures { λ _. ⌜ SameRows (now (patterns .entry)) (now (patterns .exit)) ⌝ }
+    ensures { λ _. ⌜ ((x : Session) → Tables (now (motifs .entry)) held (x .held) → Selects (now (patterns .entry)) (x .held)
+        → Hatched (now (patterns .entry)) x → Selects (now (patterns .exit)) (x .held)) ⌝ }
     ensures { λ r. ⌜ ((set : Setting·of) (p job attrs : List ℕ) (x : Session) (o : Operator) → Tables (now (motifs .entry)) held (x .held)
         → Selects (now (patterns .entry)) (x .held) → Hatched (now (patterns .entry)) x
         → now (name .entry) ≡ bytesIn job (rowsOf attrs (o .count)) 139 → o .tag ≡ 0x5e → EarliesIn set (now (motifs .entry)) p job attrs x o r) ⌝ }
@@ -183,11 +186,14 @@ fn drawing_early(
     job: &[u8],
     set: Setting,
     motifs: &[usize; 704],
-    patterns: &[u16; 4423],
+    patterns: &mut [u16; 4487],
     attrs: &[usize; 80],
     held: usize,
     o: Operator,
 ) -> Early
+    ensures { λ _. ⌜ SameRows (now (patterns .entry)) (now (patterns .exit)) ⌝ }
+    ensures { λ _. ⌜ ((x : Session) → Tables (now (motifs .entry)) held (x .held) → Selects (now (patterns .entry)) (x .held)
+        → Hatched (now (patterns .entry)) x → Selects (now (patterns .exit)) (x .held)) ⌝ }
     ensures { λ r. ⌜ ((p : List ℕ) (x : Session) → Tables (now (motifs .entry)) held (x .held) → Selects (now (patterns .entry)) (x .held)
         → Hatched (now (patterns .entry)) x → Sized (now (attrs .entry)) (o .count)
         → Drawn (x .busy) → mayCome (phaseBusy (x .busy)) (x .opened) (o .tag) ≡ true
@@ -211,14 +217,18 @@ fn inside_early(
     set: Setting,
     work: &[u8],
     motifs: &[usize; 704],
-    patterns: &mut [u16; 4423],
+    patterns: &mut [u16; 4487],
     attrs: &[usize; 80],
     kept: Kept,
     busy: Busy,
     o: Operator,
 ) -> Early
-    ensures { λ _. ⌜ Others (now (patterns .entry)) OfMotif (now (patterns .exit)) ⌝ }
+    ensures { λ _. ⌜ OtherRows (now (patterns .entry)) OfMotif (now (patterns .exit)) ⌝ }
     ensures { λ _. ⌜ selectingIn (now (patterns .exit)) ≡ selectingIn (now (patterns .entry)) ⌝ }
+    ensures { λ _. ⌜ ((x : Session) → Stored (settingAs set) (now (work .entry)) (now (motifs .entry)) kept (x .held)
+        → Hatches (now (patterns .entry)) (x .held) (x .patterns)
+        → BusyHolds (now (job .entry)) (now (work .entry)) (now (patterns .entry)) kept (x .held) busy (x .busy)
+        → Selects (now (patterns .exit)) (x .held)) ⌝ }
     ensures { λ r. ⌜ ((x : Session) → Stored (settingAs set) (now (work .entry)) (now (motifs .entry)) kept (x .held)
         → Hatches (now (patterns .entry)) (x .held) (x .patterns)
         → BusyHolds (now (job .entry)) (now (work .entry)) (now (patterns .entry)) kept (x .held) busy (x .busy) → Sized (now (attrs .entry)) (o .count)
@@ -232,19 +242,22 @@ fn inside_early(
     }
 }
 
-// These rules, of any operator that may come; what the motif that ends selects is kept in its row of the patterns.
+// These rules, of any operator that may come; the patterns keep what the motif that ends selects, and that a call lacks none of them.
 pub fn early_of(
     job: &[u8],
     set: Setting,
     work: &[u8],
     motifs: &[usize; 704],
-    patterns: &mut [u16; 4423],
+    patterns: &mut [u16; 4487],
     attrs: &[usize; 80],
     place: Place,
     o: Operator,
 ) -> Early
-    ensures { λ _. ⌜ Others (now (patterns .entry)) OfMotif (now (patterns .exit)) ⌝ }
+    ensures { λ _. ⌜ OtherRows (now (patterns .entry)) OfMotif (now (patterns .exit)) ⌝ }
     ensures { λ _. ⌜ selectingIn (now (patterns .exit)) ≡ selectingIn (now (patterns .entry)) ⌝ }
+    ensures { λ _. ⌜ ((q : scope.Place)
+        → PlaceHolds (settingAs set) (now (job .entry)) (now (work .entry)) (now (motifs .entry)) (now (patterns .entry)) place q
+        → PlaceHolds (settingAs set) (now (job .entry)) (now (work .entry)) (now (motifs .entry)) (now (patterns .exit)) place q) ⌝ }
     ensures { λ r. ⌜ ((q : scope.Place) (st : State)
         → PlaceHolds (settingAs set) (now (job .entry)) (now (work .entry)) (now (motifs .entry)) (now (patterns .entry)) place q
         → Sized (now (attrs .entry)) (o .count) → 16384 ≤ length (now (work .entry))

@@ -30,7 +30,7 @@ fn row_of(session: bool) -> usize
 pub fn begin_pattern(
     job: &[u8],
     set: Setting,
-    patterns: &[u16; 4423],
+    patterns: &[u16; 4487],
     attrs: &[usize; 80],
     o: Operator,
 ) -> Early

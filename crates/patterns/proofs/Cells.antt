@@ -13,7 +13,7 @@ use borrow.Author.Tests.{le-leb, lt-leb, eq-eqb, ne-eqb, eqb-true, eqb-false, le
 use Rattle.scope.specs.Choice.{pick, among}
 use Rattle.scope.specs.Judge.{someMissing}
 use Rattle.scope.specs.Session.{defined}
-use Rattle.patterns.specs.Numbers.{numbersTo, numbersIn, noted, selectingIn, Others, OtherRows, Quiet, OfMotif}
+use Rattle.patterns.specs.Numbers.{numbersTo, numbersIn, noted, selectingIn, knownIn, Others, OtherRows, SameRows, Quiet, OfMotif}
 
 -- as many as are asked for
 pub to-length : (t : List ℕ) (p c : ℕ) → length (numbersTo t p c) ≡ c
@@ -51,20 +51,25 @@ unfolding numbersIn numbersTo
 in-none t row e = rw e
 
 -- a store in a row leaves the other rows
-pub set-others : (t : List ℕ) (row k v : ℕ) → k < 66 → Others t row (set t (row * 66 + k) v)
-set-others t row k v h =
+set-rows : (t : List ℕ) (row k v : ℕ) → k < 66 → (r : ℕ) → (r ≡ row → ⊥) → numbersIn (set t (row * 66 + k) v) r ≡ numbersIn t r
+set-rows t row k v h r d =
+    in-same (set t (row * 66 + k) v) t r r
+    (λ j l. let z : r * 66 + j ≢ row * 66 + k = λ y. omega (arith, d) in getD-set-other t (row * 66 + k) (r * 66 + j) v 0 z)
+
+-- and what is known of calls
+pub set-others : (t : List ℕ) (row k v : ℕ) → row < 67 → k < 66 → Others t row (set t (row * 66 + k) v)
+set-others t row k v b h =
     record {
       long = length-set t (row * 66 + k) v;
-      same = λ r d.
-          in-same (set t (row * 66 + k) v) t r r
-          (λ j l. let z : r * 66 + j ≢ row * 66 + k = λ y. omega (arith, d) in getD-set-other t (row * 66 + k) (r * 66 + j) v 0 z);
+      same = set-rows t row k v h;
+      known = λ i. let z : 4423 + i ≢ row * 66 + k = λ y. omega arith in getD-set-other t (row * 66 + k) (4423 + i) v 0 z;
     }
 
 pub others-none : (t : List ℕ) (row : ℕ) → Others t row t
-others-none t row = record { long = refl; same = λ r d. refl }
+others-none t row = record { long = refl; same = λ r d. refl; known = λ i. refl }
 
 pub others-too : {t u v : List ℕ} {row : ℕ} → Others t row u → Others u row v → Others t row v
-others-too a b = record { long = b .long ∙ a .long; same = λ r d. b .same r d ∙ a .same r d }
+others-too a b = record { long = b .long ∙ a .long; same = λ r d. b .same r d ∙ a .same r d; known = λ i. b .known i ∙ a .known i }
 
 -- a store in a row is none to the mark behind all rows
 pub set-selecting : (t : List ℕ) (row k v : ℕ) → row < 67 → k < 66 → selectingIn (set t (row * 66 + k) v) ≡ selectingIn t
@@ -78,8 +83,8 @@ module _ (t : List ℕ) (row : ℕ) where
   pub cleared : row * 66 < length t → numbersIn (set t (row * 66) 0) row ≡ []
   cleared l = in-none (set t (row * 66) 0) row (getD-set-same t (row * 66) 0 0 l)
 
-  pub first-others : (v : ℕ) → Others t row (set t (row * 66) v)
-  first-others v = let l : 0 < 66 = omega arith in rw first at (set-others t row 0 v l)
+  pub first-others : (v : ℕ) → row < 67 → Others t row (set t (row * 66) v)
+  first-others v h = let l : 0 < 66 = omega arith in rw first at (set-others t row 0 v h l)
 
   pub first-selecting : (v : ℕ) → row < 67 → selectingIn (set t (row * 66) v) ≡ selectingIn t
   first-selecting v h = let l : 0 < 66 = omega arith in rw first at (set-selecting t row 0 v h l)
@@ -140,11 +145,11 @@ module _ (t : List ℕ) (row c n : ℕ) (t₁ t₂ : List ℕ) (p : t₁ ≡ set
       let m : length (numbersIn t row) < 65 = omega arith in
       rw (q, p) (in-more t row c n e h l ∙ sym (noted-new n (numbersIn t row) f m))
 
-  pub more-others : Others t row t₂
-  more-others =
+  pub more-others : row < 67 → Others t row t₂
+  more-others l =
       let m : c + 1 < 66 = omega arith in
-      let o : Others t row (set t (row * 66 + c + 1) n) = rw (behind-it row c) at (set-others t row (c + 1) n m) in
-      rw (q, p) (others-too o (first-others (set t (row * 66 + c + 1) n) row (c + 1)))
+      let o : Others t row (set t (row * 66 + c + 1) n) = rw (behind-it row c) at (set-others t row (c + 1) n l m) in
+      rw (q, p) (others-too o (first-others (set t (row * 66 + c + 1) n) row (c + 1) l))
 
   pub more-selecting : row < 67 → selectingIn t₂ ≡ selectingIn t
   more-selecting l =
@@ -246,12 +251,16 @@ module _ {s : List ℕ} (q : ℕ) {t₀ : List ℕ} (row : ℕ) {t : List ℕ} (
   pub copied-row : numbersIn t row ≡ numbersIn s q
   copied-row = in-same t s row q (w .cells)
 
-  pub copied-others : Others t₀ row t
-  copied-others = record { long = w .long; same = λ r d. in-same t t₀ r r (λ k l. by r d k l (leb (row * 66) (r * 66 + k)) refl) }
+  copied-rows : (r : ℕ) → (r ≡ row → ⊥) → numbersIn t r ≡ numbersIn t₀ r
+  copied-rows r d = in-same t t₀ r r (λ k l. by r d k l (leb (row * 66) (r * 66 + k)) refl)
     where
       by : (r : ℕ) → (r ≡ row → ⊥) → (k : ℕ) → k < 66 → (b : Bool) → leb (row * 66) (r * 66 + k) ≡ b → getD t (r * 66 + k) 0 ≡ getD t₀ (r * 66 + k) 0
       by r d k l true b = let m : row * 66 + 66 ≤ r * 66 + k = omega (arith, leb-true (row * 66) (r * 66 + k) b, d) in w .behind (r * 66 + k) m
       by r d k l false b = let m : r * 66 + k < row * 66 = omega (arith, leb-false (row * 66) (r * 66 + k) b) in w .before (r * 66 + k) m
+
+  pub copied-others : row < 67 → Others t₀ row t
+  copied-others h =
+      record { long = w .long; same = copied-rows; known = λ i. let m : row * 66 + 66 ≤ 4423 + i = omega arith in w .behind (4423 + i) m }
 
   pub copied-selecting : row < 67 → selectingIn t ≡ selectingIn t₀
   copied-selecting h = let m : row * 66 + 66 ≤ 4422 = omega arith in w .behind 4422 m
@@ -272,13 +281,73 @@ module _ {t₀ : List ℕ} (row : ℕ) {t : List ℕ} (o : Others t₀ row t) wh
 module _ {t₀ : List ℕ} (row : ℕ) {t : List ℕ} (h : row < 64) (w : Copied t₀ (OfMotif * 66) t₀ (row * 66) 66 t) where
   -- the mark is no cell of a row
   mark-same : (v r : ℕ) → r < 67 → numbersIn (set t 4422 v) r ≡ numbersIn t r
-  mark-same v r l = let z : r ≡ 67 → ⊥ = λ y. omega arith in set-others t 67 0 v (omega arith) .same r z
+  mark-same v r l = let z : r ≡ 67 → ⊥ = λ y. omega arith in set-rows t 67 0 v (omega arith) r z
 
   pub row-marked : (v : ℕ) → numbersIn (set t 4422 v) row ≡ numbersIn t₀ OfMotif
   row-marked v = let l : row < 67 = omega arith in mark-same v row l ∙ copied-row OfMotif row w
 
   pub others-marked : (v : ℕ) → OtherRows t₀ row (set t 4422 v)
-  others-marked v = record { long = length-set t 4422 v ∙ w .long; same = λ r l d. mark-same v r l ∙ copied-others OfMotif row w .same r d }
+  others-marked v = record { long = length-set t 4422 v ∙ w .long; same = λ r l d. mark-same v r l ∙ copied-rows OfMotif row w r d }
 
   pub quiet-marked : 4422 < length t → (v : ℕ) → 0 < v → Quiet (set t 4422 v)
   quiet-marked l v k = record { none = λ z. absurd (omega (arith, z, k, getD-set-same t 4422 v 0 l)) }
+
+-- what is not touched is the same
+pub same-self : {t : List ℕ} → SameRows t t
+same-self = record { long = refl; rows = λ r l. refl; mark = refl }
+
+-- a store behind the mark leaves the rows and the mark
+pub known-same : (t : List ℕ) (i v : ℕ) → SameRows t (set t (4423 + i) v)
+known-same t i v =
+    record {
+      long = length-set t (4423 + i) v;
+      rows = λ r l.
+          in-same (set t (4423 + i) v) t r r
+          (λ j m. let z : r * 66 + j ≢ 4423 + i = λ y. omega arith in getD-set-other t (4423 + i) (r * 66 + j) v 0 z);
+      mark = let z : 4422 ≢ 4423 + i = λ y. omega arith in getD-set-other t (4423 + i) 4422 v 0 z;
+    }
+
+-- and what is known of other calls
+pub known-other : (t : List ℕ) (i v k : ℕ) → (k ≡ i → ⊥) → knownIn (set t (4423 + i) v) k ≡ knownIn t k
+known-other t i v k d = let z : 4423 + k ≢ 4423 + i = λ y. omega (arith, d) in getD-set-other t (4423 + i) (4423 + k) v 0 z
+
+-- of the first n motifs no call is known, and the rows and the mark are as they were
+pub record Forgotten (t₀ : List ℕ) (n : ℕ) (t : List ℕ) : Type 0 where
+  pub same : SameRows t₀ t
+  pub none : (i : ℕ) → i < n → knownIn t i ≡ 0
+
+pub forgotten-none : {t : List ℕ} → Forgotten t 0 t
+forgotten-none = record { same = same-self; none = λ i l. absurd (omega arith) }
+
+pub forgotten-more : {t₀ : List ℕ} {n : ℕ} {t : List ℕ} → Forgotten t₀ n t → 4423 + n < length t → (t₁ : List ℕ) → t₁ ≡ set t (4423 + n) 0
+    → Forgotten t₀ (n + 1) t₁
+forgotten-more {n = n} {t = t} w h t₁ e =
+    let s = known-same t n 0 in
+    rw e
+    record {
+      same =
+          record {
+            long = s .long ∙ w .same .long;
+            rows = λ r l. s .rows r l ∙ w .same .rows r l;
+            mark = s .mark ∙ w .same .mark;
+          };
+      none = λ i l. by i l (eqb i n) refl;
+    }
+  where
+    by : (i : ℕ) → i < n + 1 → (b : Bool) → eqb i n ≡ b → knownIn (set t (4423 + n) 0) i ≡ 0
+    by i l true b = let y : i ≡ n = eqb-true i n b in rw y (getD-set-same t (4423 + n) 0 0 h)
+    by i l false b =
+        let d = eqb-false i n b in
+        let m : i < n = omega (arith, d) in
+        known-other t n 0 i d ∙ w .none i m
+
+-- what was so of the rows is so where the same rows are
+module _ {u v : List ℕ} (s : SameRows u v) where
+  pub rows-too : {t : List ℕ} {row : ℕ} → OtherRows t row u → OtherRows t row v
+  rows-too o = record { long = s .long ∙ o .long; same = λ r l d. s .rows r l ∙ o .same r l d }
+
+  pub rows-same : {row : ℕ} → OtherRows u row v
+  rows-same = record { long = s .long; same = λ r l d. s .rows r l }
+
+  pub quiet-too : Quiet u → Quiet v
+  quiet-too q = record { none = λ z r l. let m : r < 67 = omega arith in s .rows r m ∙ q .none (sym (s .mark) ∙ z) r l }

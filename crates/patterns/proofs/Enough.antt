@@ -27,6 +27,10 @@ pick-right : (b c : Bool) → c ≡ true → pick b true c ≡ true
 pick-right true c e = refl
 pick-right false c e = e
 
+or-right : (b c : Bool) → c ≡ true → (b || c) ≡ true
+or-right true c e = refl
+or-right false c e = e
+
 -- a list less one number of it: one shorter, and every other number is still there
 record Less (n : ℕ) (xs : List ℕ) : Type 0 where
   rest : List ℕ
@@ -155,3 +159,32 @@ enough p s ns lp ls = by (someMissing p s (collected ns)) refl (someMissing p s 
     by false e false f = refl
     by true e false f = sym e ∙ none-missing p s (collected ns) (λ y h. all-there p s ns f y (k .within .at y h))
     by false e true f = sym (none-missing p s ns (λ y h. all-there p s (collected ns) e y (k .whole (few e) .at y h))) ∙ f
+
+-- with more defined nothing is missing that was not
+still : (a b p s ns : List ℕ) → ((y : ℕ) → (among a y || among b y) ≡ true → (among p y || among s y) ≡ true) → someMissing a b ns ≡ false
+    → someMissing p s ns ≡ false
+still a b p s ns f e = none-missing p s ns (λ y h. f y (all-there a b ns e y h))
+
+among-noted : (n : ℕ) (ns : List ℕ) (y : ℕ) → among ns y ≡ true → among (noted n ns) y ≡ true
+unfolding noted defined among
+among-noted n ns y h = by (leb 65 (length ns)) (among ns n)
+  where
+    by : (b c : Bool) → among (pick b ns (pick c ns (n ∷ ns))) y ≡ true
+    by true c = h
+    by false true = h
+    by false false = pick-right (eqb y n) (among ns y) h
+
+-- a number more for the page, or for the session
+pub page-still : (n : ℕ) (p s ns : List ℕ) → someMissing p s ns ≡ false → someMissing (noted n p) s ns ≡ false
+page-still n p s ns = still p s (noted n p) s ns (λ y h. by y (among p y) refl h)
+  where
+    by : (y : ℕ) (b : Bool) → among p y ≡ b → (b || among s y) ≡ true → (among (noted n p) y || among s y) ≡ true
+    by y true e h = rw (among-noted n p y e) refl
+    by y false e h = or-right (among (noted n p) y) (among s y) h
+
+pub session-still : (n : ℕ) (p s ns : List ℕ) → someMissing p s ns ≡ false → someMissing p (noted n s) ns ≡ false
+session-still n p s ns = still p s p (noted n s) ns (λ y h. by y (among p y) h)
+  where
+    by : (y : ℕ) (b : Bool) → (b || among s y) ≡ true → (b || among (noted n s) y) ≡ true
+    by y true h = refl
+    by y false h = among-noted n s y h

@@ -41,15 +41,30 @@ collected (n ∷ ns) = noted n (collected ns)
 abbrev pub selectingIn : List ℕ → ℕ
 selectingIn t = getD t 4422 0
 
--- every row but this one is as it was
+-- behind the mark, one for each motif: not 0 if a call of the motif of row i is known to lack no pattern
+abbrev pub knownIn : List ℕ → (i : ℕ) → ℕ
+knownIn t i = getD t (4423 + i) 0
+
+-- every row but this one is as it was, and so is what is known of calls
 pub record Others (t : List ℕ) (row : ℕ) (t₁ : List ℕ) : Type 0 where
   pub long : length t₁ ≡ length t
   pub same : (r : ℕ) → (r ≡ row → ⊥) → numbersIn t₁ r ≡ numbersIn t r
+  pub known : (i : ℕ) → knownIn t₁ i ≡ knownIn t i
 
--- of the 67 rows that there are, every one but this one is as it was; the mark behind them may be another
+-- of the 67 rows that there are, every one but this one is as it was; the mark behind them and what is known of calls may be others
 pub record OtherRows (t : List ℕ) (row : ℕ) (t₁ : List ℕ) : Type 0 where
   pub long : length t₁ ≡ length t
   pub same : (r : ℕ) → r < 67 → (r ≡ row → ⊥) → numbersIn t₁ r ≡ numbersIn t r
+
+-- the 67 rows and the mark are as they were; what is known of calls may be other
+pub record SameRows (t t₁ : List ℕ) : Type 0 where
+  pub long : length t₁ ≡ length t
+  pub rows : (r : ℕ) → r < 67 → numbersIn t₁ r ≡ numbersIn t r
+  pub mark : selectingIn t₁ ≡ selectingIn t
+
+-- of no call it is known that it lacks no pattern
+pub record Unknown (t : List ℕ) : Type 0 where
+  pub none : (i : ℕ) → i < 64 → knownIn t i ≡ 0
 
 -- where the rows say that no motif selects a pattern, none does
 pub record Quiet (t : List ℕ) : Type 0 where

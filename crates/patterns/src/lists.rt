@@ -35,7 +35,7 @@ pub(crate) fn count_of(cell: u16) -> usize
 }
 
 // How many numbers a row has.
-pub fn count(patterns: &[u16; 4423], row: usize) -> usize
+pub fn count(patterns: &[u16; 4487], row: usize) -> usize
     requires { ⌜ row < 67 ⌝ }
     ensures { λ r. ⌜ r ≡ length (numbersIn (now (patterns .entry)) row) ⌝ }
     ensures { λ r. ⌜ r < 66 ⌝ }
@@ -44,7 +44,7 @@ pub fn count(patterns: &[u16; 4423], row: usize) -> usize
 }
 
 // A number is in a row.
-pub fn has(patterns: &[u16; 4423], row: usize, n: u16) -> bool
+pub fn has(patterns: &[u16; 4487], row: usize, n: u16) -> bool
     requires { ⌜ row < 67 ⌝ }
     ensures { λ r. ⌜ r ≡ among (numbersIn (now (patterns .entry)) row) n ⌝ }
 {
@@ -67,7 +67,7 @@ pub(crate) fn put(cells: &mut [u16], at: usize, n: u16)
 }
 
 // One number more in a row, unless it is there.
-pub fn define(patterns: &mut [u16; 4423], row: usize, n: u16)
+pub fn define(patterns: &mut [u16; 4487], row: usize, n: u16)
     requires { ⌜ row < 67 ⌝ }
     ensures { λ _. ⌜ numbersIn (now (patterns .exit)) row ≡ noted n (numbersIn (now (patterns .entry)) row) ⌝ }
     ensures { λ _. ⌜ Others (now (patterns .entry)) row (now (patterns .exit)) ⌝ }
@@ -85,7 +85,7 @@ pub fn define(patterns: &mut [u16; 4423], row: usize, n: u16)
 }
 
 // No number in a row.
-pub fn clear(patterns: &mut [u16; 4423], row: usize)
+pub(crate) fn empty(patterns: &mut [u16; 4487], row: usize)
     requires { ⌜ row < 67 ⌝ }
     ensures { λ _. ⌜ numbersIn (now (patterns .exit)) row ≡ [] ⌝ }
     ensures { λ _. ⌜ Others (now (patterns .entry)) row (now (patterns .exit)) ⌝ }
@@ -95,7 +95,7 @@ pub fn clear(patterns: &mut [u16; 4423], row: usize)
 }
 
 // A pattern is defined, for the page or for the session.
-pub fn is_defined(patterns: &[u16; 4423], n: u16) -> bool
+pub fn is_defined(patterns: &[u16; 4487], n: u16) -> bool
     ensures { λ r. ⌜ r ≡ (among (numbersIn (now (patterns .entry)) OfPage) n || among (numbersIn (now (patterns .entry)) OfSession) n) ⌝ }
 {
     if has(patterns, PAGE, n) {
@@ -105,7 +105,7 @@ pub fn is_defined(patterns: &[u16; 4423], n: u16) -> bool
 }
 
 // A number of a row is not defined.
-pub fn lacks(patterns: &[u16; 4423], row: usize) -> bool
+pub fn lacks(patterns: &[u16; 4487], row: usize) -> bool
     requires { ⌜ row < 67 ⌝ }
     ensures { λ r. ⌜ r ≡ someMissing (numbersIn (now (patterns .entry)) OfPage) (numbersIn (now (patterns .entry)) OfSession)
         (numbersIn (now (patterns .entry)) row) ⌝ }
@@ -121,20 +121,20 @@ pub fn lacks(patterns: &[u16; 4423], row: usize) -> bool
 }
 
 // A motif selects a pattern, or one that is not held any more did.
-pub fn selecting(patterns: &[u16; 4423]) -> bool
+pub fn selecting(patterns: &[u16; 4487]) -> bool
     ensures { λ r. ⌜ (r ≡ false → selectingIn (now (patterns .entry)) ≡ 0) ⌝ }
 {
     patterns[SELECTING] != 0
 }
 
 // What the motif that was judged selects, kept for later.
-pub fn take_own(patterns: &mut [u16; 4423], own: &[u16; 66])
+pub fn take_own(patterns: &mut [u16; 4487], own: &[u16; 66])
     ensures { λ _. ⌜ numbersIn (now (patterns .exit)) OfMotif ≡ numbersIn (now (own .entry)) 0 ⌝ }
     ensures { λ _. ⌜ Others (now (patterns .entry)) OfMotif (now (patterns .exit)) ⌝ }
     ensures { λ _. ⌜ selectingIn (now (patterns .exit)) ≡ selectingIn (now (patterns .entry)) ⌝ }
 {
     if own[0] == 0 {
-        clear(patterns, OWN);
+        empty(patterns, OWN);
         return;
     }
     let mut i: usize = 0;
@@ -144,15 +144,15 @@ pub fn take_own(patterns: &mut [u16; 4423], own: &[u16; 66])
     }
 }
 
-// The motif that was judged becomes held in this row.
-pub fn keep(patterns: &mut [u16; 4423], row: usize)
+// What the motif that was judged selects, in this row.
+pub(crate) fn copy_own(patterns: &mut [u16; 4487], row: usize)
     requires { ⌜ row < 64 ⌝ }
     ensures { λ _. ⌜ numbersIn (now (patterns .exit)) row ≡ numbersIn (now (patterns .entry)) OfMotif ⌝ }
     ensures { λ _. ⌜ OtherRows (now (patterns .entry)) row (now (patterns .exit)) ⌝ }
     ensures { λ _. ⌜ (Quiet (now (patterns .entry)) → Quiet (now (patterns .exit))) ⌝ }
 {
     if patterns[OWN * ROW] == 0 {
-        clear(patterns, row);
+        empty(patterns, row);
         return;
     }
     let mut k: usize = 0;

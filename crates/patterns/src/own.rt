@@ -1,12 +1,15 @@
-// The numbers that the motif being judged selects: one row of them.
+// The numbers that the motif being judged selects: one row of them, and the row that keeps them.
 ghost use mathlib.Core.Path.{_≡_};
 ghost use Prim.Native.Nat.{_<_};
 ghost use lib.ListN.{length};
 ghost use Rattle.scope.specs.Choice.{among};
-ghost use Rattle.patterns.specs.Numbers.{numbersIn, noted};
+ghost use Rattle.patterns.specs.Numbers.{OfMotif, numbersIn, noted, OtherRows, Unknown, Quiet};
+use crate::known::forget;
 use crate::lists::NUMBERS_MOST;
+use crate::lists::copy_own;
 use crate::lists::count_of;
 use crate::lists::put;
+use names::limits::MOTIFS_MOST;
 
 // How many there are.
 fn count(own: &[u16; 66]) -> usize
@@ -44,4 +47,16 @@ pub fn note(own: &mut [u16; 66], n: u16)
     }
     put(own, count + 1, n);
     put(own, 0, (count + 1) as u16);
+}
+
+// The motif that was judged becomes held in this row. Who calls it may lack a pattern now, so no call is known to lack none.
+pub fn keep(patterns: &mut [u16; 4487], row: usize)
+    requires { ⌜ row < 64 ⌝ }
+    ensures { λ _. ⌜ numbersIn (now (patterns .exit)) row ≡ numbersIn (now (patterns .entry)) OfMotif ⌝ }
+    ensures { λ _. ⌜ OtherRows (now (patterns .entry)) row (now (patterns .exit)) ⌝ }
+    ensures { λ _. ⌜ (Quiet (now (patterns .entry)) → Quiet (now (patterns .exit))) ⌝ }
+    ensures { λ _. ⌜ Unknown (now (patterns .exit)) ⌝ }
+{
+    copy_own(patterns, row);
+    forget(patterns, MOTIFS_MOST);
 }

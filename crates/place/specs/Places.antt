@@ -17,8 +17,8 @@ use Rattle.motif.specs.Keys.{IsName}
 use Rattle.motif.specs.Stored.{Stored, full}
 use Rattle.motif.specs.declared.kept.Kept.{Kept}
 use Rattle.order.specs.Pictures.{pictureAs}
-use Rattle.patterns.specs.Numbers.{OfPage, OfSession, numbersIn, selectingIn, Quiet}
-use Rattle.patterns.specs.Selects.{Selects}
+use Rattle.patterns.specs.Numbers.{OfPage, OfSession, numbersIn, selectingIn, knownIn, Quiet}
+use Rattle.patterns.specs.Selects.{missingOf, Selects}
 use Rattle.order.specs.declared.picture.Picture.{Picture}
 use Rattle.place.specs.declared.place.Busy.{Busy}
 use Rattle.place.specs.declared.place.Busy.the-variants.{Resting, Reading, Drawing}
@@ -30,11 +30,13 @@ pub record Named (job : List ℕ) (first count : ℕ) (name : List ℕ) : Type 0
   pub within : first + count ≤ length job
   pub same : take count (drop first job) ≡ name
 
--- what is kept of the patterns that motifs select is as it was
+-- what is kept of the patterns that motifs select is as it was; what is known of a call was known before, and then nothing is missing that was defined
 pub record Beside (p p₁ : List ℕ) : Type 0 where
   pub long : length p₁ ≡ length p
   pub rows : (r : ℕ) → r < 64 → numbersIn p₁ r ≡ numbersIn p r
   pub selecting : selectingIn p₁ ≡ selectingIn p
+  pub known : (i : ℕ) → i < 64 → (knownIn p₁ i ≡ 0 → ⊥) → knownIn p i ≡ 0 → ⊥
+  pub still : (i : ℕ) → i < 64 → (knownIn p₁ i ≡ 0 → ⊥) → (ns : List ℕ) → missingOf p ns ≡ false → missingOf p₁ ns ≡ false
 
 -- what is kept of patterns, p: what each of these motifs selects, and the numbers that are defined for the session
 pub record Hatches (p : List ℕ) (ms : List motif.Motif) (ns : List ℕ) : Type 0 where

@@ -39,9 +39,7 @@ use Rattle.buffer.specs.Over.{over}
 use Rattle.buffer.specs.Listed.{BytesIn, recordsFor}
 use Rattle.buffer.proofs.Listed.{listed-more, recordsBefore-more, length-recordsFor}
 use Rattle.motif.specs.declared.kept.Kept.{Kept}
-use Rattle.patterns.specs.Numbers.{OfMotif, selectingIn, Others}
 use Rattle.place.specs.Places.{PlaceHolds, outside-holds, inside-holds}
-use Rattle.place.proofs.Hatched.{place-kept}
 use Rattle.place.specs.declared.place.Place.the-variants as Place-is
 use Rattle.state.specs.Views.{verdictAs}
 use Rattle.state.specs.Standing.{Listed, Lent, Stands, Steps, steps-go, steps-stop, Comes, endCode}
@@ -298,14 +296,15 @@ pub steps-read : {job list₀ : List ℕ} {l : Lent} {t : Step} (set : Setting) 
     → Steps set job list₀ l t (onRead every set job (length list₀) d (Read.operator o)) → Steps set job list₀ l t (jobStep every set job (length list₀) d)
 steps-read {job} {list₀} {l} {t} set d o e h = subst⁻¹ (λ n. Steps set job list₀ l t n) (step-operator set job (length list₀) d o e) h
 
--- the rules of motifs leave the place as it is, but for the row of the motif that is being judged
-pub stands-kept : {set : Setting} {job list₀ table p p₁ work list : List ℕ} {st : Code.State} {d : State} → Others p OfMotif p₁ → selectingIn p₁ ≡ selectingIn p
+-- the rules of motifs keep the place, though the row of the motif that is being judged changes and what is known of calls
+pub stands-kept : {set : Setting} {job list₀ table p p₁ work list : List ℕ} {st : Code.State} {d : State}
+    → ((q : session.Place) → PlaceHolds set job work table p (st .place) q → PlaceHolds set job work table p₁ (st .place) q)
     → Stands set job list₀ (record { table = table; patterns = p; work = work; list = list }) st d
     → Stands set job list₀ (record { table = table; patterns = p₁; work = work; list = list }) st d
-stands-kept o e h =
+stands-kept {d = d} f h =
     record {
       at = h .at;
-      place = place-kept o e (h .place);
+      place = f (d .place) (h .place);
       performed = h .performed;
       records = h .records;
       counted = h .counted;

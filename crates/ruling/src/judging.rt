@@ -41,7 +41,7 @@ pub fn inner_of(early: Early) -> u32
 }
 
 // A pattern is selected that is not defined.
-fn bare_of(patterns: &[u16; 4423], select: Select) -> bool
+fn bare_of(patterns: &[u16; 4487], select: Select) -> bool
     ensures { λ r. ⌜ r ≡ someMissing (numbersIn (now (patterns .entry)) OfPage) (numbersIn (now (patterns .entry)) OfSession) (wanted (selectAs select) []) ⌝ }
 {
     match select {
@@ -55,7 +55,7 @@ fn perform(
     job: &[u8],
     set: Setting,
     attrs: &[usize; 80],
-    patterns: &[u16; 4423],
+    patterns: &[u16; 4487],
     place: Place,
     o: Operator,
     performed: u32,
@@ -91,7 +91,7 @@ pub fn judge(
     job: &[u8],
     set: Setting,
     attrs: &[usize; 80],
-    patterns: &[u16; 4423],
+    patterns: &[u16; 4487],
     early: Early,
     place: Place,
     o: Operator,

@@ -74,7 +74,7 @@ fn go_on(
     work: &mut [u8],
     list: &mut [u8],
     motifs: &mut [usize; 704],
-    patterns: &mut [u16; 4423],
+    patterns: &mut [u16; 4487],
     attrs: &[usize; 80],
     st: State,
     allowed: Allowed,
@@ -122,7 +122,7 @@ fn perform(
     work: &mut [u8],
     list: &mut [u8],
     motifs: &mut [usize; 704],
-    patterns: &mut [u16; 4423],
+    patterns: &mut [u16; 4487],
     attrs: &[usize; 80],
     st: State,
     o: Operator,
@@ -173,7 +173,7 @@ fn advance(
     work: &mut [u8],
     list: &mut [u8],
     motifs: &mut [usize; 704],
-    patterns: &mut [u16; 4423],
+    patterns: &mut [u16; 4487],
     attrs: &mut [usize; 80],
     st: State,
 ) -> Step
@@ -211,7 +211,7 @@ fn items_from(job: &[u8], set: Setting, next: usize, work: &mut [u8], list: &mut
         × Listed (now (list .entry)) (judgedFrom every (settingAs set) (now (job .entry)) (length (now (list .entry))) (scope.starting next) .state .past) (now (list .exit)) ⌝ }
 {
     let mut motifs = [0usize; 704];
-    let mut patterns = [0u16; 4423];
+    let mut patterns = [0u16; 4487];
     let mut attrs = [0usize; 80];
     let mut st = State {
         at: next,

@@ -5,7 +5,7 @@ use mathlib.Core.Path.{refl}
 use native.Mathlib.Omega.{arith}
 use borrow.Author.Tests.{eq-eqb, ne-eqb}
 use Rattle.place.specs.Places.{none-place, resting-holds, reading-holds, drawing-holds}
-use Rattle.place.proofs.Hatched.{beside-of, beside-same}
+use Rattle.place.proofs.Hatched.{beside-unknown, beside-same}
 use Rattle.after.specs.Afterwards.{restingAfter}
 use Rattle.after.proofs.Storing.{part-bytes}
 use borrow.Author.Needs.{needs}
@@ -23,9 +23,9 @@ unfolding restingAfter
 returns c =
     let d = c .before .clear .ensures in
     let f : 0 ≤ 32 = omega arith in (
-      beside-of (d .1 .0) (omega arith) (d .1 .1),
+      beside-unknown (d .1 .0) (omega arith) (d .1 .1 .0) (d .1 .1 .1),
       (
-        d .1 .0 .same 65 (λ x. omega (arith, x)),
+        d .1 .0 .same 65 (omega arith) (λ x. omega (arith, x)),
         λ work kept ms z h k. rw (eq-eqb _ _ (c .before .before .before .if1 .taken)) (drawing-holds (c .blank .ensures) refl (d .0) f none-place),
       ),
     )

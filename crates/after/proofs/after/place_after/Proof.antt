@@ -3,7 +3,7 @@
 use mathlib.Core.Path.{refl}
 use native.Mathlib.Omega.{arith}
 use Rattle.setting.specs.Views.{settingAs}
-use Rattle.place.proofs.Hatched.{beside-of}
+use Rattle.place.proofs.Hatched.{beside-unknown}
 use Rattle.after.proofs.Going.{outside-after, draw-after}
 use borrow.Author.Needs.{needs}
 use Rattle.after.proofs.after.place_after.Statement.{statement}
@@ -54,7 +54,7 @@ returns c =
             refl,
             outside-after (a .job .now) (a .attrs .now) (settingAs (a .set)) (a .o) (a .work .now) (a .motifs .now) (a .patterns .now)
                 (c .clear .last .0) (d .0)
-                (beside-of (d .1 .0) (omega arith) (d .1 .1)),
+                (beside-unknown (d .1 .0) (omega arith) (d .1 .1 .0) (d .1 .1 .1)),
           ),
         ),
       ),

@@ -26,7 +26,7 @@ returns c =
     let f = y .before .before .find .ensures in
     let k = c .keep .ensures in (
       k .1 .0 .long,
-      λ ms m s h. own-at (rw (y .i .given .1) at (f .1 .1 ms s)) h (rw (y .i .given .1) at (f .0)) (k .0) (k .1 .0) (k .1 .1),
+      λ ms m s h. own-at (rw (y .i .given .1) at (f .1 .1 ms s)) h (rw (y .i .given .1) at (f .0)) (k .0) (k .1 .0) (k .1 .1 .0) (k .1 .1 .1),
     )
 
 returns-2 : tie.Need-returns-2

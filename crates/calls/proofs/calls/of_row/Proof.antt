@@ -2,6 +2,7 @@
 -- Assumes nothing.
 use borrow.Author.Needs.{needs}
 use Rattle.calls.proofs.Refusing.{calls-level}
+use Rattle.patterns.proofs.Cells.{same-self}
 use Rattle.calls.proofs.calls.of_row.Statement.{statement}
 use Rattle.calls.proofs.calls.of_row.Tie as tie
 
@@ -29,19 +30,20 @@ mul-t14 c = search needs
 element-copy-out-t17 : tie.Need-element-copy-out-t17
 element-copy-out-t17 c = search needs
 
-is-bare-requires : tie.Need-is-bare-requires
-is-bare-requires c κs = search needs
+lacks-any-requires : tie.Need-lacks-any-requires
+lacks-any-requires c κs = search needs
 
 returns : tie.Need-returns
 returns c =
-    let t = c .before .before .if1 .taken in
-    λ ms m h s w r. calls-level (h .settled) r t (c .is-bare .ensures ms m h s w r t)
+    let t = c .before .before .before .if1 .taken in
+    let e = c .lacks-any .ensures in
+    (e .0, (λ ms h s w. e .1 .0 ms h s w t, λ ms m h s w r. calls-level (h .settled) r t (e .1 .1 ms m h s w r t)))
 
 why-not-requires : tie.Need-why-not-requires
 why-not-requires c κs = search needs
 
 returns-2 : tie.Need-returns-2
-returns-2 c = λ ms m h s w r. c .why-not .ensures _ _ ms m h r (c .before .if1 .left)
+returns-2 c = (same-self, (λ ms h s w. s, λ ms m h s w r. c .why-not .ensures _ _ ms m h r (c .before .if1 .left)))
 
 pub of-row-spec : {M : Type 1} → statement M
 of-row-spec =
@@ -55,7 +57,7 @@ of-row-spec =
     add-t13
     mul-t14
     element-copy-out-t17
-    is-bare-requires
+    lacks-any-requires
     returns
     why-not-requires
     returns-2)

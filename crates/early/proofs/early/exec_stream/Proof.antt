@@ -17,16 +17,28 @@ enum-known-code c = search needs
 returns : tie.Need-returns
 returns c =
     let f = c .before .before .before in
-    let a = f .before .before .args in
-    λ set p job attrs x o k s h e t. exec-sum set (a .motifs .now) p job attrs x o t h e
-    (rw (c .before .sum .given .1) at (f .call-of .ensures (x .held) k s (h .few)))
+    let a = f .before .before .before .args in
+    let g = f .call-of .ensures in (
+      g .0,
+      (
+        λ x k s h. g .1 .0 (x .held) k s (h .few),
+        λ set p job attrs x o k s h e t. exec-sum set (a .motifs .now) p job attrs x o t h e
+            (rw (c .before .sum .given .1) at (g .1 .1 (x .held) k s (h .few))),
+      ),
+    )
 
 returns-2 : tie.Need-returns-2
 returns-2 c =
     let f = c .before .before .before in
-    let a = f .before .before .args in
-    λ set p job attrs x o k s h e t. exec-no set (a .motifs .now) p job attrs x o t e
-    (rw (c .before .code .given .1) at (f .call-of .ensures (x .held) k s (h .few)))
+    let a = f .before .before .before .args in
+    let g = f .call-of .ensures in (
+      g .0,
+      (
+        λ x k s h. g .1 .0 (x .held) k s (h .few),
+        λ set p job attrs x o k s h e t. exec-no set (a .motifs .now) p job attrs x o t e
+            (rw (c .before .code .given .1) at (g .1 .1 (x .held) k s (h .few))),
+      ),
+    )
 
 pub exec-stream-spec : {M : Type 1} → statement M
 exec-stream-spec =

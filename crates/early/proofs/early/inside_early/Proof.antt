@@ -2,9 +2,11 @@
 -- Assumes nothing.
 use mathlib.Core.Path.{refl}
 use Rattle.patterns.specs.Numbers.{OfMotif}
-use Rattle.early.proofs.Places.{unchanged, drawn-hatched}
+use Rattle.patterns.proofs.Cells.{rows-others, same-self, rows-same}
+use Rattle.early.proofs.Places.{drawn-hatched}
 use Rattle.setting.specs.Views.{settingAs}
 use Rattle.place.proofs.Standing.{rest-phase, is-drawn}
+use Rattle.place.proofs.Hatched.{beside-own, selects-beside}
 use borrow.Author.Needs.{needs}
 use Rattle.early.proofs.early.inside_early.Statement.{statement}
 use Rattle.early.proofs.early.inside_early.Tie as tie
@@ -30,35 +32,43 @@ drawing-early-requires c κs = search needs
 returns : tie.Need-returns
 returns c =
     let a = c .before .before .before .before .before .args in (
-      unchanged _ OfMotif,
+      rows-same same-self,
       (
         refl,
-        rw (c .before .enum-told .given .1)
-            (λ x k h y s w m. c .resting-early .ensures (settingAs (a .set)) (a .patterns .now) x (k .tables .keeps) s (rw (← rest-phase y) at m)),
+        (
+          λ x k h y. h .selects,
+          rw (c .before .enum-told .given .1)
+              (λ x k h y s w m. c .resting-early .ensures (settingAs (a .set)) (a .patterns .now) x (k .tables .keeps) s (rw (← rest-phase y) at m)),
+        ),
       ),
     )
 
 returns-2 : tie.Need-returns-2
 returns-2 c =
     let b = c .before .before .before in
-    let a = b .before .before .before .before .args in (
-      c .reading-early .ensures .0,
+    let a = b .before .before .before .before .args in
+    let e = c .reading-early .ensures in (
+      rows-others OfMotif (e .0),
       (
-        c .reading-early .ensures .1 .0,
-        rw (b .busy .given .1)
-            (λ x k h y s w m. c .reading-early .ensures .1 .1 (a .job .now) (a .attrs .now) x _ _ k y w m),
+        e .1 .0,
+        (
+          λ x k h y. selects-beside (beside-own (e .0) (e .1 .0)) k (h .selects),
+          rw (b .busy .given .1) (λ x k h y s w m. e .1 .1 (a .job .now) (a .attrs .now) x _ _ k y w m),
+        ),
       ),
     )
 
 returns-3 : tie.Need-returns-3
 returns-3 c =
     let b = c .before .before in
-    let a = b .before .before .before .before .args in (
-      unchanged _ OfMotif,
+    let e = c .drawing-early .ensures in (
+      rows-same (e .0),
       (
-        refl,
-        rw (b .enum-told2 .given .1)
-            (λ x k h y s w m. c .drawing-early .ensures (a .patterns .now) x (k .tables) (h .selects) (drawn-hatched h y) s (is-drawn y) m),
+        e .0 .mark,
+        (
+          rw (b .enum-told2 .given .1) (λ x k h y. e .1 .0 x (k .tables) (h .selects) (drawn-hatched h y)),
+          rw (b .enum-told2 .given .1) (λ x k h y s w m. e .1 .1 _ x (k .tables) (h .selects) (drawn-hatched h y) s (is-drawn y) m),
+        ),
       ),
     )
 

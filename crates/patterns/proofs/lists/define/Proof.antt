@@ -69,7 +69,7 @@ returns-3 c =
     let p = c .before .before .put .ensures in
     let q = c .put2 .ensures in (
       more-noted t r (k .result) n _ _ p q h l (k .ensures .0) e,
-      (more-others t r (k .result) n _ _ p q h, more-selecting t r (k .result) n _ _ p q h (s .pre)),
+      (more-others t r (k .result) n _ _ p q h (s .pre), more-selecting t r (k .result) n _ _ p q h (s .pre)),
     )
 
 pub define-spec : {M : Type 1} → statement M

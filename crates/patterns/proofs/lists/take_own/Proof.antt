@@ -19,12 +19,12 @@ abbrev μ-loop : tie.MeasureT-loop
 element-copy-out-if1 : tie.Need-element-copy-out-if1 Inv-loop μ-loop
 element-copy-out-if1 c = search needs
 
-clear-requires : tie.Need-clear-requires Inv-loop μ-loop
-clear-requires c κs = search needs
+empty-requires : tie.Need-empty-requires Inv-loop μ-loop
+empty-requires c κs = search needs
 
 returns : tie.Need-returns Inv-loop μ-loop
 returns c =
-    let e = c .clear .ensures in
+    let e = c .empty .ensures in
     (e .0 ∙ sym (in-none (c .before .before .before .before .args .own .now) 0 (c .before .before .if1 .taken)), e .1)
 
 loop-holds : tie.Need-loop-holds Inv-loop μ-loop
@@ -64,7 +64,7 @@ returns-2 c =
     let l = c .before .loop in
     let e : l .i ≡ 66 = omega arith in
     let w = rw e at (l .inv .1) in
-    (copied-row 0 OfMotif w, (copied-others 0 OfMotif w, copied-selecting 0 OfMotif w (omega arith)))
+    (copied-row 0 OfMotif w, (copied-others 0 OfMotif w (omega arith), copied-selecting 0 OfMotif w (omega arith)))
 
 pub take-own-spec : {M : Type 1} → statement M
 take-own-spec =
@@ -73,7 +73,7 @@ take-own-spec =
     Inv-loop
     μ-loop
     element-copy-out-if1
-    clear-requires
+    empty-requires
     returns
     loop-holds
     mul-put

@@ -31,7 +31,7 @@ loop-holds : tie.Need-loop-holds Inv-loop μ-loop
 loop-holds c =
     let st = c .before .before .before in
     let a = st .args in
-    (refl, refl, refl, st .pre .2, omega arith, refl, (scope.starting (a .next), (starts (settingAs (a .set)) (a .job .now) (a .list .now) _ _ (a .next) refl (outside-holds (quiet-zeros 4423)) refl refl refl refl, refl)))
+    (refl, refl, refl, st .pre .2, omega arith, refl, (scope.starting (a .next), (starts (settingAs (a .set)) (a .job .now) (a .list .now) _ _ (a .next) refl (outside-holds (quiet-zeros 4487)) refl refl refl refl, refl)))
 
 run-on-requires : tie.Need-run-on-requires Inv-loop μ-loop
 run-on-requires c κs = search needs

@@ -53,8 +53,8 @@ returns c =
             let o = operatorAs (a .o) (a .attrs .now) in
             let set : Setting = settingAs (a .set) in
             let m = read-may (contextOf every (settingAs (a .set)) (d .place)) (a .job .now) (d .at) o q in
-            let k = stands-kept (e .early-of .ensures .0) (e .early-of .ensures .1 .0) h in
-            let r = e .early-of .ensures .1 .1 (d .place) d (h .place) z (st .pre .1) m in
+            let k = stands-kept (e .early-of .ensures .1 .1 .0) h in
+            let r = e .early-of .ensures .1 .1 .1 (d .place) d (h .place) z (st .pre .1) m in
             let n = rw (c .before .before .before .code .given .1) at (j .judge .ensures (d .place) d _ _ (k .place) z (h .performed) m r) in
             stopped (c .stop .result) (onRead every set (a .job .now) (length list₀) d (operator o)) _ (a .o .at) (innerOf (e .early-of .result)) (h .listed)
             (step-refused set (a .job .now) (length list₀) d o _ _ (judged-refused n (length list₀)))
@@ -82,8 +82,8 @@ returns-2 c =
         λ d list₀ l z w h q.
             let o = operatorAs (a .o) (a .attrs .now) in
             let m = read-may (contextOf every (settingAs (a .set)) (d .place)) (a .job .now) (d .at) o q in
-            let k = stands-kept (e .early-of .ensures .0) (e .early-of .ensures .1 .0) h in
-            let r = e .early-of .ensures .1 .1 (d .place) d (h .place) z (st .pre .1) m in
+            let k = stands-kept (e .early-of .ensures .1 .1 .0) h in
+            let r = e .early-of .ensures .1 .1 .1 (d .place) d (h .place) z (st .pre .1) m in
             let n = rw (g .before .before .before .before .before .before .page .given .1) at (j .judge .ensures (d .place) d _ _ (k .place) z (h .performed) m r) in
             g .go-on .ensures .1 .1 d list₀ l z w k
             (record { read = q; passes = judged-passes (e .early-of .result) n r; earlier = r; drawn = judged-page n; counts = judged-count n; rules = judged-rules n (length list₀) }),

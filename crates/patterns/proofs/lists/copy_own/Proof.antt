@@ -1,4 +1,4 @@
--- `keep`: a row without numbers, or the first k cells are copied; the mark is no cell of a row.
+-- `copy_own`: a row without numbers, or the first k cells are copied; the mark is no cell of a row.
 -- Assumes nothing.
 use Prim.Native.Nat.{_+_, _-_, _*_, _≤_, _<_}
 use mathlib.Core.Path.{_≡_, sym, _∙_}
@@ -7,8 +7,8 @@ use native.Mathlib.Omega.{arith}
 use Rattle.patterns.specs.Numbers.{OfMotif}
 use Rattle.patterns.proofs.Cells.{Copied, copied-none, copied-more, in-none, rows-others, quiet-cleared, row-marked, others-marked, quiet-marked}
 use borrow.Author.Needs.{needs}
-use Rattle.patterns.proofs.lists.keep.Statement.{statement}
-use Rattle.patterns.proofs.lists.keep.Tie as tie
+use Rattle.patterns.proofs.lists.copy_own.Statement.{statement}
+use Rattle.patterns.proofs.lists.copy_own.Tie as tie
 
 abbrev Inv-loop : tie.InvT-loop
 Inv-loop patterns₀ row k₀ patterns k = (k ≤ 66) × Copied patterns₀ 4356 patterns₀ (row * 66) k patterns
@@ -25,13 +25,13 @@ mul-if1-2 c = search needs
 element-copy-out-if1 : tie.Need-element-copy-out-if1 Inv-loop μ-loop
 element-copy-out-if1 c = search needs
 
-clear-requires : tie.Need-clear-requires Inv-loop μ-loop
-clear-requires c κs = search needs
+empty-requires : tie.Need-empty-requires Inv-loop μ-loop
+empty-requires c κs = search needs
 
 returns : tie.Need-returns Inv-loop μ-loop
 returns c =
     let a = c .before .before .before .before .args in
-    let e = c .clear .ensures in
+    let e = c .empty .ensures in
     let o = e .1 .0 in
     (e .0 ∙ sym (in-none (a .patterns .now) OfMotif (c .before .before .if1 .taken)), (rows-others (a .row) o, quiet-cleared (a .row) o (e .0) (e .1 .1)))
 
@@ -87,8 +87,8 @@ returns-2 c =
     let w = rw e at (l .inv .1) in
     rw (c .put2 .ensures) (row-marked r (s .pre) w _, (others-marked r (s .pre) w _, λ q. quiet-marked r (s .pre) w h _ (omega arith)))
 
-pub keep-spec : {M : Type 1} → statement M
-keep-spec =
+pub copy-own-spec : {M : Type 1} → statement M
+copy-own-spec =
     tie.close
     (tie.spec
     Inv-loop
@@ -96,7 +96,7 @@ keep-spec =
     mul-if1
     mul-if1-2
     element-copy-out-if1
-    clear-requires
+    empty-requires
     returns
     loop-holds
     mul-n
