@@ -138,12 +138,12 @@ selects-alone : (set : Setting) (s : List ℕ) (at : ℕ) {tag : ℕ} {q q₁ : 
 unfolding actOf selectOf
 selects-alone set s at a = each-tag (λ t. actOf set s (alone t at) .select ≡ no-pattern) refl refl refl refl refl a
 
-pub judged-alone : (set : Setting) (s : List ℕ) (st : State) (x : Session) {tag : ℕ} {q q₁ : Page} {p : Code.Page} → Alone tag q q₁ → PageHolds p q₁ → st .performed < 1_000_000
-    → q ≡ pageOf (x .busy) → Judgement (caseOf set s st x (alone tag (st .at))) outer (To p (st .performed + 1))
-judged-alone set s st x {tag} {p = p} a h k e =
-    plain-judged set s st x (alone tag (st .at)) (x .opened) (st .performed) (To p (st .performed + 1)) refl refl (unbroken-alone set s st x (st .at) a) (no-call a)
-    false (selects-none set s st x (alone tag (st .at)) (no-call a) (selects-alone set s (st .at) a))
-    (rw e at (moves-alone set (x .opened) s (st .at) (st .performed) a h k))
+pub judged-alone : (set : Setting) (s : List ℕ) (st : State) (x : Session) (at : ℕ) {tag : ℕ} {q q₁ : Page} {p : Code.Page} → Alone tag q q₁ → PageHolds p q₁ → st .performed < 1_000_000
+    → q ≡ pageOf (x .busy) → Judgement (caseOf set s st x (alone tag at)) outer (To p (st .performed + 1))
+judged-alone set s st x at {tag} {p = p} a h k e =
+    plain-judged set s st x (alone tag at) (x .opened) (st .performed) (To p (st .performed + 1)) refl refl (unbroken-alone set s st x at a) (no-call a)
+    false (selects-none set s st x (alone tag at) (no-call a) (selects-alone set s at a))
+    (rw e at (moves-alone set (x .opened) s at (st .performed) a h k))
 
 -- the session stays in the page, with nothing open
 pub place-alone : (set : Setting) (s : List ℕ) (at : ℕ) (u : Unmoved) (opened : Bool) (p : Page) {tag : ℕ} {q q₁ : Page} → Alone tag q q₁

@@ -70,12 +70,12 @@ selects-line : (set : Setting) (s : List ℕ) (point at op : ℕ) {tag : ℕ} �
 unfolding actOf selectOf
 selects-line set s point at op d = each-line (λ t. actOf set s (lineOf point t at op) .select ≡ no-pattern) refl refl d
 
-pub judged-line : (set : Setting) (s : List ℕ) (st : State) (x : Session) (point op : ℕ) {tag : ℕ} {q : Page} {p : Code.Page} → Drawn tag → PageHolds p q → p .cursor ≡ true → st .performed < 1_000_000
-    → q ≡ pageOf (x .busy) → Judgement (caseOf set s st x (lineOf point tag (st .at) op)) outer (To p (st .performed + 1))
-judged-line set s st x point op {tag} {q} {p} d h c k e =
-    plain-judged set s st x (lineOf point tag (st .at) op) (x .opened) (st .performed) (To p (st .performed + 1)) refl refl (unbroken-line set s st x point (st .at) op d)
-    (line-no-call d) false (selects-none set s st x (lineOf point tag (st .at) op) (line-no-call d) (selects-line set s point (st .at) op d))
-    (rw e at (moves-line set (x .opened) s point (st .at) op (st .performed) q d h c k))
+pub judged-line : (set : Setting) (s : List ℕ) (st : State) (x : Session) (point at op : ℕ) {tag : ℕ} {q : Page} {p : Code.Page} → Drawn tag → PageHolds p q → p .cursor ≡ true → st .performed < 1_000_000
+    → q ≡ pageOf (x .busy) → Judgement (caseOf set s st x (lineOf point tag at op)) outer (To p (st .performed + 1))
+judged-line set s st x point at op {tag} {q} {p} d h c k e =
+    plain-judged set s st x (lineOf point tag at op) (x .opened) (st .performed) (To p (st .performed + 1)) refl refl (unbroken-line set s st x point at op d)
+    (line-no-call d) false (selects-none set s st x (lineOf point tag at op) (line-no-call d) (selects-line set s point at op d))
+    (rw e at (moves-line set (x .opened) s point at op (st .performed) q d h c k))
 
 -- the session stays in the page, with nothing open
 pub place-line : (set : Setting) (s : List ℕ) (point at op : ℕ) (u : Unmoved) (opened : Bool) (p q : Page) {tag : ℕ} → Drawn tag

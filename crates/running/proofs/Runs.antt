@@ -8,7 +8,8 @@ use native.Mathlib.Omega.{arith}
 use native.Mathlib.Numerals.{add-one}
 use lib.ListN.{length, getD}
 use lib.Dec.{leb}
-use Rattle.scope.specs.Reading.{Operator, Read, operatorAt}
+use Rattle.scope.specs.Item.{after}
+use Rattle.scope.specs.Reading.{Context, Operator, Read, operatorAt}
 use Rattle.scope.specs.Arm.{Page}
 use Rattle.scope.specs.Motif.{Picture}
 use Rattle.scope.specs.Setting.{Setting}
@@ -16,6 +17,8 @@ use Rattle.scope.specs.Session.{Session, Busy, Place, drawing, inside, phaseDra
 use Rattle.scope.specs.Judge as scope
 use Rattle.scope.specs.Judge.{contextOf, caseOf, judgedFrom, outer}
 use Rattle.scope.specs.Verdict.{every}
+use Rattle.scope.proofs.White.{read-after}
+use Rattle.scope.proofs.ExchangeEdges.{after-again}
 use Rattle.arm.specs.Alone.{Leaves, leaves-to}
 use Rattle.arm.specs.Holds.{PageHolds}
 use Rattle.arm.specs.declared.page.Page as Code
@@ -137,53 +140,57 @@ module _ (job list₀ table patterns work list list₁ : List ℕ) (set : Settin
         subst (λ x. Stands set job list₀ l (inSession opened kept r) x → Reaches job list₀ table patterns work list₁ set (inSession opened kept t) x) e
         (from-place (i .unmoved) (d .past) (i .page) (passes (i .unmoved) (d .past) (i .page) (i .holds)) (i .keeps)) s
 
--- an operator that is its tag alone
-module _ (job list₀ table patterns work list list₁ : List ℕ) (set : Setting) (opened : Bool) (kept : Kept) (r : Run) (p : Code.Page) (tag : ℕ) where
-  abbrev after-alone : Run
-  after-alone = record { at = r .at + 1; page = p; performed = r .performed + 1; records = r .records + 1 }
+-- white space before an operator plays no part in how it is read
+read-behind : (c : Context) (s : List ℕ) (from at : ℕ) → at ≡ after s from → operatorAt c s from ≡ operatorAt c s at
+read-behind c s from at e = read-after c s from at (after-again s from ∙ ap (after s) (sym e))
 
-  passes-alone : r .at < length job → getD job (r .at) 0 ≡ tag → r .performed < 1_000_000 → (u : Unmoved) (past : List Operator) (q : Page) → Leaves tag q (passed-is.To p)
-      → Passes job list₀ table patterns work list list₁ set opened kept r after-alone (alone tag (r .at)) u past q
+-- an operator that is its tag alone, which stands at `at`
+module _ (job list₀ table patterns work list list₁ : List ℕ) (set : Setting) (opened : Bool) (kept : Kept) (r : Run) (at : ℕ) (p : Code.Page) (tag : ℕ) where
+  abbrev after-alone : Run
+  after-alone = record { at = at + 1; page = p; performed = r .performed + 1; records = r .records + 1 }
+
+  passes-alone : at ≡ after job (r .at) → at < length job → getD job at 0 ≡ tag → r .performed < 1_000_000 → (u : Unmoved) (past : List Operator) (q : Page) → Leaves tag q (passed-is.To p)
+      → Passes job list₀ table patterns work list list₁ set opened kept r after-alone (alone tag at) u past q
   unfolding contextOf phaseOf phaseBusy phaseDrawing
-  passes-alone h byte few u past q (leaves-to a k) =
+  passes-alone white h byte few u past q (leaves-to a k) =
       record {
-        read = read-alone set opened job (r .at) a h byte;
+        read = read-behind (contextOf every set (drawn-on u opened q)) job (r .at) at white ∙ read-alone set opened job at a h byte;
         judged = judged-alone set job (record { at = r .at; place = drawn-on u opened q; performed = r .performed; records = r .records; past = past })
-            (drawing-on u opened q) a k few refl;
-        stays = λ z. place-alone set job (r .at) u opened z a;
+            (drawing-on u opened q) at a k few refl;
+        stays = λ z. place-alone set job at u opened z a;
       }
 
-  pub one-alone : r .at < length job → getD job (r .at) 0 ≡ tag → r .performed < 1_000_000 → length list₀ ≡ length list
-      → true ≡ leb ((r .records + 1) * 16) (length list) → list₁ ≡ over list (r .records * 16) (recordsFor tag (r .at) 0 0 [])
+  pub one-alone : at ≡ after job (r .at) → at < length job → getD job at 0 ≡ tag → r .performed < 1_000_000 → length list₀ ≡ length list
+      → true ≡ leb ((r .records + 1) * 16) (length list) → list₁ ≡ over list (r .records * 16) (recordsFor tag at 0 0 [])
       → ((q : Page) → PageHolds (r .page) q → Leaves tag q (passed-is.To p))
       → (d : scope.State) → Stands set job list₀ (record { table = table; patterns = patterns; work = work; list = list }) (inSession opened kept r) d
       → Reaches job list₀ table patterns work list₁ set (inSession opened kept after-alone) d
-  one-alone h byte few same room listed leaves =
-      one-more job list₀ table patterns work list list₁ set opened kept r after-alone (alone tag (r .at)) 0 refl same (add-one (r .at)) (omega arith) room listed
-      (λ u past q k. passes-alone h byte few u past q (leaves q k))
+  one-alone white h byte few same room listed leaves =
+      one-more job list₀ table patterns work list list₁ set opened kept r after-alone (alone tag at) 0 refl same (add-one at) (omega arith) room listed
+      (λ u past q k. passes-alone white h byte few u past q (leaves q k))
 
--- a line by its end point
-module _ (job list₀ table patterns work list list₁ : List ℕ) (set : Setting) (opened : Bool) (kept : Kept) (r : Run) (op : ℕ) where
+-- a line by its end point, from `at` on
+module _ (job list₀ table patterns work list list₁ : List ℕ) (set : Setting) (opened : Bool) (kept : Kept) (r : Run) (at op : ℕ) where
   abbrev after-line : Run
   after-line = record { at = op + 1; page = r .page; performed = r .performed + 1; records = r .records + 2 }
 
   abbrev line : Operator
-  line = lineOf (getD job (r .at) 0) (getD job op 0) (r .at) op
+  line = lineOf (getD job at 0) (getD job op 0) at op
 
-  passes-line : Line (set .high) job (r .at) op → r .performed < 1_000_000 → r .page .cursor ≡ true → (u : Unmoved) (past : List Operator) (q : Page) → PageHolds (r .page) q
+  passes-line : at ≡ after job (r .at) → Line (set .high) job at op → r .performed < 1_000_000 → r .page .cursor ≡ true → (u : Unmoved) (past : List Operator) (q : Page) → PageHolds (r .page) q
       → Passes job list₀ table patterns work list list₁ set opened kept r after-line line u past q
   unfolding contextOf phaseOf phaseBusy phaseDrawing
-  passes-line h few cursor u past q k =
+  passes-line white h few cursor u past q k =
       record {
-        read = read-line set opened (length (q .saved)) job (r .at) op h;
+        read = read-behind (contextOf every set (drawn-on u opened q)) job (r .at) at white ∙ read-line set opened (length (q .saved)) job at op h;
         judged = judged-line set job (record { at = r .at; place = drawn-on u opened q; performed = r .performed; records = r .records; past = past })
-            (drawing-on u opened q) (getD job (r .at) 0) op (line-drawn h) k cursor few refl;
-        stays = λ z. place-line set job (getD job (r .at) 0) (r .at) op u opened z q (line-drawn h);
+            (drawing-on u opened q) (getD job at 0) at op (line-drawn h) k cursor few refl;
+        stays = λ z. place-line set job (getD job at 0) at op u opened z q (line-drawn h);
       }
 
-  pub one-line : Line (set .high) job (r .at) op → r .performed < 1_000_000 → r .page .cursor ≡ true → length list₀ ≡ length list
+  pub one-line : at ≡ after job (r .at) → Line (set .high) job at op → r .performed < 1_000_000 → r .page .cursor ≡ true → length list₀ ≡ length list
       → true ≡ leb ((r .records + 2) * 16) (length list) → list₁ ≡ over list (r .records * 16) (recordsFor (getD job op 0) op 0 0 (line .attrs))
       → (d : scope.State) → Stands set job list₀ (record { table = table; patterns = patterns; work = work; list = list }) (inSession opened kept r) d
       → Reaches job list₀ table patterns work list₁ set (inSession opened kept after-line) d
-  one-line h few cursor same room listed =
-      one-more job list₀ table patterns work list list₁ set opened kept r after-line line 1 refl same (add-one op) (omega arith) room listed (passes-line h few cursor)
+  one-line white h few cursor same room listed =
+      one-more job list₀ table patterns work list list₁ set opened kept r after-line line 1 refl same (add-one op) (omega arith) room listed (passes-line white h few cursor)

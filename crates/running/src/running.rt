@@ -1,9 +1,10 @@
 // Operators that are their tag alone, and lines by their end point, in a page with no image and no pattern open: a run of them is judged in one small loop,
-// as far as nothing could refuse them.
+// as far as nothing could refuse them. White space may stand between them, and is passed with the operator behind it.
 ghost use mathlib.Core.Path.{_≡_};
 ghost use mathlib.Core.Bool.{Bool};
 ghost use Prim.Native.Nat.{_<_};
 ghost use lib.ListN.{length};
+ghost use Rattle.scope.specs.Item.{after};
 ghost use Rattle.order.specs.declared.picture.Picture.the-variants.{Nothing};
 ghost use Rattle.place.specs.declared.place.Busy.the-variants.{Drawing};
 ghost use Rattle.place.specs.declared.place.Place.the-variants.{Inside};
@@ -33,14 +34,24 @@ pub enum Pass {
     No,
 }
 
-// The next operator of a run, where it is its tag alone.
-fn pass_alone(job: &[u8], list: &mut [u8], from: Run) -> Pass
-    requires { ⌜ (from .at < length (now job)) × (from .performed < 1_000_000) ⌝ }
+// Where the next item stands: most often right here, as a byte from 0x41 on is not white, else behind white space.
+fn item_at(job: &[u8], at: usize) -> usize
+    requires { ⌜ at < length (now job) ⌝ }
+    ensures { λ r. ⌜ r ≡ after (now (job .entry)) at ⌝ }
+{
+    if 0x41 <= job[at] {
+        return at;
+    }
+    number::after_white(job, at)
+}
+
+// The next operator of a run, where it is its tag alone and stands at `at`.
+fn pass_alone(job: &[u8], list: &mut [u8], from: Run, at: usize) -> Pass
+    requires { ⌜ (at ≡ after (now job) (from .at)) × (at < length (now job)) × (from .performed < 1_000_000) ⌝ }
     ensures { λ r. ⌜ Further (length (now (job .entry))) from r ⌝ }
     ensures { λ r. ⌜ ((high opened : Bool) (kept : Kept)
         → Runs (now (job .entry)) high (now (list .entry)) (now (list .exit)) (inSession opened kept from) (inSession opened kept (standing from r))) ⌝ }
 {
-    let at = from.at;
     let page = from.page;
     let performed = from.performed;
     let records = from.records;
@@ -61,14 +72,13 @@ fn pass_alone(job: &[u8], list: &mut [u8], from: Run) -> Pass
     }
 }
 
-// The next operator of a run, where it is a line by its end point and the cursor is set.
-fn pass_line(job: &[u8], high: bool, list: &mut [u8], from: Run) -> Pass
-    requires { ⌜ (from .at < length (now job)) × (from .performed < 1_000_000) ⌝ }
+// The next operator of a run, where it is a line by its end point, from `at` on, and the cursor is set.
+fn pass_line(job: &[u8], high: bool, list: &mut [u8], from: Run, at: usize) -> Pass
+    requires { ⌜ (at ≡ after (now job) (from .at)) × (at < length (now job)) × (from .performed < 1_000_000) ⌝ }
     ensures { λ r. ⌜ Further (length (now (job .entry))) from r ⌝ }
     ensures { λ r. ⌜ ((opened : Bool) (kept : Kept)
         → Runs (now (job .entry)) high (now (list .entry)) (now (list .exit)) (inSession opened kept from) (inSession opened kept (standing from r))) ⌝ }
 {
-    let at = from.at;
     let page = from.page;
     let performed = from.performed;
     let records = from.records;
@@ -102,23 +112,26 @@ fn pass_line(job: &[u8], high: bool, list: &mut [u8], from: Run) -> Pass
     })
 }
 
-// The next operator of a run: a tag below 0xc0 is an operator's, any other a value's.
+// The next operator of a run, behind white space if there is any: a tag below 0xc0 is an operator's, any other a value's.
 fn pass_one(job: &[u8], high: bool, list: &mut [u8], from: Run) -> Pass
     ensures { λ r. ⌜ Further (length (now (job .entry))) from r ⌝ }
     ensures { λ r. ⌜ ((opened : Bool) (kept : Kept)
         → Runs (now (job .entry)) high (now (list .entry)) (now (list .exit)) (inSession opened kept from) (inSession opened kept (standing from r))) ⌝ }
 {
-    let at = from.at;
-    if job.len() <= at {
+    if job.len() <= from.at {
         return Pass::No;
     }
     if PERFORMED_MOST <= from.performed {
         return Pass::No;
     }
+    let at = item_at(job, from.at);
+    if job.len() <= at {
+        return Pass::No;
+    }
     if job[at] < 0xc0 {
-        pass_alone(job, list, from)
+        pass_alone(job, list, from, at)
     } else {
-        pass_line(job, high, list, from)
+        pass_line(job, high, list, from, at)
     }
 }
 

@@ -6,6 +6,7 @@ use mathlib.Core.Bool.{true, false}
 use native.Mathlib.Omega.{arith}
 use borrow.Author.Tests.{leb-true, not-true, not-false}
 use lib.ListN.{length}
+use Rattle.scope.proofs.Ends.{after-le}
 use Rattle.running.proofs.Runs.{runs-none, runs-still, one-alone}
 use borrow.Author.Needs.{needs}
 use Rattle.running.proofs.running.pass_alone.Statement.{statement}
@@ -63,7 +64,9 @@ returns-3 c =
     let k = c .before .before .before in
     let n = k .before .before .before in
     let s = n .before .before in
-    let a = s .before .before .before .before .before .args in
+    let b = s .before .before .before .before .before in
+    let a = b .args in
+    let w = after-le true (a .job .now) (a .from .at) in
     let f : k .list-alone .result ≡ true = not-false _ (c .if1 .left) in (
       (omega arith, omega arith),
       λ high opened kept.
@@ -73,7 +76,7 @@ returns-3 c =
             within = λ h. omega arith;
             counted = omega arith;
             leads = λ list₀ table patterns work set d order e h.
-                one-alone (a .job .now) list₀ table patterns work (a .list .now) (k .list-alone .last .0) set opened kept (a .from) (n .next .given .0 .0) _ (omega arith) refl (omega arith) e
+                one-alone (a .job .now) list₀ table patterns work (a .list .now) (k .list-alone .last .0) set opened kept (a .from) (a .at) (n .next .given .0 .0) _ (b .pre .0) (omega arith) refl (omega arith) e
                 (sym f ∙ k .list-alone .ensures .0) (rw f at (k .list-alone .ensures .1)) (rw (n .next .given .1) at (s .past .ensures)) d h;
           },
     )

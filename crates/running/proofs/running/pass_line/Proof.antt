@@ -7,6 +7,7 @@ use native.Mathlib.Omega.{arith}
 use borrow.Author.Tests.{leb-true, not-true, not-false}
 use lib.ListN.{length}
 use Rattle.reader.specs.EndPoint.{Line}
+use Rattle.scope.proofs.Ends.{after-le}
 use Rattle.running.proofs.Runs.{runs-still, one-line}
 use borrow.Author.Needs.{needs}
 use Rattle.running.proofs.running.pass_line.Statement.{statement}
@@ -15,7 +16,7 @@ use Rattle.running.proofs.running.pass_line.Tie as tie
 -- there is a line up to the operator that was found
 found : (c : tie.After-op)
     → let a = c .before .before .before .before .before .before .before .before .args in
-    Line (a .high) (a .job .now) (a .from .at) (c .op .given .0 .0)
+    Line (a .high) (a .job .now) (a .at) (c .op .given .0 .0)
 found c = rw (c .op .given .1) at (c .before .before .line-to .ensures .1)
 
 -- and it stands within the job, three bytes on at least
@@ -24,6 +25,8 @@ within : (c : tie.After-op)
     let op = c .op .given .0 .0 in
     (a .from .at + 2 < op) × (op < length (a .job .now))
 within c =
+    let a = c .before .before .before .before .before .before .before .before .args in
+    let f = after-le true (a .job .now) (a .from .at) in
     let l = found c in
     let i = l .is in
     let w = l .some in
@@ -91,7 +94,8 @@ returns-4 c =
     let k = c .before .before .before in
     let o = k .before .before .before .before .before in
     let m = o .before .before in
-    let a = m .before .before .before .before .before .before .args in
+    let b = m .before .before .before .before .before .before in
+    let a = b .args in
     let f : k .list-one .result ≡ true = not-false _ (c .if2 .left) in
     let w = within o in (
       (omega arith, omega arith),
@@ -102,7 +106,7 @@ returns-4 c =
             within = λ h. omega arith;
             counted = omega arith;
             leads = λ list₀ table patterns work set d order e h.
-                one-line (a .job .now) list₀ table patterns work (a .list .now) (k .list-one .last .0) set opened kept (a .from) (o .op .given .0 .0) (rw (sym order) at (found o)) (omega arith)
+                one-line (a .job .now) list₀ table patterns work (a .list .now) (k .list-one .last .0) set opened kept (a .from) (a .at) (o .op .given .0 .0) (b .pre .0) (rw (sym order) at (found o)) (omega arith)
                 (not-false _ (m .before .if1 .left)) e (sym f ∙ k .list-one .ensures .0) (rw f at (k .list-one .ensures .1)) d h;
           },
     )

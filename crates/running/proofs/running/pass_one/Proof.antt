@@ -1,4 +1,4 @@
--- `pass_one`: the end, the limit, an operator, or a line; an operator that is its tag alone is the same in either byte order.
+-- `pass_one`: the end, the limit, white space up to the end, an operator, or a line; an operator that is its tag alone is the same in either byte order.
 -- Assumes nothing.
 use borrow.Author.Needs.{needs}
 use Rattle.running.proofs.running.pass_one.Statement.{statement}
@@ -10,8 +10,14 @@ returns c = search needs
 returns-2 : tie.Need-returns-2
 returns-2 c = search needs
 
-shared-slice-read-if3 : tie.Need-shared-slice-read-if3
-shared-slice-read-if3 c = search needs
+item-at-requires : tie.Need-item-at-requires
+item-at-requires c κs = search needs
+
+returns-3 : tie.Need-returns-3
+returns-3 c = search needs
+
+shared-slice-read-if4 : tie.Need-shared-slice-read-if4
+shared-slice-read-if4 c = search needs
 
 pass-alone-requires : tie.Need-pass-alone-requires
 pass-alone-requires c κs = search needs
@@ -22,16 +28,16 @@ pass-line-requires c κs = search needs
 same-length : tie.Need-same-length
 same-length c = search needs
 
-returns-3 : tie.Need-returns-3
-returns-3 c =
+returns-4 : tie.Need-returns-4
+returns-4 c =
     let p = c .before .before in
-    (p .pass-alone .ensures .0, p .pass-alone .ensures .1 (p .before .before .before .before .before .before .before .before .before .args .high))
+    (p .pass-alone .ensures .0, p .pass-alone .ensures .1 (p .before .before .before .before .before .before .before .before .before .before .before .before .args .high))
 
 same-length-2 : tie.Need-same-length-2
 same-length-2 c = search needs
 
-returns-4 : tie.Need-returns-4
-returns-4 c = search needs
+returns-5 : tie.Need-returns-5
+returns-5 c = search needs
 
 pub pass-one-spec : {M : Type 1} → statement M
 pass-one-spec =
@@ -39,10 +45,12 @@ pass-one-spec =
     (tie.spec
     returns
     returns-2
-    shared-slice-read-if3
+    item-at-requires
+    returns-3
+    shared-slice-read-if4
     pass-alone-requires
     pass-line-requires
     same-length
-    returns-3
+    returns-4
     same-length-2
-    returns-4)
+    returns-5)
