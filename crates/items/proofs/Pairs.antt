@@ -11,7 +11,8 @@ use lib.Dec.{leb}
 use Rattle.scope.specs.Choice.{between}
 use Rattle.scope.specs.Iterate.{onward}
 use Rattle.scope.specs.Item.{Attribute, Kind, plain, array, other, kindOf, Value, numbersAt, valueOf, Pair, numbered, numberAt, pairOf, pairAt, Scan, white, after, endedWith, onPair, scanItem, scanStep, scanFrom}
-use Rattle.scope.proofs.Ends.{GoodPair, pair-good}
+use Rattle.scope.proofs.Ends.{GoodPair, pair-good, after-le}
+use Rattle.scope.proofs.ExchangeEdges.{after-again}
 use Rattle.scope.proofs.Falls.{scan-step}
 use Rattle.items.specs.Rows.{rowsOf, withPair}
 use Rattle.items.specs.Values.{answerTo}
@@ -43,6 +44,18 @@ mark-next high s at count first p e =
     let h = mark-within s p e in
     let black : white (getD s p 0) ≡ false = rw e refl in
     rw (after-black s p h black, lt-leb (length s) p h, e)
+
+-- behind white space stands nothing white
+pub black-after : (s : List ℕ) (at p : ℕ) → p ≡ after s at → p < length s → white (getD s p 0) ≡ false
+black-after s at p e h = by (white (getD s p 0)) refl
+  where
+    by : (t : Bool) → white (getD s p 0) ≡ t → t ≡ false
+    by false w = refl
+    by true w =
+        let f : after s at ≡ after s p = after-again s at ∙ ap (after s) (sym e) in
+        let g = after-white s p h w in
+        let k = after-le true s (p + 1) in
+        absurd (omega arith)
 
 -- a value that was refused
 data Refused : Value → Type 0 where
@@ -98,14 +111,13 @@ module _ (high : Bool) (s : List ℕ) where
   on-pair at a n z Pair.waits h = refl
 
   module _ (at : ℕ) (l : List Attribute) where
-    -- a white byte is passed
-    pub scan-white : at < length s → white (getD s at 0) ≡ true
-        → scanFrom high s (record { at = at; attrs = l }) ≡ scanFrom high s (record { at = at + 1; attrs = l })
+    -- white space is passed
+    pub scan-after : scanFrom high s (record { at = at; attrs = l }) ≡ scanFrom high s (record { at = after s at; attrs = l })
     unfolding scanStep
-    scan-white h e =
+    scan-after =
         scan-step high s (record { at = at; attrs = l })
-        ∙ ap (λ (p : ℕ). onward (scanFrom high s) (scanItem high s l p)) (after-white s at h e)
-        ∙ sym (scan-step high s (record { at = at + 1; attrs = l }))
+        ∙ ap (λ (p : ℕ). onward (scanFrom high s) (scanItem high s l p)) (after-again s at)
+        ∙ sym (scan-step high s (record { at = after s at; attrs = l }))
 
     pub scan-end : length s ≤ at → scanFrom high s (record { at = at; attrs = l }) ≡ endedWith s l
     unfolding scanStep scanItem

@@ -15,8 +15,11 @@ Inv-loop s at p₀ p = after s p ≡ after s at
 abbrev μ-loop : tie.MeasureT-loop
 μ-loop s at p₀ p = length s - p
 
+after-fours-requires : tie.Need-after-fours-requires Inv-loop μ-loop
+after-fours-requires c κs = search needs
+
 loop-holds : tie.Need-loop-holds Inv-loop μ-loop
-loop-holds c = search needs
+loop-holds c = c .after-fours .ensures
 
 shared-slice-read-is-white : tie.Need-shared-slice-read-is-white Inv-loop μ-loop
 shared-slice-read-is-white c = search needs
@@ -27,7 +30,7 @@ is-white-requires c κs = search needs
 returns : tie.Need-returns Inv-loop μ-loop
 returns c =
     let e = c .before .before .before .before in
-    sym (after-black (e .before .before .args .s .now) (e .loop .p) (c .before .before .before .loop-test .taken) (sym (c .before .is-white .ensures) ∙ not-true _ (c .if1 .taken))) ∙ e .loop .inv
+    sym (after-black (e .before .before .before .args .s .now) (e .loop .p) (c .before .before .before .loop-test .taken) (sym (c .before .is-white .ensures) ∙ not-true _ (c .if1 .taken))) ∙ e .loop .inv
 
 add-p : tie.Need-add-p Inv-loop μ-loop
 add-p c = search needs
@@ -38,7 +41,7 @@ loop-less c = search needs
 loop-again : tie.Need-loop-again Inv-loop μ-loop
 loop-again c =
     let e = c .before .before .before .before in
-    sym (after-white (e .before .before .args .s .now) (e .loop .p) (c .before .before .before .loop-test .taken) (sym (c .before .is-white .ensures) ∙ not-false _ (c .if1 .left))) ∙ e .loop .inv
+    sym (after-white (e .before .before .before .args .s .now) (e .loop .p) (c .before .before .before .loop-test .taken) (sym (c .before .is-white .ensures) ∙ not-false _ (c .if1 .left))) ∙ e .loop .inv
 
 returns-2 : tie.Need-returns-2 Inv-loop μ-loop
 returns-2 c = sym (after-end _ (c .before .loop .p) (c .loop-test .left)) ∙ c .before .loop .inv
@@ -49,6 +52,7 @@ after-white-spec =
     (tie.spec
     Inv-loop
     μ-loop
+    after-fours-requires
     loop-holds
     shared-slice-read-is-white
     is-white-requires
