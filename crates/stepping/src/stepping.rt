@@ -22,6 +22,7 @@ use after::Passed;
 use arm::moved::Moved;
 use names::limits::JOB_MOST;
 use names::limits::WORK_LEAST;
+use opening::open_on;
 use place::Place;
 use reader::Context;
 use reader::Operator;
@@ -203,24 +204,21 @@ fn advance(
     }
 }
 
-// The items of a job that is not too long, with a work buffer that is long enough, from the first one on.
-fn items_from(job: &[u8], set: Setting, next: usize, work: &mut [u8], list: &mut [u8]) -> Verdict
-    requires { ⌜ (length (now job) ≤ 61440) × (16384 ≤ length (now work)) × (next ≤ length (now job)) ⌝ }
+// The items of a job from where it stands, while it holds no motif and no pattern is defined: the tables of both are made here.
+fn with_tables(job: &[u8], set: Setting, work: &mut [u8], list: &mut [u8], from: State) -> Verdict
+    requires { ⌜ (length (now job) ≤ 61440) × (16384 ≤ length (now work)) × (from .at ≤ length (now job)) × (from .records ≤ from .at * 17) ⌝ }
     ensures { λ _. ⌜ Lasts (now (work .entry)) (now (list .entry)) (now (work .exit)) (now (list .exit)) ⌝ }
-    ensures { λ r. ⌜ (verdictAs r ≡ verdict.told (judgedFrom every (settingAs set) (now (job .entry)) (length (now (list .entry))) (scope.starting next)))
-        × Listed (now (list .entry)) (judgedFrom every (settingAs set) (now (job .entry)) (length (now (list .entry))) (scope.starting next) .state .past) (now (list .exit)) ⌝ }
+    ensures { λ r. ⌜ ((d : scope.State) (list₀ : List ℕ) → length list₀ ≡ length (now (list .entry))
+        → Stands (settingAs set) (now (job .entry)) list₀ (record { table = verdict.zeros 704; patterns = verdict.zeros 4487; work = now (work .entry); list = now (list .entry) }) from d
+        → (verdictAs r ≡ verdict.told (judgedFrom every (settingAs set) (now (job .entry)) (length list₀) d))
+        × Listed list₀ (judgedFrom every (settingAs set) (now (job .entry)) (length list₀) d .state .past) (now (list .exit))) ⌝ }
 {
     let mut motifs = [0usize; 704];
     let mut patterns = [0u16; 4487];
     let mut attrs = [0usize; 80];
-    let mut st = State {
-        at: next,
-        place: Place::Outside(false),
-        performed: 0,
-        records: 0,
-    };
+    let mut st = from;
     loop {
-        let from = run_on(job, set.high, list, st);
+        let next = run_on(job, set.high, list, st);
         match advance(
             job,
             set,
@@ -229,7 +227,7 @@ fn items_from(job: &[u8], set: Setting, next: usize, work: &mut [u8], list: &mut
             &mut motifs,
             &mut patterns,
             &mut attrs,
-            from,
+            next,
         ) {
             Step::Go(on) => {
                 st = on;
@@ -239,6 +237,31 @@ fn items_from(job: &[u8], set: Setting, next: usize, work: &mut [u8], list: &mut
             }
         }
     }
+}
+
+// The items of a job that is not too long, with a work buffer that is long enough, from the first one on: what opens it needs no tables.
+fn items_from(job: &[u8], set: Setting, next: usize, work: &mut [u8], list: &mut [u8]) -> Verdict
+    requires { ⌜ (length (now job) ≤ 61440) × (16384 ≤ length (now work)) × (next ≤ length (now job)) ⌝ }
+    ensures { λ _. ⌜ Lasts (now (work .entry)) (now (list .entry)) (now (work .exit)) (now (list .exit)) ⌝ }
+    ensures { λ r. ⌜ (verdictAs r ≡ verdict.told (judgedFrom every (settingAs set) (now (job .entry)) (length (now (list .entry))) (scope.starting next)))
+        × Listed (now (list .entry)) (judgedFrom every (settingAs set) (now (job .entry)) (length (now (list .entry))) (scope.starting next) .state .past) (now (list .exit)) ⌝ }
+{
+    let st = open_on(
+        job,
+        set,
+        list,
+        State {
+            at: next,
+            place: Place::Outside(false),
+            performed: 0,
+            records: 0,
+        },
+    );
+    let place = st.place;
+    if is_over(job.len(), st) {
+        return stop(st, end_code(place), job.len(), OUTER);
+    }
+    with_tables(job, set, work, list, st)
 }
 
 // The whole of a job's items, from the first one on. Where the job is too long, the work buffer too short or `next` outside the job, nothing is read.

@@ -1,16 +1,14 @@
 -- `stepping::advance` meets its contract: at the end of the job the definition reads nothing; before it both read the same.
 -- Assumes nothing.
-use Prim.Native.Nat.{ℕ, _≤_}
+use Prim.Native.Nat.{ℕ}
 use lib.ListN.{length}
-use mathlib.Core.List.{List, []}
+use mathlib.Core.List.{List}
 use mathlib.Core.Path.{refl, sym, ap, _∙_, _≡_}
 use native.Mathlib.Omega.{arith}
 use Rattle.setting.specs.Views.{settingAs}
 use Rattle.scope.proofs.Placed.{read-placed}
-use Rattle.items.proofs.Pairs.{scan-end}
 use Rattle.scope.specs.Verdict.{every, told}
-use Rattle.scope.specs.Item.{scanAt, endedWith}
-use Rattle.scope.specs.Reading.{Context, Read, scanned, operatorAt}
+use Rattle.scope.specs.Reading.{operatorAt}
 use Rattle.scope.specs.Judge.{contextOf, refusedAt, jobStep, outer}
 use Rattle.scope.specs.Judge as scope
 use Rattle.scope.specs.Setting.{Setting}
@@ -19,14 +17,10 @@ use Rattle.reader.specs.Reads.{readAs}
 use Rattle.reader.specs.declared.reading.Read.{Read as CodeRead}
 use Rattle.state.specs.Standing.{Stands, Lent, endCode}
 use Rattle.ruling.proofs.Turns.{stopped, context-is, step-no, step-ended, steps-read}
+use Rattle.stepping.proofs.Ending.{steps-end}
 use borrow.Author.Needs.{needs}
 use Rattle.stepping.proofs.stepping.advance.Statement.{statement}
 use Rattle.stepping.proofs.stepping.advance.Tie as tie
-
--- at the end nothing is read
-read-end : (c : Context) (s : List ℕ) (at : ℕ) → length s ≤ at → operatorAt c s at ≡ Read.ended
-unfolding operatorAt scanAt scanned endedWith
-read-end c s at h = rw (scan-end (c .set .high) s at [] h)
 
 -- where the reading of an operator started
 abbrev begun : tie.After-operator-at → tie.Start
@@ -62,11 +56,9 @@ returns c =
         (
           tt,
           λ d list₀ l z h.
-              let set : Setting = settingAs (a .set) in
-              let q = read-end (contextOf every (settingAs (a .set)) (d .place)) (a .job .now) (d .at) (omega (arith, c .before .before .before .is-over .ensures (c .before .before .if1 .taken), h .at)) in
-              stopped (c .stop .result) (jobStep every set (a .job .now) (length list₀) d) (endCode (d .place)) (length (a .job .now)) outer (h .listed) (step-ended set (a .job .now) (length list₀) d q)
-              (c .stop .ensures d (omega (arith, st .pre)) (omega (arith, st .pre)) (h .records) (h .performed)
-              ∙ ap (λ k. told (refusedAt k (length (a .job .now)) outer d)) (c .before .end-code .ensures (d .place) _ _ _ _ _ (h .place))),
+              steps-end (settingAs (a .set)) d (c .stop .result) _ (omega (arith, c .before .before .before .is-over .ensures (c .before .before .if1 .taken), h .at)) (h .listed)
+              (c .before .end-code .ensures (d .place) _ _ _ _ _ (h .place))
+              (c .stop .ensures d (omega (arith, st .pre)) (omega (arith, st .pre)) (h .records) (h .performed)),
         ),
       ),
     )

@@ -1,127 +1,114 @@
--- The invariant: the definition stands somewhere that the code stands too, and judging from there is judging from the start.
+-- `items_from`: what opens the job leads where the definition comes to from its start; there the job is over, or it goes on with the tables.
 -- Assumes nothing.
-use Prim.Native.Nat.{_-_, _*_, _≤_}
-use mathlib.Core.Path.{_≡_, refl, sym, _∙_}
+use Prim.Native.Nat.{_*_, _≤_}
+use mathlib.Core.Path.{refl, sym, _∙_}
 use native.Mathlib.Omega.{arith}
-use lib.ListN.{length, drop}
+use lib.ListN.{length}
 use Rattle.setting.specs.Views.{settingAs}
 use Rattle.scope.specs.Setting.{Setting}
 use Rattle.scope.specs.Judge as scope
 use Rattle.scope.specs.Judge.{judgedFrom}
-use Rattle.scope.specs.Verdict.{every}
-use Rattle.place.specs.Places.{outside-holds}
-use Rattle.place.proofs.Starting.{quiet-zeros}
-use Rattle.state.specs.Standing.{Stands}
-use Rattle.ruling.proofs.Turns.{starts, turned-go, turned-stop}
+use Rattle.scope.specs.Verdict.{every, zeros}
+use Rattle.state.specs.Standing.{Lent}
+use Rattle.running.specs.Running.{Reaches}
+use Rattle.ruling.proofs.Turns.{turned-stop}
+use Rattle.stepping.proofs.Ending.{steps-end}
+use Rattle.stepping.proofs.Starting.{stands-first, none-first}
 use borrow.Author.Needs.{needs}
 use Rattle.stepping.proofs.stepping.items_from.Statement.{statement}
 use Rattle.stepping.proofs.stepping.items_from.Tie as tie
 
-abbrev Inv-loop : tie.InvT-loop
-Inv-loop job set next work₀ list₀ motifs₀ patterns₀ attrs₀ st₀ work list motifs patterns attrs st =
-    (length work ≡ length work₀) × (length list ≡ length list₀) × (length attrs ≡ 80) × (st .at ≤ length job) × (st .records ≤ st .at * 17)
-    × (drop 16384 work ≡ drop 16384 work₀)
-    × ((d : scope.State) × (Stands (settingAs set) job list₀ (record { table = motifs; patterns = patterns; work = work; list = list }) st d
-    × (judgedFrom every (settingAs set) job (length list₀) d ≡ judgedFrom every (settingAs set) job (length list₀) (scope.starting next))))
+-- where the opening started
+abbrev begun : tie.After-open-on → tie.Start
+begun c = c .before .before .before .before .before
 
-abbrev μ-loop : tie.MeasureT-loop
-μ-loop job set next work₀ list₀ motifs₀ patterns₀ attrs₀ st₀ work list motifs patterns attrs st = length job - st .at
-
-loop-holds : tie.Need-loop-holds Inv-loop μ-loop
-loop-holds c =
-    let st = c .before .before .before in
-    let a = st .args in
-    (refl, refl, refl, st .pre .2, omega arith, refl, (scope.starting (a .next), (starts (settingAs (a .set)) (a .job .now) (a .list .now) _ _ (a .next) refl (outside-holds (quiet-zeros 4487)) refl refl refl refl, refl)))
-
-run-on-requires : tie.Need-run-on-requires Inv-loop μ-loop
-run-on-requires c κs = search needs
-
--- past a run the bounds that `advance` asks for hold still
-past : (c : tie.After-run-on Inv-loop μ-loop)
-    → let h = c .before .before in
-    let r = c .run-on .result in
-    (r .at ≤ length (h .before .before .before .before .args .job .now)) × (r .records ≤ r .at * 17)
+-- the bounds hold still past it
+past : (c : tie.After-open-on)
+    → let r = c .open-on .result in
+    (r .at ≤ length (begun c .args .job .now)) × (r .records ≤ r .at * 17)
 past c =
-    let h = c .before .before in
-    let i = h .loop .inv in
-    let r = c .run-on .ensures in
-    (r .within (i .3), let x = r .counted in let y = r .on in omega arith)
+    let o = c .open-on .ensures in
+    let w = o .within in
+    (omega (arith, begun c .pre .2, w), o .counted (omega arith))
 
-advance-requires : tie.Need-advance-requires Inv-loop μ-loop
-advance-requires c κs =
-    let p = past (c .before .before .before .before .before .before .before) in
-    (search needs, search needs, p .0, p .1)
+-- and the definition goes as far
+reached : (c : tie.After-open-on)
+    → let a = begun c .args in
+    Reaches (a .job .now) (a .list .now) (zeros 704) (zeros 4487) (a .work .now) (c .open-on .last .1 .1 .0) (settingAs (a .set)) (c .open-on .result) (scope.starting (a .next))
+reached c =
+    let a = begun c .args in
+    c .open-on .ensures .leads (a .list .now) (zeros 704) (zeros 4487) (a .work .now) (scope.starting (a .next)) none-first refl
+    (stands-first (settingAs (a .set)) (a .job .now) (a .list .now) (a .work .now) (a .next))
 
-enum-known-on : tie.Need-enum-known-on Inv-loop μ-loop
-enum-known-on c = search needs
+open-on-requires : tie.Need-open-on-requires
+open-on-requires c κs = search needs
 
-loop-less : tie.Need-loop-less Inv-loop μ-loop
-loop-less c =
-    let d = c .before .before .before .before .before .before .before in
-    let p = rw (c .before .on .given .1) at (d .advance .ensures .1 .1 .0) in
-    let y = d .before .before .before .before .before .before .before .before .run-on .ensures .on in
-    omega (arith, p)
+is-over-requires : tie.Need-is-over-requires
+is-over-requires c κs = search needs
 
-loop-again : tie.Need-loop-again Inv-loop μ-loop
-loop-again c =
-    let d = c .before .before .before .before .before .before .before in
-    let r = d .before .before .before .before .before .before .before .before in
-    let h = r .before .before in
-    let i = h .loop .inv in
-    let a = h .before .before .before .before .args in
-    let e = c .before .on .given .1 in
-    let n = d .advance .ensures in
-    let p = rw e at (n .1 .1 .0) in
-    let set : Setting = settingAs (a .set) in
-    let g = r .run-on .ensures .leads (a .list .now) _ _ _ set (i .6 .0) refl (sym (i .1)) (i .6 .1 .0) in
-    let l = r .run-on .ensures .long ∙ i .1 in (
-      n .0 .work-long ∙ i .0,
-      n .0 .list-long ∙ l,
-      n .1 .0 ∙ i .2,
-      p .1,
-      p .2,
-      n .0 .rest ∙ i .5,
-      turned-go (a .job .now) (a .list .now) set _ _ _ (g .there) (g .judged ∙ i .6 .1 .1) (rw e at (n .1 .1 .1 (g .there) (a .list .now) (sym l) (i .2) (g .stands))),
-    )
+end-code-requires : tie.Need-end-code-requires
+end-code-requires c κs = search needs
 
-enum-known-verdict : tie.Need-enum-known-verdict Inv-loop μ-loop
-enum-known-verdict c = search needs
+stop-requires : tie.Need-stop-requires
+stop-requires c κs = search needs
 
-same-length : tie.Need-same-length Inv-loop μ-loop
+same-length : tie.Need-same-length
 same-length c = search needs
 
-same-length-2 : tie.Need-same-length-2 Inv-loop μ-loop
+returns : tie.Need-returns
+returns c =
+    let t = c .before .before in
+    let x = t .before .before .before .before in
+    let st = begun x in
+    let a = st .args in
+    let set : Setting = settingAs (a .set) in
+    let g = reached x in
+    let d = g .there in
+    let h = g .stands in
+    let p = past x in
+    let l : Lent = record { table = zeros 704; patterns = zeros 4487; work = a .work .now; list = x .open-on .last .1 .1 .0 } in (
+      record { work-long = refl; list-long = x .open-on .ensures .long; rest = refl },
+      turned-stop (a .job .now) (a .list .now) set (judgedFrom every set (a .job .now) (length (a .list .now)) (scope.starting (a .next))) l (c .stop .result) d (g .judged)
+          (steps-end set d (c .stop .result) _ (omega (arith, t .before .is-over .ensures (t .if1 .taken), h .at)) (h .listed)
+          (c .before .end-code .ensures (d .place) _ _ _ _ _ (h .place))
+          (c .stop .ensures d (omega (arith, st .pre)) (omega (arith, st .pre, p)) (h .records) (h .performed))),
+    )
+
+with-tables-requires : tie.Need-with-tables-requires
+with-tables-requires c κs =
+    let x = c .before .before .before .before .before .before in
+    let p = past x in
+    (begun x .pre .0, begun x .pre .1, p .0, p .1)
+
+same-length-2 : tie.Need-same-length-2
 same-length-2 c = search needs
 
-returns : tie.Need-returns Inv-loop μ-loop
-returns c =
-    let d = c .before .before .before .before .before .before .before in
-    let r = d .before .before .before .before .before .before .before .before in
-    let h = r .before .before in
-    let i = h .loop .inv in
-    let a = h .before .before .before .before .args in
-    let e = c .before .verdict .given .1 in
-    let n = d .advance .ensures in
-    let set : Setting = settingAs (a .set) in
-    let g = r .run-on .ensures .leads (a .list .now) _ _ _ set (i .6 .0) refl (sym (i .1)) (i .6 .1 .0) in
-    let l = r .run-on .ensures .long ∙ i .1 in (
-      record { work-long = n .0 .work-long ∙ i .0; list-long = n .0 .list-long ∙ l; rest = n .0 .rest ∙ i .5 },
-      turned-stop (a .job .now) (a .list .now) set _ _ _ (g .there) (g .judged ∙ i .6 .1 .1) (rw e at (n .1 .1 .1 (g .there) (a .list .now) (sym l) (i .2) (g .stands))),
+same-length-3 : tie.Need-same-length-3
+same-length-3 c = search needs
+
+returns-2 : tie.Need-returns-2
+returns-2 c =
+    let w = c .before .before .before .before in
+    let x = w .before .before .before .before .before .before .before in
+    let a = begun x .args in
+    let g = reached x in
+    let n = w .with-tables .ensures in
+    let j = n .1 (g .there) (a .list .now) (sym (x .open-on .ensures .long)) (g .stands) in (
+      record { work-long = n .0 .work-long; list-long = n .0 .list-long ∙ x .open-on .ensures .long; rest = n .0 .rest },
+      rw (g .judged) at j,
     )
 
 pub items-from-spec : {M : Type 1} → statement M
 items-from-spec =
     tie.close
     (tie.spec
-    Inv-loop
-    μ-loop
-    loop-holds
-    run-on-requires
-    advance-requires
-    enum-known-on
-    loop-less
-    loop-again
-    enum-known-verdict
+    open-on-requires
+    is-over-requires
+    end-code-requires
+    stop-requires
     same-length
+    returns
+    with-tables-requires
     same-length-2
-    returns)
+    same-length-3
+    returns-2)
