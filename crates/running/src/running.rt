@@ -14,6 +14,7 @@ use arm::page::Passed;
 use motif::Kept;
 use names::attributes::END_POINT;
 use names::limits::PERFORMED_MOST;
+use number::is_white;
 use order::Picture;
 use place::Busy;
 use place::Place;
@@ -34,15 +35,34 @@ pub enum Pass {
     No,
 }
 
-// Where the next item stands: most often right here, as a byte from 0x41 on is not white, else behind white space.
+// The first place from `at` on that is not white; or the end, where more than 16 bytes are white: those are left to the scan of items, which passes them faster.
+fn near_item(job: &[u8], at: usize) -> usize
+    requires { ⌜ at < length (now job) ⌝ }
+    ensures { λ r. ⌜ (r < length (now (job .entry)) → r ≡ after (now (job .entry)) at) ⌝ }
+{
+    let last = at + 16;
+    let mut p = at;
+    while p < job.len() {
+        if !is_white(job[p]) {
+            return p;
+        }
+        if last <= p {
+            return job.len();
+        }
+        p += 1;
+    }
+    p
+}
+
+// Where the next item stands: most often right here, as a byte from 0x41 on is not white, else behind white space; or the end.
 fn item_at(job: &[u8], at: usize) -> usize
     requires { ⌜ at < length (now job) ⌝ }
-    ensures { λ r. ⌜ r ≡ after (now (job .entry)) at ⌝ }
+    ensures { λ r. ⌜ (r < length (now (job .entry)) → r ≡ after (now (job .entry)) at) ⌝ }
 {
     if 0x41 <= job[at] {
         return at;
     }
-    number::after_white(job, at)
+    near_item(job, at)
 }
 
 // The next operator of a run, where it is its tag alone and stands at `at`.

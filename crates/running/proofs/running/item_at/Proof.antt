@@ -21,13 +21,13 @@ shared-slice-read-if1 c = search needs
 returns : tie.Need-returns
 returns c =
     let s = c .before .before .before in
-    sym (after-black (s .args .job .now) (s .args .at) (s .pre) (black _ (c .if1 .taken)))
+    λ _. sym (after-black (s .args .job .now) (s .args .at) (s .pre) (black _ (c .if1 .taken)))
 
-after-white-requires : tie.Need-after-white-requires
-after-white-requires c κs = search needs
+near-item-requires : tie.Need-near-item-requires
+near-item-requires c κs = search needs
 
 returns-2 : tie.Need-returns-2
 returns-2 c = search needs
 
 pub item-at-spec : {M : Type 1} → statement M
-item-at-spec = tie.close (tie.spec shared-slice-read-if1 returns after-white-requires returns-2)
+item-at-spec = tie.close (tie.spec shared-slice-read-if1 returns near-item-requires returns-2)

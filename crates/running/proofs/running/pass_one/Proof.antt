@@ -20,10 +20,14 @@ shared-slice-read-if4 : tie.Need-shared-slice-read-if4
 shared-slice-read-if4 c = search needs
 
 pass-alone-requires : tie.Need-pass-alone-requires
-pass-alone-requires c κs = search needs
+pass-alone-requires c κs =
+    let e = c .before .before .before in
+    (e .before .item-at .ensures (e .if3 .left), e .if3 .left, e .before .before .if2 .left)
 
 pass-line-requires : tie.Need-pass-line-requires
-pass-line-requires c κs = search needs
+pass-line-requires c κs =
+    let e = c .before .before .before in
+    (e .before .item-at .ensures (e .if3 .left), e .if3 .left, e .before .before .if2 .left)
 
 same-length : tie.Need-same-length
 same-length c = search needs
