@@ -3,14 +3,13 @@ ghost use mathlib.Core.Path.{_≡_};
 ghost use mathlib.Core.List.{List};
 ghost use Prim.Native.Nat.{ℕ, _<_};
 ghost use lib.ListN.{length};
-ghost use Rattle.scope.specs.Item.{after, endedWith, scanAt};
+ghost use Rattle.scope.specs.Item.{endedWith, scanAt};
 ghost use Rattle.items.specs.Rows.{rowsOf};
 ghost use Rattle.items.specs.Scans.{scanAs, Within};
 use crate::pair::Pair;
 use crate::pair::pair_at;
 use number::after_white;
 use number::between;
-use number::is_white;
 
 // An operator's tag, how many attributes it has and its place; the end of the bytes with nothing waiting; or a refusal.
 pub enum Scan {
@@ -30,19 +29,6 @@ fn ended_with(s: &[u8], n: usize) -> Scan
     Scan::No(27, s.len())
 }
 
-// The first place from `at` on that is not white: most often it is right here.
-fn past_white(s: &[u8], at: usize) -> usize
-    ensures { λ r. ⌜ r ≡ after (now (s .entry)) at ⌝ }
-{
-    if s.len() <= at {
-        return at;
-    }
-    if !is_white(s[at]) {
-        return at;
-    }
-    after_white(s, at)
-}
-
 // The items from `start` on up to the next operator's tag; the attributes go to `attrs`.
 pub fn scan_at(s: &[u8], start: usize, high: bool, attrs: &mut [usize; 80]) -> Scan
     ensures { λ _. ⌜ length (now (attrs .exit)) ≡ length (now (attrs .entry)) ⌝ }
@@ -53,7 +39,7 @@ pub fn scan_at(s: &[u8], start: usize, high: bool, attrs: &mut [usize; 80]) -> S
     let mut at = start;
     let mut end = Scan::Ended;
     'pairs: loop {
-        at = past_white(s, at);
+        at = after_white(s, at);
         if s.len() <= at {
             end = ended_with(s, n);
             break 'pairs;

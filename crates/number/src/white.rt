@@ -62,8 +62,8 @@ fn after_fours(s: &[u8], at: usize) -> usize
     }
 }
 
-// The first place from `at` on that is not white.
-pub fn after_white(s: &[u8], at: usize) -> usize
+// The first place from `at` on that is not white, where white space stands there.
+fn behind_white(s: &[u8], at: usize) -> usize
     ensures { λ r. ⌜ r ≡ after (now (s .entry)) at ⌝ }
 {
     let mut p = after_fours(s, at);
@@ -74,4 +74,17 @@ pub fn after_white(s: &[u8], at: usize) -> usize
         p += 1;
     }
     p
+}
+
+// The first place from `at` on that is not white: most often it is right here.
+pub fn after_white(s: &[u8], at: usize) -> usize
+    ensures { λ r. ⌜ r ≡ after (now (s .entry)) at ⌝ }
+{
+    if s.len() <= at {
+        return at;
+    }
+    if !is_white(s[at]) {
+        return at;
+    }
+    behind_white(s, at)
 }

@@ -132,7 +132,7 @@ fn pass_line(job: &[u8], high: bool, list: &mut [u8], from: Run, at: usize) -> P
     })
 }
 
-// The next operator of a run, behind white space if there is any: a tag below 0xc0 is an operator's, any other a value's.
+// The next operator of a run, behind white space if there is any: from 0xd0 on a tag may be that of a point, below it that of an operator.
 fn pass_one(job: &[u8], high: bool, list: &mut [u8], from: Run) -> Pass
     ensures { λ r. ⌜ Further (length (now (job .entry))) from r ⌝ }
     ensures { λ r. ⌜ ((opened : Bool) (kept : Kept)
@@ -148,7 +148,7 @@ fn pass_one(job: &[u8], high: bool, list: &mut [u8], from: Run) -> Pass
     if job.len() <= at {
         return Pass::No;
     }
-    if job[at] < 0xc0 {
+    if job[at] < 0xd0 {
         pass_alone(job, list, from, at)
     } else {
         pass_line(job, high, list, from, at)

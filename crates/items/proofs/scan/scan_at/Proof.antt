@@ -41,32 +41,32 @@ abbrev Long : tie.At-pairs Inv-pairs μ-pairs → Type 0
 Long c = length (c .before .before .args .attrs .now) ≡ 80
 
 -- past the white space: where it ends, the scan from there, and the byte that is there
-abbrev Q : tie.After-past-white Inv-pairs μ-pairs → ℕ
-Q c = c .past-white .result
+abbrev Q : tie.After-after-white Inv-pairs μ-pairs → ℕ
+Q c = c .after-white .result
 
-onward : (c : tie.After-past-white Inv-pairs μ-pairs) → c .before .pairs .at ≤ Q c
+onward : (c : tie.After-after-white Inv-pairs μ-pairs) → c .before .pairs .at ≤ Q c
 onward c =
     let h = after-le true (S (c .before)) (c .before .pairs .at) in
-    let e = c .past-white .ensures in
+    let e = c .after-white .ensures in
     omega arith
 
-from : (c : tie.After-past-white Inv-pairs μ-pairs) → Long (c .before)
+from : (c : tie.After-after-white Inv-pairs μ-pairs) → Long (c .before)
     → scanFrom (H (c .before)) (S (c .before)) (record { at = Q c; attrs = L (c .before) })
     ≡ scanAt (H (c .before)) (S (c .before)) (c .before .before .before .args .start)
 from c z =
     let p = c .before .pairs in
-    ap (λ (q : ℕ). scanFrom (H (c .before)) (S (c .before)) (record { at = q; attrs = L (c .before) })) (c .past-white .ensures)
+    ap (λ (q : ℕ). scanFrom (H (c .before)) (S (c .before)) (record { at = q; attrs = L (c .before) })) (c .after-white .ensures)
     ∙ sym (scan-after (H (c .before)) (S (c .before)) (p .at) (L (c .before)))
     ∙ p .inv .3 z
 
 black : (c : tie.Else1 Inv-pairs μ-pairs) → white (getD (S (c .before .before)) (Q (c .before)) 0) ≡ false
-black c = black-after (S (c .before .before)) (c .before .before .pairs .at) (Q (c .before)) (c .before .past-white .ensures) (c .if1 .left)
+black c = black-after (S (c .before .before)) (c .before .before .pairs .at) (Q (c .before)) (c .before .after-white .ensures) (c .if1 .left)
 
 -- after `pair_at`: where the white space was passed, and the array that is left
 abbrev T : tie.After-pair-at Inv-pairs μ-pairs → tie.Else1 Inv-pairs μ-pairs
 T c = c .before .before .before .before .before
 
-abbrev W : tie.After-pair-at Inv-pairs μ-pairs → tie.After-past-white Inv-pairs μ-pairs
+abbrev W : tie.After-pair-at Inv-pairs μ-pairs → tie.After-after-white Inv-pairs μ-pairs
 W c = T c .before
 
 abbrev A : tie.After-pair-at Inv-pairs μ-pairs → List ℕ
@@ -103,8 +103,8 @@ pairs-holds : tie.Need-pairs-holds Inv-pairs μ-pairs
 unfolding rowsOf rowsFrom scanAt
 pairs-holds c = (omega arith, refl, omega arith, λ _. refl)
 
-past-white-requires : tie.Need-past-white-requires Inv-pairs μ-pairs
-past-white-requires c κs = search needs
+after-white-requires : tie.Need-after-white-requires Inv-pairs μ-pairs
+after-white-requires c κs = search needs
 
 ended-with-requires : tie.Need-ended-with-requires Inv-pairs μ-pairs
 ended-with-requires c κs = search needs
@@ -183,7 +183,7 @@ scan-at-spec =
     Inv-pairs
     μ-pairs
     pairs-holds
-    past-white-requires
+    after-white-requires
     ended-with-requires
     shared-slice-read-b
     between-requires
