@@ -205,10 +205,24 @@ fn past_run(
     }
 }
 
+// A run may start here: this is not the tag of one number or of an array, with which none starts.
+fn may_start(job: &[u8], p: usize) -> bool {
+    if job.len() <= p {
+        return false;
+    }
+    if job[p] < 0xc0 {
+        return true;
+    }
+    0xd0 <= job[p]
+}
+
 // Past the run of operators that are their tag alone and of lines by their end point, if one stands next.
 pub fn run_on(job: &[u8], high: bool, list: &mut [u8], st: State) -> State
     ensures { λ r. ⌜ Runs (now (job .entry)) high (now (list .entry)) (now (list .exit)) st r ⌝ }
 {
+    if !may_start(job, st.at) {
+        return st;
+    }
     let place = st.place;
     match place {
         Place::Outside(_) => st,

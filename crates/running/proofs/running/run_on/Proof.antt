@@ -5,6 +5,9 @@ use borrow.Author.Needs.{needs}
 use Rattle.running.proofs.running.run_on.Statement.{statement}
 use Rattle.running.proofs.running.run_on.Tie as tie
 
+may-start-requires : tie.Need-may-start-requires
+may-start-requires c κs = search needs
+
 enum-told : tie.Need-enum-told
 enum-told c = search needs
 
@@ -47,11 +50,14 @@ returns-4 c = runs-none
 returns-5 : tie.Need-returns-5
 returns-5 c = runs-none
 
+returns-6 : tie.Need-returns-6
+returns-6 c = runs-none
+
 same-length : tie.Need-same-length
 same-length c = search needs
 
-returns-6 : tie.Need-returns-6
-returns-6 c =
+returns-7 : tie.Need-returns-7
+returns-7 c =
     let n = c .before .before .before .before in
     let b = n .before .before .before in
     let p = b .before .before .before in
@@ -61,6 +67,8 @@ pub run-on-spec : {M : Type 1} → statement M
 run-on-spec =
     tie.close
     (tie.spec
+    may-start-requires
+    returns
     enum-told
     enum-known-place
     enum-told-2
@@ -70,10 +78,10 @@ run-on-spec =
     enum-told-5
     enum-told-6
     past-run-requires
-    returns
     returns-2
     returns-3
     returns-4
     returns-5
+    returns-6
     same-length
-    returns-6)
+    returns-7)
