@@ -15,6 +15,13 @@ fn line(rng: &mut Rng) -> Vec<u8> {
     out
 }
 
+/// White space, mostly of one byte, shorter and longer than what a checker may care to pass in one go.
+fn gap(rng: &mut Rng) -> Vec<u8> {
+    let length = rng.pick(&[1, 1, 2, 3, 4, 5, 15, 16, 17, 18, 33]);
+    let usual = rng.pick(&[0x00, 0x20]);
+    (0..length).map(|_| if rng.one_in(8) { rng.pick(&[0x00, 0x09, 0x0d, 0x20]) } else { usual }).collect()
+}
+
 /// Calls in a page that leave fewer than ten operators up to the limit, with the motifs that they call.
 fn nearly_all() -> (Vec<Node>, Vec<Node>) {
     let mut motifs = vec![motif_of(&[1], times(op(0x86).node(), 10))];
@@ -23,7 +30,7 @@ fn nearly_all() -> (Vec<Node>, Vec<Node>) {
     (motifs, calls.iter().flat_map(|&(k, n)| times(call_of(&[k]), n)).collect())
 }
 
-/// Lines by their end point and operators of one byte side by side in a page, near misses and white bytes between them.
+/// Lines by their end point and operators of one byte side by side in a page, near misses and white space between them.
 pub fn runs(rng: &mut Rng, set: Setting) -> Vec<u8> {
     let (motifs, calls) = if rng.one_in(40) { nearly_all() } else { (vec![], vec![]) };
     let mut nodes = vec![begin_session(), open_source()];
@@ -36,7 +43,7 @@ pub fn runs(rng: &mut Rng, set: Setting) -> Vec<u8> {
             0..=7 => Node::Raw(line(rng)),
             8..=11 => op(rng.pick(&[0x84, 0x85, 0x86, 0x61, 0x60, 0x57])).node(),
             12 | 13 => point(0x6b, 76),
-            14 => Node::Raw(vec![rng.pick(&[0x00, 0x09, 0x0d, 0x20])]),
+            14 => Node::Raw(gap(rng)),
             _ => {
                 let mut near = line(rng);
                 spoil(rng, &mut near);
