@@ -1,5 +1,5 @@
--- 02, item 6, leaves class 1;1 as it was: reading as it stood before, with one class and one table, rows filled up to 4 bytes and no length told beside them; and
--- with it the judging of a motif and the outcome of a job. Claims.OneAsBefore says that a job of class 1;1 gets this outcome.
+-- 02, item 6, leaves class 1;1 as it was: reading without that item, by the other items as they are, with one class and one table, rows filled up to 4 bytes and no
+-- length told beside them; and with it the judging of a motif and the outcome of a job. Claims.OneAsBefore says that a job of class 1;1 gets this outcome.
 -- Assumes nothing.
 use Prim.Native.Nat.{ℕ, _+_, _-_, _*_}
 use mathlib.Core.Bool.{Bool, true, _&&_, _||_}
