@@ -3,8 +3,8 @@
 use mathlib.Core.List.{List, [], _∷_, _++_}
 use lib.ListN.{length}
 use Prim.Native.Nat.{ℕ}
 use Rattle.scope.specs.Names.{BeginPage, EndPage, SetDefaultGS, PushGS, PopGS, ReadImage, EndImage}
-use Rattle.scope.proofs.Parts.{times, op, _with_at_, H, HB, S, SB, E, P, O, Z, CUR, LN, D, GR, GL, RGB, X, Tried, _gets_at_listed_performed_, _gets_at_inside_listed_performed_, inGray}
+use Rattle.jobs.proofs.Parts.{times, op, _with_at_, H, HB, S, SB, E, P, O, Z, CUR, LN, D, GR, GL, RGB, X, Tried, _gets_at_listed_performed_, _gets_at_inside_listed_performed_, inGray}
 
 -- a header of class 2;1, low byte first and high byte first
 abbrev H2 : List ℕ

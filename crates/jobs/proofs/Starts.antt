@@ -2,8 +2,8 @@
 -- Assumes nothing.
 use mathlib.Core.List.{List, [], _∷_}
 use Prim.Native.Nat.{ℕ}
 use Rattle.scope.specs.Names.{EndPage, PushGS, PopGS, EndImage}
-use Rattle.scope.proofs.Parts.{times, op, H, S, E, P, O, Z, CUR, D, GR, GL, RGB, IM, RI, M, X, Tried, _gets_at_listed_performed_, inGray}
+use Rattle.jobs.proofs.Parts.{times, op, H, S, E, P, O, Z, CUR, D, GR, GL, RGB, IM, RI, M, X, Tried, _gets_at_listed_performed_, inGray}
 
 -- SetColorSpace RGB
 abbrev CS : List ℕ

@@ -2,7 +2,7 @@
 -- Assumes nothing.
 use Prim.Native.Nat.{ℕ}
 use mathlib.Core.List.{List, [], _∷_, _++_}
-use Rattle.scope.proofs.Parts.{H, HB, S, P, CUR, GR, Tried, try}
+use Rattle.jobs.proofs.Parts.{H, HB, S, P, CUR, GR, Tried, try}
 
 -- a session with these reals as UnitsPerMeasure
 abbrev units : List ℕ → List ℕ

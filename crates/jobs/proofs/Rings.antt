@@ -5,13 +5,13 @@ use Prim.Native.Nat.{ℕ, zero, suc}
 use mathlib.Core.Bool.{Bool, true, false}
 use mathlib.Core.List.{List, [], _∷_}
 use lib.ListN.{length}
 use Rattle.scope.specs.Reading.{Operator}
 use Rattle.scope.specs.Arm.{blank, any, no-pattern, put, kept}
 use Rattle.scope.specs.Motif.{Own, does, calls, Motif, Picture}
 use Rattle.scope.specs.Session.{Busy, resting, reading, drawing}
 use Rattle.scope.specs.Names.{ExecStream, LinePath}
 use Rattle.scope.specs.Verdict.{zeros}
-use Rattle.scope.proofs.Parts.{D, N, X}
+use Rattle.jobs.proofs.Parts.{D, N, X}
 
 -- judging that begins in a session: the source open or not, these motifs held, these patterns defined, at this, before these items; and how it ends
 pub record Begun : Type 0 where

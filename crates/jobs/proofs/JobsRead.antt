@@ -3,8 +3,8 @@
 -- Assumes nothing.
 use mathlib.Core.List.{List, [], _∷_}
 use lib.ListN.{take}
 use Rattle.scope.specs.Names.{EndPage, Comment, CloseDataSource, PushGS, LinePath, EndImage}
-use Rattle.scope.proofs.Parts.{times, op, _with_at_, H, S, E, J, P, O, Z, CUR, LD, D, GR, IM, RI, Tried, _gets_at_listed_performed_}
+use Rattle.jobs.proofs.Parts.{times, op, _with_at_, H, S, E, J, P, O, Z, CUR, LD, D, GR, IM, RI, Tried, _gets_at_listed_performed_}
 
 -- the jobs of 01; (i) is in Jobs
 abbrev pub given : List Tried

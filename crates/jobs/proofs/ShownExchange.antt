@@ -6,28 +6,28 @@ use mathlib.Core.Path.{_≡_, refl}
 use mathlib.Core.List.{List, [], _∷_, _++_}
 use mathlib.Core.Bool.{true, false}
 use lib.ListN.{length, getD, take, drop}
 use Rattle.scope.specs.Choice
 use Rattle.scope.specs.Iterate
 use Rattle.scope.specs.Number
 use Rattle.scope.specs.Header
 use Rattle.scope.specs.Item
 use Rattle.scope.specs.Table
 use Rattle.scope.specs.Attributes
 use Rattle.scope.specs.Data
 use Rattle.scope.specs.Order
 use Rattle.scope.specs.Reading
 use Rattle.scope.specs.Arm
 use Rattle.scope.specs.Motif
 use Rattle.scope.specs.Calls
 use Rattle.scope.specs.Session
 use Rattle.scope.specs.Judge
 use Rattle.scope.specs.Verdict as Verd
 use Rattle.scope.specs.Runs as Running
 use Rattle.scope.specs.Claims.{recordsFrom}
 use Rattle.scope.specs.Exchange as Ex
-use Rattle.scope.proofs.Parts.{H, S, O, P, PW, D, Z}
+use Rattle.jobs.proofs.Parts.{H, S, O, P, PW, D, Z}
 use Rattle.scope.proofs.Exchange.{sessions-exchanged}
 use Rattle.scope.proofs.ExchangeList.{lists-exchanged}
 
 -- the name "S3 wave" as an attribute
 abbrev NAMED : List ℕ

@@ -3,12 +3,12 @@
 use Prim.Native.Nat.{ℕ, zero, suc}
 use mathlib.Core.List.{List, [], _∷_, _++_}
 use mathlib.Core.Bool.{true, false}
 use Rattle.scope.specs.Arm.{blank}
 use Rattle.scope.specs.Motif.{Picture}
 use Rattle.scope.specs.Session.{drawing}
 use Rattle.scope.specs.Names.{EndPage, PopGS, PushGS, EndRastPattern}
-use Rattle.scope.proofs.Parts.{times, op, _with_at_, H, S, P, O, Z, LN, GL, D, M, X, Tried, _gets_at_listed_performed_, _gets_at_inside_listed_performed_, inGray}
-use Rattle.scope.proofs.Rings.{Begun}
+use Rattle.jobs.proofs.Parts.{times, op, _with_at_, H, S, P, O, Z, LN, GL, D, M, X, Tried, _gets_at_listed_performed_, _gets_at_inside_listed_performed_, inGray}
+use Rattle.jobs.proofs.Rings.{Begun}
 
 -- a header of class 2;1
 abbrev H2 : List ℕ

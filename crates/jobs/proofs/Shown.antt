@@ -7,29 +7,29 @@ use mathlib.Core.List.{List, [], _++_}
 use mathlib.Core.Bool.{true, false}
 use native.Mathlib.Omega.{arith}
 use lib.ListN.{length}
 use Rattle.scope.specs.Choice
 use Rattle.scope.specs.Iterate
 use Rattle.scope.specs.Number
 use Rattle.scope.specs.Header
 use Rattle.scope.specs.Setting.{Setting}
 use Rattle.scope.specs.Item
 use Rattle.scope.specs.Table
 use Rattle.scope.specs.Attributes
 use Rattle.scope.specs.Data
 use Rattle.scope.specs.Order
 use Rattle.scope.specs.Reading
 use Rattle.scope.specs.Arm
 use Rattle.scope.specs.Motif
 use Rattle.scope.specs.Calls
 use Rattle.scope.specs.Session
 use Rattle.scope.specs.Judge
 use Rattle.scope.specs.Names.{CloseDataSource}
 use Rattle.scope.specs.Verdict as Verd
 use Rattle.scope.specs.Claims.{Between, SameFrom}
 use Rattle.scope.proofs.Runs.{steps, steps-reach}
-use Rattle.scope.proofs.Parts.{op, H, S, E, P, O, M, X}
+use Rattle.jobs.proofs.Parts.{op, H, S, E, P, O, M, X}
 use Rattle.scope.proofs.Sessions.{isolated, alike-same}
 use Rattle.scope.proofs.Places.{between-start}
 
 -- the second pupil's session alone, behind the header; and behind a session that defines "a"
 abbrev pub alone : List ℕ

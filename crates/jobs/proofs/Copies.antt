@@ -2,7 +2,7 @@
 -- Assumes nothing.
 use Prim.Native.Nat.{ℕ}
 use mathlib.Core.List.{List, [], _∷_, _++_}
-use Rattle.scope.proofs.Parts.{H, HB, S, SB, P, Tried, try}
+use Rattle.jobs.proofs.Parts.{H, HB, S, SB, P, Tried, try}
 
 -- EndPage with this value of PageCopies, and EndSession
 abbrev ends : List ℕ → List ℕ

@@ -5,38 +5,38 @@ use mathlib.Core.Path.{_≡_, refl}
 use mathlib.Core.List.{List, [], _∷_, _++_}
 use mathlib.Core.Bool.{Bool, true, false}
 use lib.ListN.{drop}
 use Rattle.scope.specs.Choice
 use Rattle.scope.specs.Iterate
 use Rattle.scope.specs.Number
 use Rattle.scope.specs.Header
 use Rattle.scope.specs.Setting.{Setting}
 use Rattle.scope.specs.Item
 use Rattle.scope.specs.Table
 use Rattle.scope.specs.Attributes
 use Rattle.scope.specs.Data
 use Rattle.scope.specs.Order
 use Rattle.scope.specs.Reading
 use Rattle.scope.specs.Arm
 use Rattle.scope.specs.Motif
 use Rattle.scope.specs.Calls
 use Rattle.scope.specs.Session
 use Rattle.scope.specs.Judge
 use Rattle.scope.specs.Names.{EndPage, Comment, PopGS, PushGS, NewPath}
 use Rattle.scope.specs.Verdict.{Verdict, verdictOf, listOf}
 use Rattle.scope.specs.Verdict as Verd
 use Rattle.scope.specs.Plain
-use Rattle.scope.proofs.Parts.{all, times, op, H, S, E, J, P, O, Z, CUR, LN, LD, PW, D, GL, N, M, X, Tried}
-use Rattle.scope.proofs.JobsRead.{given, read}
-use Rattle.scope.proofs.JobsJudged.{judged}
-use Rattle.scope.proofs.Padded.{padded}
-use Rattle.scope.proofs.Copies.{copies}
-use Rattle.scope.proofs.Starts.{starts}
-use Rattle.scope.proofs.Halves.{halves}
-use Rattle.scope.proofs.Classes.{classes}
-use Rattle.scope.proofs.Replaced.{replacements}
-use Rattle.scope.proofs.Named.{named}
-use Rattle.scope.proofs.Patterned.{upTo, SEL, patterns, crowds}
-use Rattle.scope.proofs.Rings.{Begun, chain, rings}
+use Rattle.jobs.proofs.Parts.{all, times, op, H, S, E, J, P, O, Z, CUR, LN, LD, PW, D, GL, N, M, X, Tried}
+use Rattle.jobs.proofs.JobsRead.{given, read}
+use Rattle.jobs.proofs.JobsJudged.{judged}
+use Rattle.jobs.proofs.Padded.{padded}
+use Rattle.jobs.proofs.Copies.{copies}
+use Rattle.jobs.proofs.Starts.{starts}
+use Rattle.jobs.proofs.Halves.{halves}
+use Rattle.jobs.proofs.Classes.{classes}
+use Rattle.jobs.proofs.Replaced.{replacements}
+use Rattle.jobs.proofs.Named.{named}
+use Rattle.jobs.proofs.Patterned.{upTo, SEL, patterns, crowds}
+use Rattle.jobs.proofs.Rings.{Begun, chain, rings}
 
 -- the table
 abbrev tables : List (List Tried)

@@ -6,17 +6,17 @@ use mathlib.Core.Bool.{Bool, true, false}
 use mathlib.Core.List.{List, [], _∷_, _++_}
 use native.Mathlib.Omega.{arith}
 use lib.ListN.{length, getD}
 use Rattle.scope.specs.Choice.{between}
 use Rattle.scope.specs.Number.{digits, number}
 use Rattle.scope.specs.Header.{Header, one, mayStand, formFrom, classed, headerOf}
 use Rattle.scope.specs.Setting.{Setting}
 use Rattle.scope.specs.Item.{Kind, plain, array, other, widthOf, kindOf, Value, numbersAt, valueOf, white}
 use Rattle.scope.specs.Verdict.{every, outcomeOf}
 use Rattle.scope.specs.Claims.{valueAt, leads, isNumber, isData, ledBy, ItemFrom, first, behind-white, behind-tag, behind-value, behind-number, behind-data, SameItem, SameOutcome}
 use Rattle.scope.proofs.Apart.{clash-of}
-use Rattle.scope.proofs.Parts.{HB, SB, E, J}
-use Rattle.scope.proofs.Shown.{low}
+use Rattle.jobs.proofs.Parts.{HB, SB, E, J}
+use Rattle.jobs.proofs.Shown.{low}
 use Rattle.scope.proofs.ByteOrder.{byte-order}
 
 -- J, high byte first
 abbrev pub K : List ℕ

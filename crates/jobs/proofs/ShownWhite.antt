@@ -6,27 +6,27 @@ use mathlib.Core.Path.{_≡_, refl}
 use mathlib.Core.List.{List, [], _∷_, _++_}
 use mathlib.Core.Bool.{true, false}
 use native.Mathlib.Omega.{arith}
 use Rattle.scope.specs.Choice
 use Rattle.scope.specs.Iterate
 use Rattle.scope.specs.Number
 use Rattle.scope.specs.Header
 use Rattle.scope.specs.Item
 use Rattle.scope.specs.Table
 use Rattle.scope.specs.Attributes
 use Rattle.scope.specs.Data
 use Rattle.scope.specs.Order
 use Rattle.scope.specs.Reading
 use Rattle.scope.specs.Arm
 use Rattle.scope.specs.Motif
 use Rattle.scope.specs.Calls
 use Rattle.scope.specs.Session
 use Rattle.scope.specs.Judge
 use Rattle.scope.specs.Verdict as Verd
 use Rattle.scope.specs.Claims.{putIn, WhiteUpTo, Gap, before-item, before-number, behind-tag, behind-pair, SameButShifted}
 use Rattle.scope.proofs.Runs.{steps, steps-reach}
-use Rattle.scope.proofs.Parts.{H, S, O, P, CUR, LD, D, Z}
-use Rattle.scope.proofs.Shown.{low, performedIn}
+use Rattle.jobs.proofs.Parts.{H, S, O, P, CUR, LD, D, Z}
+use Rattle.jobs.proofs.Shown.{low, performedIn}
 use Rattle.scope.proofs.WhiteItems.{white-between-items}
 
 -- a page with a line of one point
 abbrev pub line : List ℕ

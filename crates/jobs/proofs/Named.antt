@@ -4,7 +4,7 @@
 use Prim.Native.Nat.{ℕ}
 use mathlib.Core.List.{List, [], _∷_, _++_}
 use lib.ListN.{length}
-use Rattle.scope.proofs.Parts.{times, op, H, S, P, O, Z, PW, Tried, _gets_at_listed_performed_}
+use Rattle.jobs.proofs.Parts.{times, op, H, S, P, O, Z, PW, Tried, _gets_at_listed_performed_}
 
 -- a motif of a name, under 256 bytes, and its call
 abbrev NM : (name body : List ℕ) → List ℕ

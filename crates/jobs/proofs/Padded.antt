@@ -3,7 +3,7 @@
 use Prim.Native.Nat.{ℕ}
 use mathlib.Core.List.{List, [], _∷_}
 use lib.ListN.{take, drop}
-use Rattle.scope.proofs.Parts.{all, H, S, P, O, CUR, LD, M, X, Tried, try}
+use Rattle.jobs.proofs.Parts.{all, H, S, P, O, CUR, LD, M, X, Tried, try}
 
 -- J with a zero byte put in before the byte at a place
 abbrev zeroAt : ℕ → List (List ℕ)

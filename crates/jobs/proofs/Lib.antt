@@ -1,0 +1,17 @@
+pub mod Parts
+pub mod JobsRead
+pub mod JobsJudged
+pub mod Padded
+pub mod Copies
+pub mod Starts
+pub mod Halves
+pub mod Classes
+pub mod Replaced
+pub mod Named
+pub mod Patterned
+pub mod Rings
+pub mod Jobs
+pub mod Shown
+pub mod ShownWhite
+pub mod ShownOrder
+pub mod ShownExchange
