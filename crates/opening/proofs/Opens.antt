@@ -19,7 +19,8 @@ use Rattle.patterns.specs.Numbers.{OfSession, numbersIn}
 use Rattle.state.specs.Standing.{Lent, Stands}
 use Rattle.state.specs.declared.state.State.{State}
 use Rattle.running.specs.Running.{Reaches}
-use Rattle.ruling.proofs.Turns.{turned-go, listed-go, steps-read, judged-rules, judged-count}
+use Rattle.ruling.proofs.Turns.{turned-go, listed-go, steps-read}
+use Rattle.ruling.proofs.Judgements.{judged-rules, judged-count}
 use Rattle.opening.specs.Opening.{Edge, Rests, Past, Reads, Opens}
 use Rattle.opening.proofs.Edges.{judged-edge}
 

@@ -2,4 +2,5 @@ pub mod Bytes
 pub mod Ruling
 pub mod Selecting
 pub mod Short
+pub mod Judgements
 pub mod Turns

@@ -23,7 +23,7 @@ use Rattle.arm.proofs.Clean.{clean-code}
 use Rattle.arm.specs.declared.moved.Moved.{Moved}
 use Rattle.arm.specs.declared.moved.Moved.the-variants.{No}
 use Rattle.early.specs.Earlier.{Earlies, Unbroken, early-fine, early-call, early-held, early-no}
-use Rattle.early.proofs.Breaking.{unbroken-first}
+use Rattle.early.proofs.Full.{unbroken-first}
 use Rattle.early.specs.declared.early.Early.the-variants as Early-is
 use Rattle.stream.specs.declared.judging.Made.{Made}
 use Rattle.ruling.specs.Judged.{Judgement, judged-to, judged-no}

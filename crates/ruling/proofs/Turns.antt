@@ -13,14 +13,8 @@ use Rattle.reader.specs.Reads.{operatorAs}
 use Rattle.reader.specs.declared.reading.Operator as Reader
 use Rattle.arm.specs.declared.page.Page.{Page}
 use Rattle.after.specs.Afterwards as Afterwards
-use Rattle.early.specs.Earlier.{Earlies, early-no, Passes}
-use Rattle.early.specs.declared.early.Early.the-variants as Early-is
-use Rattle.arm.specs.Holds.{PageHolds}
-use Rattle.arm.specs.declared.moved.Moved.the-variants as Moved-is
-use Rattle.ruling.specs.Judged.{Judgement, judged-to, judged-no}
 use Rattle.early.specs.declared.early.Early.{Early}
 use Rattle.place.specs.declared.place.Place.{Place}
-use Rattle.place.specs.declared.place.Busy.{Busy}
 use Rattle.scope.specs.Choice.{pick}
 use Rattle.scope.specs.Iterate.{Next, go, stop, onward}
 use Rattle.scope.specs.Order.{Phase, mayCome, rowsFit, imageOf}
@@ -38,9 +32,7 @@ use Rattle.scope.proofs.Falls.{judged-step}
 use Rattle.buffer.specs.Over.{over}
 use Rattle.buffer.specs.Listed.{BytesIn, recordsFor}
 use Rattle.buffer.proofs.Listed.{listed-more, recordsBefore-more, length-recordsFor}
-use Rattle.motif.specs.declared.kept.Kept.{Kept}
-use Rattle.place.specs.Places.{PlaceHolds, outside-holds, inside-holds}
-use Rattle.place.specs.declared.place.Place.the-variants as Place-is
+use Rattle.place.specs.Places.{PlaceHolds}
 use Rattle.state.specs.Views.{verdictAs}
 use Rattle.state.specs.Standing.{Listed, Lent, Stands, Steps, steps-go, steps-stop, Comes, endCode}
 use Rattle.state.specs.declared.verdict.Verdict.{Verdict}
@@ -174,11 +166,6 @@ module _ (set : Setting) (s : List ℕ) (room : ℕ) (d : State) where
   unfolding jobStep
   step-operator o e = rw e
 
--- the code at the end
-pub end-outside : {set : Setting} {job work t p : List ℕ} {b : Bool} {q : session.Place} → PlaceHolds set job work t p (Place-is.Outside b) q → endCode q ≡ pick b 0 27
-end-outside (outside-holds {b = true} z) = refl
-end-outside (outside-holds {b = false} z) = refl
-
 -- the walk goes on from where the code goes on, and stops with what the code stops with
 module _ (job list₀ : List ℕ) (set : Setting) (end : Outcome) where
   abbrev J : State → Outcome
@@ -253,43 +240,6 @@ comes-in job attrs work t p list₀ set d o early page n place h z x w i m =
 
 pub comes-bytes : (t p job list₀ : List ℕ) (set : Setting) (d : State) (o : Operator) (early : Early) (page : Page) (n : ℕ) → Comes t p job list₀ set d o early page n → BytesIn (o .attrs)
 comes-bytes t p job list₀ set d o early page n m = read-bytes (contextOf every set (d .place)) job (d .at) o (m .read)
-
-pub end-inside : {set : Setting} {job work t p : List ℕ} {o : Bool} {k : Kept} {b : Busy} {q : session.Place} → PlaceHolds set job work t p (Place-is.Inside o k b) q → endCode q ≡ 27
-end-inside (inside-holds a b c d e) = refl
-
--- what a judgement says
-pub judged-refused : {c : Case} {inner code : ℕ} → Judgement c inner (Moved-is.No code) → (room : ℕ) → firstBroken every c (rules room) ≡ refused code inner
-judged-refused (judged-no f) = f
-
-pub judged-rules : {c : Case} {inner n : ℕ} {p : Page} → Judgement c inner (Moved-is.To p n) → (room : ℕ)
-    → firstBroken every c (rules room) ≡ pick (roomOver room c) (refused 28 outer) Refusal.none
-judged-rules (judged-to f a b e) = f
-
-pub judged-page : {c : Case} {inner n : ℕ} {p : Page} → Judgement c inner (Moved-is.To p n) → PageHolds p (c .seen .page)
-judged-page (judged-to f a b e) = a
-
-pub judged-count : {c : Case} {inner n : ℕ} {p : Page} → Judgement c inner (Moved-is.To p n) → n ≡ c .seen .count
-judged-count (judged-to f a b e) = b
-
-abbrev IsNone : Refusal → Type 0
-IsNone Refusal.none = Unit {0}
-IsNone (refused code inner) = ⊥
-
-unrefused : {A : Type 0} {code inner : ℕ} → refused code inner ≡ Refusal.none → A
-unrefused e = absurd (subst⁻¹ IsNone e tt)
-
--- with room enough nothing is left to break
-enough : (c : Case) → pick (roomOver (c .records * 16) c) (refused 28 outer) Refusal.none ≡ Refusal.none
-unfolding roomOver
-enough c = let h : c .records * 16 ≤ c .records * 16 = omega arith in rw (le-ltb (c .records * 16) (c .records * 16) h)
-
--- what is judged to go on was not refused before
-pub judged-passes : {t p : List ℕ} {c : Case} {inner n : ℕ} {page : Page} (early : Early) → Judgement c inner (Moved-is.To page n) → Earlies t p c early → Passes early
-unfolding rules
-judged-passes Early-is.Fine j e = tt
-judged-passes (Early-is.Call v k) j e = tt
-judged-passes (Early-is.Held made) j e = tt
-judged-passes {c = c} (Early-is.No code inner) (judged-to f a b k) (early-no g l) = unrefused (sym (g _) ∙ f (c .records * 16) ∙ enough c)
 
 -- a step over an operator that was read
 pub steps-read : {job list₀ : List ℕ} {l : Lent} {t : Step} (set : Setting) (d : State) (o : Operator) → operatorAt (contextOf every set (d .place)) job (d .at) ≡ Read.operator o

@@ -41,7 +41,8 @@ use Rattle.running.specs.declared.running.Run.{Run}
 use Rattle.state.specs.declared.state.State.{State}
 use Rattle.running.proofs.Alone.{Unmoved, drawing-on, drawn-on, alone, read-alone, judged-alone, place-alone}
 use Rattle.running.proofs.EndPoint.{judged-line, place-line}
-use Rattle.ruling.proofs.Turns.{turned-go, listed-go, steps-read, judged-rules, judged-page, judged-count}
+use Rattle.ruling.proofs.Turns.{turned-go, listed-go, steps-read}
+use Rattle.ruling.proofs.Judgements.{judged-rules, judged-page, judged-count}
 
 -- no operator, and one run after another
 pub runs-none : {job list : List ℕ} {high : Bool} {st : State} → Runs job high list list st st

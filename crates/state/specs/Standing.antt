@@ -49,6 +49,23 @@ pub data Steps (set : Setting) (job list₀ : List ℕ) (l : Lent) : Step → Ne
   steps-go : {t : State} {d : scope.State} → Stands set job list₀ l t d → Steps set job list₀ l (Go t) (go d)
   steps-stop : {v : Verdict} {e : scope.Outcome} → verdictAs v ≡ verdict.told e → Listed list₀ (e .state .past) (l .list) → Steps set job list₀ l (Stop v) (stop e)
 
+-- the four lists, each by its name
+abbrev pub lent : (table patterns work list : List ℕ) → Lent
+lent table patterns work list = record { table = table; patterns = patterns; work = work; list = list }
+
+-- before, after, one step: wherever the code stands as the definition does, with these lists lent, and what is asked there holds, one step brings both on alike
+abbrev pub StepsOn : (set : Setting) (job : List ℕ) (before after : Lent) → State → (asks : List ℕ → scope.State → Type 0) → Step
+    → (next : (room : ℕ) → scope.State → Next scope.State scope.Outcome) → Type 0
+StepsOn set job before after st asks r next =
+    (d : scope.State) (list₀ : List ℕ) → length list₀ ≡ length (before .list) → Stands set job list₀ before st d → asks list₀ d
+    → Steps set job list₀ after r (next (length list₀) d)
+
+-- the verdict and the list of a job that is judged to its end from there
+abbrev pub Ends : (set : Setting) (job list₀ : List ℕ) → scope.State → Verdict → (list : List ℕ) → Type 0
+Ends set job list₀ d r list =
+    (verdictAs r ≡ verdict.told (scope.judgedFrom verdict.every set job (length list₀) d))
+    × Listed list₀ (scope.judgedFrom verdict.every set job (length list₀) d .state .past) list
+
 -- the place of the next item lies within the job, and there are at most 17 records for each byte passed
 abbrev pub Ready : (len : ℕ) → State → Type 0
 Ready len st = (st .at ≤ len) × (st .records ≤ st .at * 17)

@@ -15,7 +15,7 @@ use Rattle.scope.specs.Judge.{Case, caseOf, outer}
 use Rattle.scope.specs.Session.{sessionOf}
 use Rattle.arm.specs.declared.moved.Moved.{Moved}
 use Rattle.early.specs.Earlier.{Earlies, Unbroken}
-use Rattle.early.proofs.Breaking.{passes-unbroken}
+use Rattle.early.proofs.Full.{passes-unbroken}
 use Rattle.early.specs.declared.early.Early.{Early}
 use Rattle.early.specs.declared.early.Early.the-variants as Early-is
 use Rattle.early.proofs.early.Early.{the-type}

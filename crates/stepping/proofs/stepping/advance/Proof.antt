@@ -55,7 +55,7 @@ returns c =
         refl,
         (
           tt,
-          λ d list₀ l z h.
+          λ d list₀ l h z.
               steps-end (settingAs (a .set)) d (c .stop .result) _ (omega (arith, c .before .before .before .is-over .ensures (c .before .before .if1 .taken), h .at)) (h .listed)
               (c .before .end-code .ensures (d .place) _ _ _ _ _ (h .place))
               (c .stop .ensures d (omega (arith, st .pre)) (omega (arith, st .pre)) (h .records) (h .performed)),
@@ -107,7 +107,7 @@ returns-2 c =
         f .operator-at .ensures .0,
         (
           tt,
-          λ d list₀ l z h.
+          λ d list₀ l h z.
               let set : Setting = settingAs (a .set) in
               let q = read-is f _ (c .before .before .code .given .1) list₀ _ d z h in
               let p = read-placed (contextOf every (settingAs (a .set)) (d .place)) (a .job .now) (d .at) _ _ q in
@@ -127,7 +127,7 @@ returns-3 c =
         f .operator-at .ensures .0,
         (
           tt,
-          λ d list₀ l z h.
+          λ d list₀ l h z.
               let set : Setting = settingAs (a .set) in
               let q = read-is f _ (c .before .before .enum-told .given .1) list₀ _ d z h in
               stopped (c .stop3 .result) (jobStep every set (a .job .now) (length list₀) d) (endCode (d .place)) (length (a .job .now)) outer (h .listed) (step-ended set (a .job .now) (length list₀) d q)
@@ -156,10 +156,10 @@ returns-4 c =
         f .operator-at .ensures .0,
         (
           g .perform .ensures .1 .0,
-          λ d list₀ l z h.
+          λ d list₀ l h z.
               let set : Setting = settingAs (a .set) in
               let q = read-is f _ e list₀ _ d z h in
-              steps-read set d _ q (g .perform .ensures .1 .1 d list₀ l (record { long = f .operator-at .ensures .0 ∙ z; few = w .4 }) (w .3) h q),
+              steps-read set d _ q (g .perform .ensures .1 .1 d list₀ l h (record { long = f .operator-at .ensures .0 ∙ z; few = w .4 }, w .3, q)),
         ),
       ),
     )

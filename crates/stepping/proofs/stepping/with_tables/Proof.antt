@@ -84,7 +84,7 @@ loop-again c =
       λ d first s h.
           let j = i .6 d first s h in
           let g = r .run-on .ensures .leads first _ _ _ set (j .0) refl (s ∙ sym (i .1)) (j .1 .0) in
-          turned-go (a .job .now) first set _ _ _ (g .there) (g .judged ∙ j .1 .1) (rw e at (n .1 .1 .1 (g .there) first (s ∙ sym l) (i .2) (g .stands))),
+          turned-go (a .job .now) first set _ _ _ (g .there) (g .judged ∙ j .1 .1) (rw e at (n .1 .1 .1 (g .there) first (s ∙ sym l) (g .stands) (i .2))),
     )
 
 enum-known-verdict : tie.Need-enum-known-verdict Inv-loop μ-loop
@@ -111,7 +111,7 @@ returns c =
       λ d first s h.
           let j = i .6 d first s h in
           let g = r .run-on .ensures .leads first _ _ _ set (j .0) refl (s ∙ sym (i .1)) (j .1 .0) in
-          turned-stop (a .job .now) first set _ _ _ (g .there) (g .judged ∙ j .1 .1) (rw e at (n .1 .1 .1 (g .there) first (s ∙ sym l) (i .2) (g .stands))),
+          turned-stop (a .job .now) first set _ _ _ (g .there) (g .judged ∙ j .1 .1) (rw e at (n .1 .1 .1 (g .there) first (s ∙ sym l) (g .stands) (i .2))),
     )
 
 pub with-tables-spec : {M : Type 1} → statement M

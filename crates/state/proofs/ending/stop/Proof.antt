@@ -2,8 +2,8 @@
 -- Assumes nothing.
 use mathlib.Core.Path.{_∙_}
 use borrow.Author.Needs.{needs}
-use Rattle.stepping.proofs.stepping.stop.Statement.{statement}
-use Rattle.stepping.proofs.stepping.stop.Tie as tie
+use Rattle.state.proofs.ending.stop.Statement.{statement}
+use Rattle.state.proofs.ending.stop.Tie as tie
 
 told-requires : tie.Need-told-requires
 told-requires c κs = search needs

@@ -1,10 +1,10 @@
 -- `end_code` meets its contract.
 -- Assumes nothing.
 use mathlib.Core.Path.{sym, _∙_}
-use Rattle.ruling.proofs.Turns.{end-outside, end-inside}
+use Rattle.state.proofs.Ends.{end-outside, end-inside}
 use borrow.Author.Needs.{needs}
-use Rattle.stepping.proofs.stepping.end_code.Statement.{statement}
-use Rattle.stepping.proofs.stepping.end_code.Tie as tie
+use Rattle.state.proofs.ending.end_code.Statement.{statement}
+use Rattle.state.proofs.ending.end_code.Tie as tie
 
 enum-known-place : tie.Need-enum-known-place
 enum-known-place c = search needs

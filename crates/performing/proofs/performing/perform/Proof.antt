@@ -10,10 +10,11 @@ use Rattle.scope.specs.Judge.{contextOf, refusedAt, onRead}
 use Rattle.scope.specs.Setting.{Setting}
 use Rattle.reader.specs.Reads.{operatorAs}
 use Rattle.ruling.specs.Judged.{innerOf}
-use Rattle.ruling.proofs.Turns.{read-may, stopped, step-refused, judged-refused, judged-rules, judged-page, judged-count, judged-passes, stands-kept}
+use Rattle.ruling.proofs.Turns.{read-may, stopped, step-refused, stands-kept}
+use Rattle.ruling.proofs.Judgements.{judged-refused, judged-rules, judged-page, judged-count, judged-passes}
 use borrow.Author.Needs.{needs}
-use Rattle.stepping.proofs.stepping.perform.Statement.{statement}
-use Rattle.stepping.proofs.stepping.perform.Tie as tie
+use Rattle.performing.proofs.performing.perform.Statement.{statement}
+use Rattle.performing.proofs.performing.perform.Tie as tie
 
 early-of-requires : tie.Need-early-of-requires
 early-of-requires c κs = search needs
@@ -49,7 +50,10 @@ returns c =
       record { work-long = refl; list-long = refl; rest = refl },
       (
         tt,
-        λ d list₀ l z w h q.
+        λ d list₀ l h x.
+            let z = x .0 in
+            let w = x .1 in
+            let q = x .2 in
             let o = operatorAs (a .o) (a .attrs .now) in
             let set : Setting = settingAs (a .set) in
             let m = read-may (contextOf every (settingAs (a .set)) (d .place)) (a .job .now) (d .at) o q in
@@ -79,14 +83,17 @@ returns-2 c =
       g .go-on .ensures .0,
       (
         g .go-on .ensures .1 .0,
-        λ d list₀ l z w h q.
+        λ d list₀ l h x.
+            let z = x .0 in
+            let w = x .1 in
+            let q = x .2 in
             let o = operatorAs (a .o) (a .attrs .now) in
             let m = read-may (contextOf every (settingAs (a .set)) (d .place)) (a .job .now) (d .at) o q in
             let k = stands-kept (e .early-of .ensures .1 .1 .0) h in
             let r = e .early-of .ensures .1 .1 .1 (d .place) d (h .place) z (st .pre .1) m in
             let n = rw (g .before .before .before .before .before .before .page .given .1) at (j .judge .ensures (d .place) d _ _ (k .place) z (h .performed) m r) in
-            g .go-on .ensures .1 .1 d list₀ l z w k
-            (record { read = q; passes = judged-passes (e .early-of .result) n r; earlier = r; drawn = judged-page n; counts = judged-count n; rules = judged-rules n (length list₀) }),
+            g .go-on .ensures .1 .1 d list₀ l k
+            (z, w, record { read = q; passes = judged-passes (e .early-of .result) n r; earlier = r; drawn = judged-page n; counts = judged-count n; rules = judged-rules n (length list₀) }),
       ),
     )
 

@@ -10,8 +10,8 @@ use Rattle.reader.specs.Reads.{operatorAs}
 use Rattle.items.proofs.Rows.{length-rows}
 use Rattle.ruling.proofs.Turns.{listed-no, listed-go, comes-in, comes-bytes}
 use borrow.Author.Needs.{needs}
-use Rattle.stepping.proofs.stepping.go_on.Statement.{statement}
-use Rattle.stepping.proofs.stepping.go_on.Tie as tie
+use Rattle.performing.proofs.performing.go_on.Statement.{statement}
+use Rattle.performing.proofs.performing.go_on.Tie as tie
 
 list-operator-requires : tie.Need-list-operator-requires
 list-operator-requires c κs = search needs
@@ -31,7 +31,10 @@ returns c =
       record { work-long = refl; list-long = e .list-operator .ensures .0; rest = refl },
       (
         tt,
-        λ d list₀ l z w h m.
+        λ d list₀ l h x.
+            let z = x .0 in
+            let w = x .1 in
+            let m = x .2 in
             let o = operatorAs (a .allowed .o) (a .attrs .now) in
             let y = e .list-operator .ensures .1 .0 z (comes-bytes (a .motifs .now) (a .patterns .now) (a .job .now) list₀ (settingAs (a .set)) d o (a .allowed .passed .early) (a .allowed .passed .page) (a .allowed .performed) m) in
             listed-no (a .job .now) list₀ _ (a .st) d (settingAs (a .set)) o (a .allowed .o .count) h (sym (length-rows (a .attrs .now) (a .allowed .o .count))) l (m .rules) _ (c .stop .result)
@@ -66,7 +69,10 @@ returns-2 c =
       record { work-long = k .0; list-long = e .list-operator .ensures .0; rest = k .1 .1 .1 .0 },
       (
         (omega (arith, st .pre), omega (arith, st .pre), omega (arith, st .pre)),
-        λ d list₀ l z w h m.
+        λ d list₀ l h x.
+            let z = x .0 in
+            let w = x .1 in
+            let m = x .2 in
             let o = operatorAs (a .allowed .o) (a .attrs .now) in
             let set : Setting = settingAs (a .set) in
             let y = e .list-operator .ensures .1 .0 z (comes-bytes (a .motifs .now) (a .patterns .now) (a .job .now) list₀ set d o (a .allowed .passed .early) (a .allowed .passed .page) (a .allowed .performed) m) in

@@ -1,0 +1,4 @@
+// One operator of a job that was read: judged, listed and performed.
+mod performing;
+
+pub use performing::perform;
