@@ -40,7 +40,8 @@ use Rattle.place.specs.declared.place.Place.the-variants.{Outside, Inside}
 use Rattle.after.proofs.Defining.{defined-other, few-after, begin-place, not-full, place-after}
 use Rattle.after.proofs.Joined.{block-length}
 use Rattle.after.proofs.Storing.{stored-none, selects-none, stored-beside}
-use Rattle.early.proofs.Breaking.{passes-unbroken, begin-room, read-few}
+use Rattle.early.proofs.Breaking.{begin-room, read-few}
+use Rattle.early.proofs.Full.{passes-unbroken}
 use Rattle.early.proofs.Tags.{page-not, page-not-over, image-not-over, pattern-not-over}
 
 module _ (job attrs : List ℕ) (by : Setting) (o : Operator) (work t p : List ℕ) where

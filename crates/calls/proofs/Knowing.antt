@@ -13,7 +13,7 @@ use Rattle.motif.specs.Held.{Keeps, InRow}
 use Rattle.motif.proofs.Rowed.{in-below}
 use Rattle.patterns.specs.Numbers.{OfPage, OfSession, knownIn, SameRows}
 use Rattle.patterns.specs.Selects.{wantsFrom, missingOf, Selects}
-use Rattle.patterns.proofs.Cells.{quiet-too}
+use Rattle.patterns.proofs.Forgets.{quiet-too}
 
 module _ {p p₁ : List ℕ} (s : SameRows p p₁) where
   missing-same : (ns : List ℕ) → missingOf p ns ≡ false → missingOf p₁ ns ≡ false

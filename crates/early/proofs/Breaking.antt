@@ -6,19 +6,16 @@ use mathlib.Core.Bool.{Bool, true, false, _&&_, _||_}
 use mathlib.Core.List.{List, []}
 use native.Mathlib.Omega.{arith}
 use lib.ListN.{length}
-use lib.Dec.{eqb, leb, ltb}
-use borrow.Author.Tests.{eq-eqb, ne-eqb, le-leb, lt-leb, lt-ltb, le-ltb, ltb-false}
+use lib.Dec.{eqb, ltb}
+use borrow.Author.Tests.{eq-eqb, ne-eqb, lt-ltb, le-ltb, ltb-false}
 use Rattle.scope.specs.Setting.{Setting}
-use Rattle.scope.specs.Motif as scope-motif
 use Rattle.scope.specs.Choice.{among}
-use Rattle.scope.specs.Motif.{Motif, Own, heldAs, isHeld, bytesHeld, hatchOf, Judged, valid, faulty, motifOf}
+use Rattle.scope.specs.Motif.{Motif, Own, bytesHeld, hatchOf, Judged, valid, faulty, motifOf}
 use Rattle.scope.specs.Calls.{unfolded, Met, nothing, met}
-use Rattle.scope.specs.Order.{mayCome}
-use Rattle.scope.specs.Session as scope
-use Rattle.scope.specs.Session.{Session, sessionOf, phaseBusy, phaseOf, pageOf, joinedOf}
-use Rattle.scope.specs.Judge.{State, Case, caseOf, judgedAt, metAt, Rule, Refusal, firstBroken, ownOr, outer, tooMuch, noPlace, numbersOf, someMissing, patternMissing, nameMissing, callsItself, tooDeep, early}
+use Rattle.scope.specs.Session.{Session, pageOf, joinedOf}
+use Rattle.scope.specs.Judge.{State, Case, caseOf, judgedAt, metAt, Refusal, firstBroken, ownOr, outer, tooMuch, noPlace, numbersOf, someMissing, patternMissing, nameMissing, callsItself, tooDeep, early}
 use Rattle.scope.specs.Attributes.{bytesIn}
-use Rattle.items.specs.Rows.{rowsOf, Sized}
+use Rattle.items.specs.Rows.{rowsOf}
 use Rattle.reader.specs.Reads.{operatorAs}
 use Rattle.reader.specs.declared.reading.Operator.{Operator}
 use Rattle.order.specs.Pictures.{hatchAs}
@@ -26,60 +23,21 @@ use Rattle.order.specs.declared.picture.Hatch.{Hatch}
 use Rattle.patterns.specs.Numbers.{OfPage, OfSession, OfMotif, numbersIn, collected}
 use Rattle.patterns.specs.Selects.{selectsIn, wantsFrom}
 use Rattle.motif.specs.Held.{Finds, finds-at, finds-none}
-use Rattle.motif.specs.Stored.{Stored, full}
+use Rattle.motif.specs.Stored.{full}
 use Rattle.motif.specs.declared.held.Where.the-variants.{At, Nowhere}
-use Rattle.motif.specs.declared.kept.Kept.{Kept}
-use Rattle.scope.specs.Verdict.{every}
 use Rattle.scope.proofs.Placed.{motif-placed}
 use Rattle.calls.specs.Judged.{Calls, calls-sum, calls-missing, calls-again, calls-deep}
 use Rattle.calls.specs.declared.calls.Called.the-variants as Called-is
 use Rattle.stream.specs.Judging.{Judges, judges-valid, judges-faulty}
 use Rattle.stream.specs.declared.judging.Made.{Made}
 use Rattle.stream.specs.declared.judging.Judged.the-variants.{Valid, Faulty}
-use Rattle.place.specs.Places.{Hatches, BusyHolds, PlaceHolds, outside-holds, inside-holds}
-use Rattle.place.specs.declared.place.Busy.{Busy}
-use Rattle.place.specs.declared.place.Place.the-variants.{Outside, Inside}
-use Rattle.early.proofs.Tags as tags
 use Rattle.early.proofs.Places.{taken, few-free, again-free, new-taken, place-other, place-begin}
 use Rattle.early.proofs.Wanting.{call-wants}
 use Rattle.early.specs.Hatched.{Hatched}
-use Rattle.early.specs.Earlier.{Passes, before, Unbroken, Earlies, EarliesIn, early-fine, early-call, early-held, early-no}
+use Rattle.early.specs.Earlier.{Earlies, EarliesIn, early-fine, early-call, early-held, early-no}
 use Rattle.early.specs.declared.early.Early.the-variants.{Fine, Call, Held, No}
-use Rattle.early.specs.declared.early.Early.{Early}
 use Rattle.summary.specs.Sums.{SumsAs}
-
--- where none of these rules is broken, the first broken is the first of the others
-pub unbroken-first : {c : Case} → Unbroken c → (rest : List Rule) → firstBroken every c (before rest) ≡ firstBroken every c rest
-unfolding firstBroken early nameMissing callsItself tooDeep
-unbroken-first u rest = rw (u .room, u .place) (u .sound _ ∙ rw (u .met))
-
--- what passes is not broken
-pub passes-unbroken : {t p : List ℕ} {c : Case} {e : Early} → Earlies t p c e → Passes e → Unbroken c
-passes-unbroken (early-fine a b u) z = u
-passes-unbroken (early-call a b d u) z = u
-passes-unbroken (early-held a m k n u) z = u
-passes-unbroken (early-no f l) z = absurd z
-
-first-not : (t : Bool) → t || false ≡ false → t ≡ false
-first-not true e = e
-first-not false e = refl
-
--- there is a row for one more, the name is held, or neither
-pub few-full : (ms : List Motif) (name : List ℕ) → length ms < 64 → full ms name ≡ false
-unfolding full
-few-full ms name h = rw (lt-leb 64 (length ms) h)
-
-held-full : (ms : List Motif) (name : List ℕ) {m : Motif} → heldAs name ms ≡ scope-motif.Held.is m → full ms name ≡ false
-unfolding full isHeld
-held-full ms name e = rw e (last (leb 64 (length ms)))
-  where
-    last : (b : Bool) → b && false ≡ false
-    last true = refl
-    last false = refl
-
-new-full : (ms : List Motif) (name : List ℕ) → 64 ≤ length ms → heldAs name ms ≡ scope-motif.Held.none → full ms name ≡ true
-unfolding full isHeld
-new-full ms name h e = rw (le-leb 64 (length ms) h, e)
+use Rattle.early.proofs.Full.{first-not, few-full, held-full, new-full}
 
 module _ (t p : List ℕ) (c : Case) where
   no-19 : tooMuch c ≡ true → Earlies t p c (No 19 outer)
@@ -322,20 +280,3 @@ module _ (set : Setting) (t p job attrs : List ℕ) (x : Session) (o : Operator)
         let k : place ≤ length s = motif-placed set s code place f in
         let g : motifOf set (joinedOf (x .busy)) ≡ faulty code place = rw e at f in
         λ st. no-own t p (of-it st) (ends-free st) (ends-place st) (made-end st ∙ g) (omega arith)
-
--- an operator between sessions
-pub outer-fine : (set : Setting) {job work t p : List ℕ} {b : Bool} (attrs : List ℕ) (q : scope.Place) (o : Operator) (st : State)
-    → PlaceHolds set job work t p (Outside b) q → mayCome (phaseOf q) (sessionOf q .opened) (o .tag) ≡ true → Earlies t p (caseOf set job st (sessionOf q) (operatorAs o attrs)) Fine
-unfolding phaseOf EarliesIn
-outer-fine set {job} {t = t} {p = p} attrs q o st (outside-holds k) m =
-    let n : (k : ℕ) → eqb k 0x41 ≡ false → o .tag ≡ k → ⊥ = λ k e. tags.first-not false (o .tag) k e m in
-    fine-in set t p job attrs scope.opening o (n 0x5b refl) (n 0x5c refl) (n 0x5d refl) (n 0x5e refl) (n 0xb3 refl) st
-
--- an operator in a session
-pub inner-early : (set : Setting) {job work t p r attrs : List ℕ} {i : Bool} {kept : Kept} {y : Busy} (q : scope.Place) (o : Operator) (st : State) (e : Early)
-    → ((x : Session) → Stored set work t kept (x .held) → Hatches p (x .held) (x .patterns) → BusyHolds job work p kept (x .held) y (x .busy)
-    → Sized attrs (o .count) → 16384 ≤ length work → mayCome (phaseBusy (x .busy)) (x .opened) (o .tag) ≡ true → EarliesIn set t r job attrs x o e)
-    → PlaceHolds set job work t p (Inside i kept y) q → Sized attrs (o .count) → 16384 ≤ length work
-    → mayCome (phaseOf q) (sessionOf q .opened) (o .tag) ≡ true → Earlies t r (caseOf set job st (sessionOf q) (operatorAs o attrs)) e
-unfolding phaseOf EarliesIn
-inner-early set q o st e f (inside-holds {x = x} v u k h y) z l m = f x k h y z l m st

@@ -1,4 +1,6 @@
+pub mod Full
 pub mod Breaking
+pub mod Around
 pub mod Parts
 pub mod Places
 pub mod Tags

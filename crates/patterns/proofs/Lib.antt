@@ -1,2 +1,4 @@
 pub mod Cells
+pub mod Copies
+pub mod Forgets
 pub mod Enough

@@ -2,7 +2,7 @@
 -- behind u.
 -- Assumes nothing.
 use Prim.Native.Nat.{ℕ, zero, suc, _+_, _-_, _*_, _≤_, _<_}
-use mathlib.Core.Path.{_≡_, refl, sym, ap, subst, subst⁻¹}
+use mathlib.Core.Path.{_≡_, refl, sym, ap, _∙_, subst, subst⁻¹}
 use mathlib.Core.Bool.{Bool, true, false, _||_, true≢false}
 use mathlib.Core.List.{List, [], _∷_, _++_}
 use native.Mathlib.Omega.{arith}
@@ -15,7 +15,25 @@ use Rattle.scope.specs.Number.{digits, place, number}
 use Rattle.scope.specs.Item.{Kind, plain, array, other, Value, numbersAt, elementsAt, countedAt, arrayAt, valueOf, widthOf, kindOf}
 use Rattle.scope.specs.Item.{Attribute, Pair, numbered, numberAt, pairOf, pairAt, white, spaces, after}
 use Rattle.scope.specs.Table.{A}
+use Rattle.scope.specs.Attributes.{Two}
 use Rattle.scope.proofs.Ends.{pick-all, after-le}
+
+-- the numbers of a value of this tag, at most
+pub two-at-most : (t : ℕ) → pick (eqb t 0xc0) 1 2 ≤ 2
+two-at-most t = pick-all (λ k. k ≤ 2) (eqb t 0xc0) (λ _. omega arith) (λ _. omega arith)
+
+pub pick-when : {A : Type 0} (b : Bool) (x y z : A) → (b ≡ true → x ≡ y) → pick b x z ≡ pick b y z
+pick-when true x y z h = h refl
+pick-when false x y z h = refl
+
+-- what is made of two numbers, whichever they are
+pub pick-two : {A : Type 0} (f : Two → A) (b : Bool) {x y z t : Two} → (b ≡ true → f x ≡ f y) → (b ≡ false → f z ≡ f t) → f (pick b x z) ≡ f (pick b y t)
+pick-two f true h k = h refl
+pick-two f false h k = k refl
+
+pub or-left : (a b : Bool) → a || b ≡ true → b ≡ false → a ≡ true
+or-left true b e f = refl
+or-left false b e f = absurd (true≢false (sym e ∙ f))
 
 digits-upto : (d e : ℕ → ℕ) (k : ℕ) → ((j : ℕ) → j < k → d j ≡ e j) → digits d k ≡ digits e k
 unfolding digits

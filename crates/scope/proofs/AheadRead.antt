@@ -2,7 +2,7 @@
 -- Assumes nothing.
 use Prim.Native.Nat.{ℕ, suc, _+_, _-_, _≤_, _<_}
 use mathlib.Core.Path.{_≡_, refl, sym, ap, _∙_, subst}
-use mathlib.Core.Bool.{Bool, true, false, not, _&&_, _||_, true≢false}
+use mathlib.Core.Bool.{Bool, true, not, _&&_, _||_}
 use mathlib.Core.List.{List, [], _∷_, _++_}
 use native.Mathlib.Omega.{arith}
 use borrow.Author.Tests.{leb-true, leb-false, le-leb, lt-leb, eqb-true}
@@ -13,35 +13,18 @@ use Rattle.scope.specs.Choice.{pick, between}
 use Rattle.scope.specs.Number.{place, number}
 use Rattle.scope.specs.Item.{Attribute, Scan, kindOf, widthOf}
 use Rattle.scope.specs.Table.{Takes, E, N, P, B, A, D, M, M2, L, Rule, Row, Line, Ruled, table, lineIn, ruleIn}
-use Rattle.scope.specs.Attributes.{longBytes, longIn, Fault, fine, bad, has, Two, reals, twoAt, wholeIn, pointIn, sizesIn, firstOf, typeTaken, inRange, attributeCode, oneByOne, valueIn, bytesIn}
+use Rattle.scope.specs.Attributes.{longBytes, longIn, Fault, fine, bad, has, reals, twoAt, wholeIn, pointIn, sizesIn, firstOf, typeTaken, inRange, attributeCode, oneByOne, valueIn, bytesIn}
 use Rattle.scope.specs.Data.{padOf, blockDue, Image, Due, Found, dueOf, blockOf, blockAt}
 use Rattle.scope.specs.Order.{lengthFits, mayCome, imageOf, rowsFit}
 use Rattle.scope.specs.Reading.{Context, Operator, Read, withBlock, withData, asWhole, withAttributes, withLine, scanned, operatorAt}
 use Rattle.scope.specs.Claims.{cutOff}
 use Rattle.scope.proofs.Ends.{pick-all, GoodRead, with-line-good}
-use Rattle.scope.proofs.AheadItems.{pick-both, longer, byte-cut, number-cut, CutPlace, within, past, after-cut, Inside, AllIn, none, more, all-up}
+use Rattle.scope.proofs.AheadItems.{two-at-most, pick-when, pick-two, or-left, pick-both, longer, byte-cut, number-cut, CutPlace, within, past, after-cut, Inside, AllIn, none, more, all-up}
 use Rattle.scope.proofs.AheadScan.{CutScan, BeyondScan, ShortScan, scan-cut}
 
 module _ (u v : List ℕ) where
   abbrev w : List ℕ
   w = u ++ v
-
-  -- what is looked at of attributes that stand in u
-  two-at-most : (t : ℕ) → pick (eqb t 0xc0) 1 2 ≤ 2
-  two-at-most t = pick-all (λ k. k ≤ 2) (eqb t 0xc0) (λ _. omega arith) (λ _. omega arith)
-
-  pick-when : {A : Type 0} (b : Bool) (x y z : A) → (b ≡ true → x ≡ y) → pick b x z ≡ pick b y z
-  pick-when true x y z h = h refl
-  pick-when false x y z h = refl
-
-  -- what is made of two numbers, whichever they are
-  pick-two : {A : Type 0} (f : Two → A) (b : Bool) {x y z t : Two} → (b ≡ true → f x ≡ f y) → (b ≡ false → f z ≡ f t) → f (pick b x z) ≡ f (pick b y t)
-  pick-two f true h k = h refl
-  pick-two f false h k = k refl
-
-  or-left : (a b : Bool) → a || b ≡ true → b ≡ false → a ≡ true
-  or-left true b e f = refl
-  or-left false b e f = absurd (true≢false (sym e ∙ f))
 
   module _ (high : Bool) where
     -- two reals lie in u, all eight bytes

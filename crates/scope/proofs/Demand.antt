@@ -31,7 +31,8 @@ use Rattle.scope.proofs.Falls.{judged-step}
 use Rattle.scope.proofs.Asks.{Asks, alike, failed, closed, read-asks}
 use Rattle.scope.proofs.Rows.{Around, Clean, armOf, row-clean, clean-row, comes-append, deeds-length, walk-count}
 use Rattle.scope.proofs.Codes.{end-state, not-coded, GoodJudged, judged-good, Refuses, not-so, so, broken-coded, stateCode, around, Laid, laid, layout-none, clean-none, none-clean, GoodHeader, header-good}
-use Rattle.scope.proofs.Stands.{doingOf, Shaped, shaped, row-shaped, standing, stands}
+use Rattle.scope.proofs.Stands.{standing, stands}
+use Rattle.scope.proofs.Shaped.{doingOf, Shaped, shaped, row-shaped}
 use Rattle.scope.specs.Sound.{Sound, sound-none}
 use Rattle.scope.proofs.Sound.{knownOf}
 use Rattle.scope.proofs.Runs.{runs-of, ends-state, runs-grow}

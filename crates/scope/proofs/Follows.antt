@@ -19,7 +19,8 @@ use Rattle.scope.specs.Judge.{State, caseOf, after, judgedAt}
 use Rattle.scope.specs.Plain.{Known, Doing, doingAfter, learnt, knownAfter, Unrolled, deeds, turnOf, Deed, deedsFor, onOperator, phaseAt, performed}
 use Rattle.scope.proofs.Codes.{Valid, Laid}
 use Rattle.scope.proofs.Apart.{clash-of, differs}
-use Rattle.scope.proofs.Stands.{doingBusy, doingOf, standing, stands}
+use Rattle.scope.proofs.Stands.{standing, stands}
+use Rattle.scope.proofs.Shaped.{doingBusy, doingOf}
 use Rattle.scope.specs.Sound.{Sound, sound-none}
 use Rattle.scope.proofs.Sound.{knownOf, row-again, kept-known, kept-sound}
 

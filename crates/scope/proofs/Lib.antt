@@ -14,6 +14,7 @@ pub mod Placed
 pub mod Asks
 pub mod Codes
 pub mod Buffers
+pub mod Shaped
 pub mod Stands
 pub mod Follows
 pub mod Gathered

@@ -3,7 +3,7 @@
 use Prim.Native.Nat.{ℕ}
 use mathlib.Core.Path.{_≡_, refl, sym, ap, _∙_, subst, subst⁻¹}
 use mathlib.Core.Bool.{Bool, true, false, not, _&&_, _||_}
-use mathlib.Core.List.{List, [], _∷_}
+use mathlib.Core.List.{List, []}
 use borrow.Author.Tests.{eqb-true}
 use lib.Dec.{eqb}
 use Rattle.scope.specs.Choice.{pick, among}
@@ -12,39 +12,15 @@ use Rattle.scope.specs.Order.{mayCome, drawn, between-sessions, in-sessi
 use Rattle.scope.specs.Reading.{Operator}
 use Rattle.scope.specs.Arm.{Page, Seen, blank, actOf, effectOf, done, walk, step, from, Stroke}
 use Rattle.scope.specs.Motif.{Motif, Picture}
-use Rattle.scope.specs.Calls.{unfolded}
 use Rattle.scope.specs.Setting.{Setting}
 use Rattle.scope.specs.Session.{Busy, resting, reading, drawing, Session, Place, outside, inside, sessionOf, phaseOf, phaseBusy, phaseDrawing, pageOf, pagePatterns, defined, definedAfter, rowFor, sessionAfter, placeAfter}
 use Rattle.scope.specs.Judge.{State, Case, caseOf, after}
 use Rattle.scope.specs.Plain.{Turn, stays, opens, closes, begins, ends, leaves, defines, Doing, endsPattern, turnOf, openedBy, pageBy, ofSessionBy, ofPageBy, PlainArm, performed, deeds}
 use Rattle.scope.proofs.Ends.{pick-all}
 use Rattle.scope.proofs.Apart.{clash-of, differs}
-use Rattle.scope.proofs.Rows.{Around, Fits, alone, staying, armOf, turned, row-performed}
+use Rattle.scope.proofs.Rows.{Around, armOf, turned, row-performed}
 use Rattle.scope.proofs.Codes.{around}
-
--- what the arm is at, where the session stands
-abbrev pub doingBusy : Busy → Doing
-doingBusy resting = Doing.resting
-doingBusy (reading n j) = Doing.reading n j
-doingBusy (drawing p ns i) = Doing.drawing i
-
-abbrev pub doingOf : Place → Doing
-doingOf (outside b) = Doing.outside
-doingOf (inside x) = doingBusy (x .busy)
-
--- the row of an operator has a first, and no other or no turn
-pub data Shaped (t : Turn) : List Stroke → Type 0 where
-  shaped : {a : Stroke} {l : List Stroke} → Fits t l → Shaped t (a ∷ l)
-
-call-stays : (gray : Bool) (d : Doing) (tag : ℕ) → eqb tag 0x5e ≡ true → turnOf gray d tag ≡ stays
-unfolding turnOf
-call-stays gray d tag e = rw (eqb-true tag 0x5e e) refl
-
-pub row-shaped : (set : Setting) (s : List ℕ) (d : Doing) (held : List Motif) (o : Operator) → Shaped (turnOf (set .gray) d (o .tag)) (rowFor set s held o)
-unfolding rowFor
-row-shaped set s d held o =
-    pick-all (Shaped (turnOf (set .gray) d (o .tag))) (eqb (o .tag) 0x5e)
-    (λ e. shaped (subst⁻¹ (λ t. Fits t (unfolded held 32 [] (bytesIn s (o .attrs) 139))) (call-stays (set .gray) d (o .tag) e) staying)) (λ _. shaped alone)
+use Rattle.scope.proofs.Shaped.{doingBusy, doingOf, Shaped, shaped, row-shaped}
 
 -- an operator that is no call and leaves the page as it is
 record Quiet (tag : ℕ) : Type 0 where

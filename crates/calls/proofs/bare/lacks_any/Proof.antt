@@ -1,7 +1,7 @@
 -- `lacks_any`: what is known is so; else what is found, which becomes known.
 -- Assumes nothing.
 use mathlib.Core.Path.{sym, _∙_}
-use Rattle.patterns.proofs.Cells.{same-self}
+use Rattle.patterns.proofs.Forgets.{same-self}
 use Rattle.calls.proofs.Knowing.{learned}
 use borrow.Author.Needs.{needs}
 use Rattle.calls.proofs.bare.lacks_any.Statement.{statement}

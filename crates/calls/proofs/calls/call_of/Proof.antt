@@ -2,7 +2,7 @@
 -- Assumes nothing.
 use borrow.Author.Needs.{needs}
 use Rattle.calls.proofs.Refusing.{calls-nowhere, calls-at}
-use Rattle.patterns.proofs.Cells.{same-self}
+use Rattle.patterns.proofs.Forgets.{same-self}
 use Rattle.calls.proofs.calls.call_of.Statement.{statement}
 use Rattle.calls.proofs.calls.call_of.Tie as tie
 

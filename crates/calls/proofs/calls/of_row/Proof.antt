@@ -2,7 +2,7 @@
 -- Assumes nothing.
 use borrow.Author.Needs.{needs}
 use Rattle.calls.proofs.Refusing.{calls-level}
-use Rattle.patterns.proofs.Cells.{same-self}
+use Rattle.patterns.proofs.Forgets.{same-self}
 use Rattle.calls.proofs.calls.of_row.Statement.{statement}
 use Rattle.calls.proofs.calls.of_row.Tie as tie
 

@@ -4,7 +4,7 @@ use Prim.Native.Nat.{_+_, _-_}
 use mathlib.Core.Path.{_≡_, _∙_}
 use native.Mathlib.Omega.{arith}
 use Rattle.setting.specs.Views.{settingAs}
-use Rattle.patterns.proofs.Cells.{same-self}
+use Rattle.patterns.proofs.Forgets.{same-self}
 use Rattle.early.proofs.Parts.{part-same}
 use Rattle.early.proofs.Tags.{page-not, page-not-begin, page-not-read, page-not-end, image-not-begin, image-not-read, image-not-end, pattern-not-begin, pattern-not-read, pattern-not-end}
 use Rattle.early.proofs.Breaking.{fine-in}

@@ -1,10 +1,10 @@
 -- `early::early_of` meets its contract: between sessions nothing is judged.
 -- Assumes nothing.
 use mathlib.Core.Path.{refl}
-use Rattle.patterns.proofs.Cells.{same-self, rows-same}
+use Rattle.patterns.proofs.Forgets.{same-self, rows-same}
 use Rattle.setting.specs.Views.{settingAs}
 use Rattle.place.proofs.Hatched.{place-kept}
-use Rattle.early.proofs.Breaking.{outer-fine, inner-early}
+use Rattle.early.proofs.Around.{outer-fine, inner-early}
 use borrow.Author.Needs.{needs}
 use Rattle.early.proofs.early.early_of.Statement.{statement}
 use Rattle.early.proofs.early.early_of.Tie as tie

@@ -2,7 +2,8 @@
 -- Assumes nothing.
 use mathlib.Core.Path.{refl}
 use Rattle.patterns.specs.Numbers.{OfMotif}
-use Rattle.patterns.proofs.Cells.{rows-others, same-self, rows-same}
+use Rattle.patterns.proofs.Copies.{rows-others}
+use Rattle.patterns.proofs.Forgets.{same-self, rows-same}
 use Rattle.early.proofs.Places.{drawn-hatched}
 use Rattle.setting.specs.Views.{settingAs}
 use Rattle.place.proofs.Standing.{rest-phase, is-drawn}

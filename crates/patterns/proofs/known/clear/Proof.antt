@@ -1,7 +1,8 @@
 -- `clear`: what is forgotten is no cell of a row, so the row that has no numbers and the others stay as they are.
 -- Assumes nothing.
 use mathlib.Core.Path.{_∙_}
-use Rattle.patterns.proofs.Cells.{rows-others, rows-too}
+use Rattle.patterns.proofs.Copies.{rows-others}
+use Rattle.patterns.proofs.Forgets.{rows-too}
 use borrow.Author.Needs.{needs}
 use Rattle.patterns.proofs.known.clear.Statement.{statement}
 use Rattle.patterns.proofs.known.clear.Tie as tie

@@ -4,7 +4,7 @@ use Prim.Native.Nat.{_+_, _-_, _≤_, _<_}
 use mathlib.Core.Path.{_≡_}
 use lib.ListN.{length}
 use native.Mathlib.Omega.{arith}
-use Rattle.patterns.proofs.Cells.{Forgotten, forgotten-none, forgotten-more}
+use Rattle.patterns.proofs.Forgets.{Forgotten, forgotten-none, forgotten-more}
 use borrow.Author.Needs.{needs}
 use Rattle.patterns.proofs.known.forget.Statement.{statement}
 use Rattle.patterns.proofs.known.forget.Tie as tie

@@ -1,6 +1,6 @@
 -- `learn`: a cell behind the mark is no cell of a row.
 -- Assumes nothing.
-use Rattle.patterns.proofs.Cells.{known-same, known-other}
+use Rattle.patterns.proofs.Forgets.{known-same, known-other}
 use borrow.Author.Needs.{needs}
 use Rattle.patterns.proofs.known.learn.Statement.{statement}
 use Rattle.patterns.proofs.known.learn.Tie as tie

@@ -5,7 +5,8 @@ use mathlib.Core.Path.{_≡_, sym, _∙_}
 use lib.ListN.{length, getD}
 use native.Mathlib.Omega.{arith}
 use Rattle.patterns.specs.Numbers.{OfMotif}
-use Rattle.patterns.proofs.Cells.{Copied, copied-none, copied-more, in-none, rows-others, quiet-cleared, row-marked, others-marked, quiet-marked}
+use Rattle.patterns.proofs.Cells.{in-none}
+use Rattle.patterns.proofs.Copies.{Copied, copied-none, copied-more, rows-others, quiet-cleared, row-marked, others-marked, quiet-marked}
 use borrow.Author.Needs.{needs}
 use Rattle.patterns.proofs.lists.copy_own.Statement.{statement}
 use Rattle.patterns.proofs.lists.copy_own.Tie as tie

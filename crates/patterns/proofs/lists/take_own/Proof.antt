@@ -5,7 +5,8 @@ use mathlib.Core.Path.{_≡_, sym, ap, _∙_}
 use lib.ListN.{length, getD}
 use native.Mathlib.Omega.{arith}
 use Rattle.patterns.specs.Numbers.{OfMotif}
-use Rattle.patterns.proofs.Cells.{in-none, Copied, copied-none, copied-more, copied-row, copied-others, copied-selecting}
+use Rattle.patterns.proofs.Cells.{in-none}
+use Rattle.patterns.proofs.Copies.{Copied, copied-none, copied-more, copied-row, copied-others, copied-selecting}
 use borrow.Author.Needs.{needs}
 use Rattle.patterns.proofs.lists.take_own.Statement.{statement}
 use Rattle.patterns.proofs.lists.take_own.Tie as tie

@@ -3,7 +3,7 @@
 use Prim.Native.Nat.{_<_}
 use mathlib.Core.Path.{_∙_}
 use native.Mathlib.Omega.{arith}
-use Rattle.patterns.proofs.Cells.{rows-too, quiet-too}
+use Rattle.patterns.proofs.Forgets.{rows-too, quiet-too}
 use borrow.Author.Needs.{needs}
 use Rattle.patterns.proofs.own.keep.Statement.{statement}
 use Rattle.patterns.proofs.own.keep.Tie as tie
