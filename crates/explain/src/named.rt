@@ -1,4 +1,5 @@
 // The names among the words of the command: of files, and `-` for standard input.
+use crate::judging::judged;
 use crate::unread::unread;
 use asked::Asked;
 use asked::behind;
@@ -21,7 +22,7 @@ fn source(fd: i32, path: &[u8], asked: Asked) -> Outcome {
         return Outcome::Unread;
     }
     text::name(1, path);
-    if report::judged(&job[..n], asked) {
+    if judged(&job[..n], asked) {
         return Outcome::Passed;
     }
     Outcome::Refused

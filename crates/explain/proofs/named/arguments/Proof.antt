@@ -2,8 +2,8 @@
 -- Assumes nothing.
 use Prim.Native.Nat.{_-_}
 use borrow.Author.Needs.{needs}
-use Rattle.files.proofs.named.arguments.Statement.{statement}
-use Rattle.files.proofs.named.arguments.Tie as tie
+use Rattle.explain.proofs.named.arguments.Statement.{statement}
+use Rattle.explain.proofs.named.arguments.Tie as tie
 
 abbrev Inv-loop : tie.InvT-loop
 Inv-loop n t₀ asked₀ i₀ t asked i = Unit {0}
