@@ -11,11 +11,11 @@ use lib.Dec.{leb}
 use Rattle.items.specs.Rows.{Sized}
 use Rattle.reader.specs.Reads.{operatorAs}
 use Rattle.reader.specs.declared.reading.Operator as Reader
-use Rattle.arm.specs.declared.page.Page.{Page}
+use Rattle.page.specs.declared.page.Page.{Page}
 use Rattle.after.specs.Afterwards as Afterwards
 use Rattle.early.specs.Earlier.{Earlies, early-no, Passes}
 use Rattle.early.specs.declared.early.Early.the-variants as Early-is
-use Rattle.arm.specs.Holds.{PageHolds}
+use Rattle.page.specs.Holds.{PageHolds}
 use Rattle.arm.specs.declared.moved.Moved.the-variants as Moved-is
 use Rattle.ruling.specs.Judged.{Judgement, judged-to, judged-no}
 use Rattle.early.specs.declared.early.Early.{Early}
