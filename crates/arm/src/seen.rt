@@ -158,7 +158,7 @@ impl Seen {
     }
 
     // The code of the first rule broken on the way, or 0; `bare` says whether a pattern that was selected is not defined.
-    pub fn code(self, opened: bool, bare: bool) -> u32
+    pub(crate) fn code(self, opened: bool, bare: bool) -> u32
         ensures { λ r. ⌜ ((w : Arm·Seen) → Holds self w → r ≡ codeOf opened bare w) ⌝ }
     {
         if lacks(self.source, opened) {
