@@ -11,7 +11,7 @@ use Rattle.scope.specs.Attributes.{has}
 use Rattle.scope.specs.Reading.{Operator}
 use Rattle.scope.specs.Names.{SetDefaultGS, PopGS, PushGS, SetBrushSource, SetColorSpace, SetCursor, SetPenSource, NewPath, BeginImage, BeginRastPattern, PatternSelectID}
 use Rattle.scope.specs.Arm.{Act, Space, any, gray, Select, no-pattern, Effect, push, pop, put, kept, to, needsCursor, needsSpace, selectOf, effectOf, actOf}
-use Rattle.arm.specs.Views.{keeping}
+use Rattle.page.specs.Views.{keeping}
 use Rattle.act.specs.Acts.{actFor, plain}
 
 pub act-is : (set : Setting) (s : List ℕ) (o : Operator) → actFor (set .high) (set .gray) s (o .tag) (o .reads) (o .attrs) ≡ actOf set s o

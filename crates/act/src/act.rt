@@ -2,13 +2,8 @@
 ghost use mathlib.Core.Path.{_≡_};
 ghost use Rattle.items.specs.Rows.{rowsOf, Sized};
 ghost use Rattle.scope.specs.Arm.{needsCursor, needsSpace, selectOf, effectOf};
-ghost use Rattle.arm.specs.Views.{spaceAs, selectAs, effectAs, actAs};
+ghost use Rattle.page.specs.Views.{spaceAs, selectAs, effectAs, actAs};
 ghost use Rattle.act.specs.Acts.{read, actFor, brushSpace, spaceEffect, plain};
-use arm::page::Act;
-use arm::page::Effect;
-use arm::page::Mark;
-use arm::page::Select;
-use arm::page::Space;
 use names::attributes::COLOR_SPACE;
 use names::attributes::GRAY_LEVEL;
 use names::attributes::PATTERN_SELECT_ID;
@@ -26,6 +21,11 @@ use names::operators::SET_CURSOR;
 use names::operators::SET_CURSOR_REL;
 use names::operators::SET_DEFAULT_GS;
 use names::operators::SET_PEN_SOURCE;
+use page::page::Act;
+use page::page::Effect;
+use page::page::Mark;
+use page::page::Select;
+use page::page::Space;
 
 // The operator needs no colour space, selects no pattern and does nothing to the page, as most.
 pub fn is_plain(tag: u8) -> bool

@@ -20,7 +20,7 @@ use Rattle.scope.specs.Session.{phaseOf, phaseBusy, phaseDrawing, definedAfter,
 use Rattle.scope.specs.Judge.{State, Case, caseOf, tooMuch}
 use Rattle.reader.specs.Reads.{operatorAs}
 use Rattle.reader.specs.declared.reading.Operator.{Operator}
-use Rattle.arm.specs.declared.page.Page.{Page}
+use Rattle.page.specs.declared.page.Page.{Page}
 use Rattle.motif.specs.Stored.{Stored}
 use Rattle.motif.specs.declared.kept.Kept.{Kept}
 use Rattle.order.specs.Pictures.{pictureAs, pictureFor, imageIn}

@@ -21,8 +21,8 @@ use Rattle.scope.specs.Session.{phaseOf, sessionOf, placeAfter}
 use Rattle.scope.specs.Judge.{State, caseOf}
 use Rattle.reader.specs.Reads.{operatorAs}
 use Rattle.reader.specs.declared.reading.Operator.{Operator}
-use Rattle.arm.specs.Holds.{PageHolds}
-use Rattle.arm.specs.declared.page.Page.{Page}
+use Rattle.page.specs.Holds.{PageHolds}
+use Rattle.page.specs.declared.page.Page.{Page}
 use Rattle.order.specs.Pictures.{pictureAs, pictureFor, imageIn}
 use Rattle.order.specs.declared.picture.Picture.{Picture}
 use Rattle.motif.specs.Stored.{full}

@@ -13,7 +13,6 @@ ghost use Rattle.place.specs.declared.place.Busy.the-variants as busy-is;
 ghost use Rattle.place.specs.declared.place.Place.the-variants as place-is;
 use crate::hatching::define_open;
 use crate::hatching::keep_own;
-use arm::page::Page;
 use early::Early;
 use motif::Kept;
 use names::limits::STORE_MOST;
@@ -26,6 +25,7 @@ use names::operators::END_SESSION;
 use names::operators::OPEN_DATA_SOURCE;
 use names::operators::READ_STREAM;
 use order::Picture;
+use page::page::Page;
 use place::Busy;
 use place::Place;
 use reader::Operator;
@@ -68,7 +68,7 @@ fn begun(
     let tag = o.tag;
     if tag == BEGIN_PAGE {
         patterns::clear(patterns, patterns::PAGE);
-        return Busy::Drawing(arm::page::blank(set.gray), Picture::Nothing);
+        return Busy::Drawing(page::page::blank(set.gray), Picture::Nothing);
     }
     if tag == BEGIN_STREAM {
         let name = motif::name_in(job, attrs, o.count);

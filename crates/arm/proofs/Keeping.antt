@@ -12,20 +12,22 @@ use borrow.Author.Tests.{le-leb, lt-leb}
 use Rattle.scope.specs.Choice.{pick}
 use Rattle.scope.specs.Arm as scope
 use Rattle.scope.specs.Arm.{Effect, push, pop, put, risen, done, clash, step, idle, Stroke, walk, from}
-use Rattle.arm.specs.declared.page.Act.{Act}
-use Rattle.arm.specs.declared.page.Page.{Page}
+use Rattle.page.specs.declared.page.Act.{Act}
+use Rattle.page.specs.declared.page.Page.{Page}
 use Rattle.arm.specs.declared.seen.Seen.{Seen}
 use Rattle.summary.specs.declared.summary.Summary.{Summary}
 use Rattle.arm.specs.declared.moved.Moved.the-variants.{To, No}
-use Rattle.arm.specs.Views.{pageAs, actAs}
+use Rattle.page.specs.Views.{pageAs, actAs}
 use Rattle.arm.specs.Codes.{codeOf}
-use Rattle.arm.specs.Holds.{PageHolds, Exact, Holds, Moves, moves-to, moves-no}
+use Rattle.page.specs.Holds.{PageHolds}
+use Rattle.arm.specs.Holds.{Exact, Holds, Moves, moves-to, moves-no}
 use Rattle.summary.specs.Sums.{fresh, Ends, Sums}
-use Rattle.arm.specs.Runs.{endsAt}
+use Rattle.arm.specs.Rows.{endsAt}
 use Rattle.arm.proofs.Clean.{clean-code}
 use Rattle.arm.proofs.Rows.{fresh-count}
-use Rattle.arm.proofs.Ways.{rise, mixed, inst, or-false, walk-both, fresh-saved, none-zipped, within, page-eq}
-use Rattle.arm.proofs.Stacks.{depth-saved}
+use Rattle.arm.proofs.Ways.{rise, mixed, inst, or-false, walk-both, fresh-saved, none-zipped, within}
+use Rattle.page.proofs.Pages.{page-eq}
+use Rattle.page.proofs.Stacks.{depth-saved}
 
 -- an effect notes at least what was noted, and the same of a page that is the same
 risen-least : (e : Effect) (p : scope.Page) (m : ℕ) → m ≤ risen e p m

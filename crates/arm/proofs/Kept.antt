@@ -9,9 +9,9 @@ use lib.ListN.{length, length-append}
 use Rattle.scope.specs.Arm as scope
 use Rattle.scope.specs.Arm.{done, risen, step, walk, Stroke}
 use Rattle.arm.specs.declared.seen.Seen.{Seen}
-use Rattle.arm.specs.Views.{pageAs, keeping}
+use Rattle.page.specs.Views.{pageAs, keeping}
 use Rattle.arm.specs.Holds.{Holds}
-use Rattle.arm.specs.Runs.{Kept, kept-none, kept-more}
+use Rattle.arm.specs.Rows.{Kept, kept-none, kept-more}
 use Rattle.arm.proofs.Rows.{walk-append}
 use Rattle.arm.proofs.Ways.{or-false}
 

@@ -1,11 +1,7 @@
 pub mod Clean
-pub mod Judging
 pub mod Keeping
 pub mod Kept
-pub mod Levels
 pub mod Obeyed
 pub mod Rows
 pub mod Rules
-pub mod Saves
-pub mod Stacks
 pub mod Ways

@@ -9,9 +9,7 @@ use Rattle.scope.specs.Choice.{pick}
 use Rattle.scope.specs.Arm.{Saved, Page, Mark, kept, to, marked, restored, done, Effect, push, pop, put, Select, no-pattern, pattern, clash, risen, wanted, Act, Seen, step, Stroke, walk, from}
 use Rattle.summary.specs.Balance.{mayDo, depthAfter, Level, Balanced}
 use Rattle.summary.specs.Sums.{fresh}
-
-pub page-eq : {p q : Page} → p .cursor ≡ q .cursor → p .gray ≡ q .gray → p .saved ≡ q .saved → p ≡ q
-page-eq a b c i = record { cursor = a i; gray = b i; saved = c i }
+use Rattle.page.proofs.Pages.{page-eq, within-done}
 
 seen-eq : {u v : Seen} → u .page ≡ v .page → u .count ≡ v .count → u .most ≡ v .most → u .source ≡ v .source → u .lost ≡ v .lost → u .wrong ≡ v .wrong → u .wants ≡ v .wants → u ≡ v
 seen-eq a b c d e f g i = record { page = a i; count = b i; most = c i; source = d i; lost = e i; wrong = f i; wants = g i }
@@ -225,16 +223,6 @@ unfolding fresh from
 fresh-most l = same-most l (fresh false) (fresh true) tt refl
 
 -- what the arm saves beyond what was saved at first, it has noted
-within-restored : (ss : List Saved) (p : Page) (k : ℕ) → length ss ≤ k → length (p .saved) ≤ k → length (restored ss p .saved) ≤ k
-within-restored [] p k h j = j
-within-restored (s ∷ ss) p k h j = omega arith
-
-pub within-done : (e : Effect) (p : Page) (k m : ℕ) → length (p .saved) ≤ max k m → length (done e p .saved) ≤ max k (risen e p m)
-unfolding done risen
-within-done push p k m h = omega arith
-within-done pop p k m h = within-restored (p .saved) p (max k m) h h
-within-done (put c g) p k m h = h
-
 pub within : (l : List Stroke) (w : Seen) (k : ℕ) → length (w .page .saved) ≤ max k (w .most) → length (walk l w .page .saved) ≤ max k (walk l w .most)
 unfolding walk step
 within [] w k h = h

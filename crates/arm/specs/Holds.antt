@@ -1,21 +1,16 @@
--- What the code keeps of a page, and of an arm on its way. Past 24 saved states, and past 1,000,000 operators, it keeps only that it is past.
+-- What the code keeps of an arm on its way. Past 24 saved states, and past 1,000,000 operators, it keeps only that it is past.
 -- Assumes nothing.
 use Prim.Native.Nat.{ℕ, _≤_, min}
 use mathlib.Core.Path.{_≡_}
 use mathlib.Core.Bool.{Bool}
-use lib.ListN.{length}
 use Rattle.scope.specs.Arm as scope
-use Rattle.arm.specs.declared.page.Page.{Page}
+use Rattle.page.specs.declared.page.Page.{Page}
 use Rattle.arm.specs.declared.seen.Seen.{Seen}
 use Rattle.arm.specs.declared.moved.Moved.{Moved}
 use Rattle.arm.specs.declared.moved.Moved.the-variants.{To, No}
-use Rattle.arm.specs.Views.{pageAs}
+use Rattle.page.specs.Views.{pageAs}
+use Rattle.page.specs.Holds.{PageHolds}
 use Rattle.arm.specs.Codes.{codeOf}
-
--- the code's page p is read as q, and at most 24 states are saved
-pub record PageHolds (p : Page) (q : scope.Page) : Type 0 where
-  pub same : pageAs p ≡ q
-  pub few : length (q .saved) ≤ 24
 
 -- the part that is exact while no more than 24 were saved
 pub record Exact (s : Seen) (w : scope.Seen) : Type 0 where

@@ -1,5 +1,3 @@
-pub mod Alone
 pub mod Codes
 pub mod Holds
-pub mod Runs
-pub mod Views
+pub mod Rows

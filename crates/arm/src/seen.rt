@@ -7,16 +7,16 @@ ghost use lib.ListN.{length};
 ghost use Rattle.scope.specs.Choice.{pick};
 ghost use Rattle.scope.specs.Arm.{clash, step, walk, from, idle, Stroke};
 ghost use Rattle.scope.specs.Arm.{Seen as Arm·Seen};
-ghost use Rattle.arm.specs.Views.{pageAs, spaceAs, actAs};
+ghost use Rattle.page.specs.Views.{pageAs, spaceAs, actAs};
 ghost use Rattle.arm.specs.Codes.{codeOf};
 ghost use Rattle.arm.specs.Holds.{Holds};
 ghost use Rattle.summary.specs.Sums.{Sums};
-ghost use Rattle.arm.specs.Runs.{endsAt, Kept};
-use crate::limits::add;
-use crate::limits::higher;
-use crate::page::Act;
-use crate::page::Page;
-use crate::page::Space;
+ghost use Rattle.arm.specs.Rows.{endsAt, Kept};
+use page::limits::add;
+use page::limits::higher;
+use page::page::Act;
+use page::page::Page;
+use page::page::Space;
 use summary::Ending;
 use summary::Summary;
 
@@ -158,7 +158,7 @@ impl Seen {
     }
 
     // The code of the first rule broken on the way, or 0; `bare` says whether a pattern that was selected is not defined.
-    pub fn code(self, opened: bool, bare: bool) -> u32
+    pub(crate) fn code(self, opened: bool, bare: bool) -> u32
         ensures { λ r. ⌜ ((w : Arm·Seen) → Holds self w → r ≡ codeOf opened bare w) ⌝ }
     {
         if lacks(self.source, opened) {

@@ -6,13 +6,13 @@ use crate::call::note_called;
 use crate::call::performed;
 use crate::page::page_at;
 use crate::select::bare;
-use arm::page::Page;
 use arm::seen::Seen;
 use attributes::Part;
 use keeping::MANY;
 use motif::LENGTH;
 use motif::ROW;
 use motif::START;
+use page::page::Page;
 use setting::Setting;
 use trail::TAG;
 

@@ -1,9 +1,9 @@
 // The page at a place of a job, and the motifs held there.
 use crate::call::performed;
-use arm::page::Page;
-use arm::page::blank;
 use arm::seen::Seen;
 use keeping::keep;
+use page::page::Page;
+use page::page::blank;
 use setting::Setting;
 use trail::TAG;
 

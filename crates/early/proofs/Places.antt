@@ -10,7 +10,7 @@ use borrow.Author.Tests.{eq-eqb, ne-eqb, le-leb, lt-leb}
 use Rattle.scope.specs.Choice.{pick, among}
 use Rattle.scope.specs.Session.{Session, Busy}
 use Rattle.scope.specs.Judge.{Case, numbersOf, noPlace}
-use Rattle.arm.specs.declared.page.Page.{Page}
+use Rattle.page.specs.declared.page.Page.{Page}
 use Rattle.motif.specs.declared.kept.Kept.{Kept}
 use Rattle.order.specs.declared.picture.Picture.{Picture}
 use Rattle.place.specs.Places.{Hatches, BusyHolds, drawing-holds}

@@ -19,9 +19,10 @@ use Rattle.scope.specs.Session as session
 use Rattle.scope.specs.Session.{Session, sessionOf, pageOf, sessionAfter, placeAfter}
 use Rattle.scope.specs.Judge.{State, caseOf, judgedAt, metAt, tooMuch, noPlace, ownOr, outer}
 use Rattle.arm.specs.Codes.{codeOf}
-use Rattle.arm.specs.Views.{stack}
-use Rattle.arm.specs.Holds.{PageHolds, Moves, moves-to}
-use Rattle.arm.specs.declared.page.Page as Code
+use Rattle.page.specs.Views.{stack}
+use Rattle.page.specs.Holds.{PageHolds}
+use Rattle.arm.specs.Holds.{Moves, moves-to}
+use Rattle.page.specs.declared.page.Page as Code
 use Rattle.arm.specs.declared.moved.Moved.the-variants.{To}
 use Rattle.motif.specs.Stored.{Stored}
 use Rattle.motif.specs.declared.kept.Kept.{Kept}

@@ -15,9 +15,9 @@ use Rattle.order.specs.Views.{phaseAs}
 use Rattle.due.specs.Views.{imageAs}
 use Rattle.due.specs.declared.due.Image.{Image}
 use Rattle.order.specs.declared.order.Phase.{Phase}
-use Rattle.arm.specs.Holds.{PageHolds}
-use Rattle.arm.specs.declared.page.Page.{Page}
-use Rattle.arm.proofs.Stacks.{depth-saved}
+use Rattle.page.specs.Holds.{PageHolds}
+use Rattle.page.specs.declared.page.Page.{Page}
+use Rattle.page.proofs.Stacks.{depth-saved}
 use Rattle.order.specs.declared.picture.Picture.the-variants.{Nothing, Being, Hatching}
 use Rattle.order.specs.declared.picture.Picture.{Picture}
 use Rattle.motif.specs.declared.kept.Kept.{Kept}

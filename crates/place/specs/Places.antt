@@ -11,8 +11,8 @@ use Rattle.scope.specs.Setting.{Setting}
 use Rattle.scope.specs.Arm as arm
 use Rattle.scope.specs.Motif as motif
 use Rattle.scope.specs.Session as scope
-use Rattle.arm.specs.Holds.{PageHolds}
-use Rattle.arm.specs.declared.page.Page.{Page}
+use Rattle.page.specs.Holds.{PageHolds}
+use Rattle.page.specs.declared.page.Page.{Page}
 use Rattle.motif.specs.Keys.{IsName}
 use Rattle.motif.specs.Stored.{Stored, full}
 use Rattle.motif.specs.declared.kept.Kept.{Kept}

@@ -7,13 +7,13 @@ ghost use Rattle.scope.specs.Motif.{Motif};
 ghost use Rattle.scope.specs.Session as scope;
 ghost use Rattle.scope.specs.Session.{phaseBusy, phaseOf, sessionOf, pageOf};
 ghost use Rattle.order.specs.Views.{phaseAs};
-ghost use Rattle.arm.specs.Holds.{PageHolds};
+ghost use Rattle.page.specs.Holds.{PageHolds};
 ghost use Rattle.place.specs.Places.{BusyHolds, PlaceHolds};
 ghost use Rattle.place.specs.declared.place.Busy.the-variants.{Drawing};
-use arm::page::Page;
 use motif::Kept;
 use order::Phase;
 use order::Picture;
+use page::page::Page;
 
 // In a session: at rest, reading a motif (place and length of its name in the job, bytes joined so far), or in a page, perhaps with an image or a pattern open.
 pub enum Busy {
@@ -72,8 +72,8 @@ fn page_busy(busy: Busy) -> Page
     ensures { λ r. ⌜ ((q : scope.Busy) (job work p : List ℕ) (kept : Kept) (ms : List Motif) → BusyHolds job work p kept ms busy q → PageHolds r (pageOf q)) ⌝ }
 {
     match busy {
-        Busy::Resting => arm::page::blank(false),
-        Busy::Reading(_, _, _) => arm::page::blank(false),
+        Busy::Resting => page::page::blank(false),
+        Busy::Reading(_, _, _) => page::page::blank(false),
         Busy::Drawing(page, _) => page,
     }
 }
@@ -83,7 +83,7 @@ pub fn page_in(place: Place) -> Page
     ensures { λ r. ⌜ ((q : scope.Place) (set : Setting) (job work t p : List ℕ) → PlaceHolds set job work t p place q → PageHolds r (pageOf (sessionOf q .busy))) ⌝ }
 {
     match place {
-        Place::Outside(_) => arm::page::blank(false),
+        Place::Outside(_) => page::page::blank(false),
         Place::Inside(_, _, busy) => page_busy(busy),
     }
 }

@@ -5,10 +5,10 @@ use mathlib.Core.Path.{_≡_, sym, _∙_, subst, subst⁻¹}
 use mathlib.Core.List.{List}
 use native.Mathlib.Omega.{arith}
 use borrow.Author.Tests.{le-ltb}
-use Rattle.arm.specs.declared.page.Page.{Page}
+use Rattle.page.specs.declared.page.Page.{Page}
 use Rattle.early.specs.Earlier.{Earlies, early-no, Passes}
 use Rattle.early.specs.declared.early.Early.the-variants as Early-is
-use Rattle.arm.specs.Holds.{PageHolds}
+use Rattle.page.specs.Holds.{PageHolds}
 use Rattle.arm.specs.declared.moved.Moved.the-variants as Moved-is
 use Rattle.ruling.specs.Judged.{Judgement, judged-to, judged-no}
 use Rattle.early.specs.declared.early.Early.{Early}

@@ -11,7 +11,7 @@ use lib.Dec.{leb}
 use Rattle.items.specs.Rows.{Sized}
 use Rattle.reader.specs.Reads.{operatorAs}
 use Rattle.reader.specs.declared.reading.Operator as Reader
-use Rattle.arm.specs.declared.page.Page.{Page}
+use Rattle.page.specs.declared.page.Page.{Page}
 use Rattle.after.specs.Afterwards as Afterwards
 use Rattle.early.specs.declared.early.Early.{Early}
 use Rattle.place.specs.declared.place.Place.{Place}

@@ -5,8 +5,8 @@ use mathlib.Core.Path.{_≡_}
 use Rattle.scope.specs.Choice.{pick}
 use Rattle.scope.specs.Judge.{Case, Refusal, refused, outer, firstBroken, rules, roomOver}
 use Rattle.scope.specs.Verdict.{every}
-use Rattle.arm.specs.Holds.{PageHolds}
-use Rattle.arm.specs.declared.page.Page.{Page}
+use Rattle.page.specs.Holds.{PageHolds}
+use Rattle.page.specs.declared.page.Page.{Page}
 use Rattle.arm.specs.declared.moved.Moved.{Moved}
 use Rattle.arm.specs.declared.moved.Moved.the-variants.{To, No}
 use Rattle.early.specs.declared.early.Early.{Early}

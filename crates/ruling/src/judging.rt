@@ -13,7 +13,7 @@ ghost use Rattle.scope.specs.Arm.{wanted};
 ghost use Rattle.scope.specs.Order.{mayCome};
 ghost use Rattle.scope.specs.Session.{phaseOf, sessionOf};
 ghost use Rattle.scope.specs.Judge.{State, Case, caseOf, someMissing, outer};
-ghost use Rattle.arm.specs.Views.{selectAs};
+ghost use Rattle.page.specs.Views.{selectAs};
 ghost use Rattle.patterns.specs.Numbers.{OfPage, OfSession, numbersIn};
 ghost use Rattle.reader.specs.Reads.{operatorAs};
 ghost use Rattle.place.specs.Places.{PlaceHolds};
@@ -21,8 +21,8 @@ ghost use Rattle.early.specs.Earlier.{Earlies, Unbroken};
 ghost use Rattle.early.specs.declared.early.Early.the-variants as early-is;
 ghost use Rattle.ruling.specs.Judged.{Judgement, innerOf};
 use arm::moved::Moved;
-use arm::page::Select;
 use early::Early;
+use page::page::Select;
 use place::Place;
 use reader::Operator;
 use setting::Setting;
@@ -68,12 +68,12 @@ fn perform(
     let page = place::page_in(place);
     let opened = place::opened_in(place);
     if act::is_plain(o.tag) {
-        return page.keep(o.reads, act::needs_cursor(o.tag), opened, performed);
+        return arm::moved::keep(page, o.reads, act::needs_cursor(o.tag), opened, performed);
     }
     let act = act::act_of(job, set.high, set.gray, o.tag, o.reads, attrs, o.count);
     let select = act.select;
     let bare = bare_of(patterns, select);
-    page.perform(act, opened, bare, performed)
+    arm::moved::perform(page, act, opened, bare, performed)
 }
 
 // A call, from its motif's summary and whether a pattern that is selected there is not defined.
@@ -83,7 +83,7 @@ fn call(sum: usize, bare: bool, place: Place, performed: u32) -> Moved
 {
     let page = place::page_in(place);
     let opened = place::opened_in(place);
-    page.call(summary::unpacked(sum), opened, bare, performed)
+    arm::moved::call(page, summary::unpacked(sum), opened, bare, performed)
 }
 
 // The page after an operator and the number performed, or the code of the first rule broken.

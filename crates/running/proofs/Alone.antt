@@ -24,10 +24,11 @@ use Rattle.scope.specs.Setting.{Setting}
 use Rattle.scope.specs.Session.{Session, Place, drawing, inside, pageOf, definedAfter, sessionAfter, placeAfter}
 use Rattle.scope.specs.Judge.{State, caseOf, judgedAt, metAt, tooMuch, noPlace, ownOr, outer}
 use Rattle.items.proofs.Pairs.{scan-tag}
-use Rattle.arm.specs.Alone.{Alone, alone-close, alone-new, alone-paint, alone-push, alone-pop}
+use Rattle.page.specs.Alone.{Alone, alone-close, alone-new, alone-paint, alone-push, alone-pop}
 use Rattle.arm.specs.Codes.{codeOf}
-use Rattle.arm.specs.Holds.{PageHolds, Moves, moves-to}
-use Rattle.arm.specs.declared.page.Page as Code
+use Rattle.page.specs.Holds.{PageHolds}
+use Rattle.arm.specs.Holds.{Moves, moves-to}
+use Rattle.page.specs.declared.page.Page as Code
 use Rattle.arm.specs.declared.moved.Moved.the-variants.{To}
 use Rattle.early.specs.Earlier.{Unbroken}
 use Rattle.ruling.specs.Judged.{Judgement}

@@ -16,8 +16,9 @@ use Rattle.scope.specs.Setting.{Setting}
 use Rattle.scope.specs.Session.{Session, pageOf, definedAfter, sessionAfter, placeAfter}
 use Rattle.scope.specs.Judge.{State, caseOf, judgedAt, metAt, tooMuch, noPlace, ownOr, outer}
 use Rattle.arm.specs.Codes.{codeOf}
-use Rattle.arm.specs.Holds.{PageHolds, Moves, moves-to}
-use Rattle.arm.specs.declared.page.Page as Code
+use Rattle.page.specs.Holds.{PageHolds}
+use Rattle.arm.specs.Holds.{Moves, moves-to}
+use Rattle.page.specs.declared.page.Page as Code
 use Rattle.arm.specs.declared.moved.Moved.the-variants.{To}
 use Rattle.reader.specs.EndPoint.{lineOf, Drawn, drawn-path, drawn-rel}
 use Rattle.early.specs.Earlier.{Unbroken}

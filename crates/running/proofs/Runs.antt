@@ -19,10 +19,10 @@ use Rattle.scope.specs.Judge.{contextOf, caseOf, judgedFrom, outer}
 use Rattle.scope.specs.Verdict.{every}
 use Rattle.scope.proofs.White.{read-after}
 use Rattle.scope.proofs.ExchangeEdges.{after-again}
-use Rattle.arm.specs.Alone.{Leaves, leaves-to}
-use Rattle.arm.specs.Holds.{PageHolds}
-use Rattle.arm.specs.declared.page.Page as Code
-use Rattle.arm.specs.declared.page.Passed.the-variants as passed-is
+use Rattle.page.specs.Alone.{Leaves, leaves-to}
+use Rattle.page.specs.Holds.{PageHolds}
+use Rattle.page.specs.declared.page.Page as Code
+use Rattle.page.specs.declared.page.Passed.the-variants as passed-is
 use Rattle.arm.specs.declared.moved.Moved.the-variants.{To}
 use Rattle.reader.specs.EndPoint.{lineOf, Line}
 use Rattle.reader.proofs.EndPoint.{read-line, line-drawn}

@@ -12,8 +12,8 @@ use Rattle.scope.specs.Reading.{Operator, Read, operatorAt}
 use Rattle.scope.specs.Session as session
 use Rattle.scope.specs.Judge as scope
 use Rattle.scope.specs.Verdict as verdict
-use Rattle.arm.specs.Holds.{PageHolds}
-use Rattle.arm.specs.declared.page.Page.{Page}
+use Rattle.page.specs.Holds.{PageHolds}
+use Rattle.page.specs.declared.page.Page.{Page}
 use Rattle.place.specs.Places.{PlaceHolds}
 use Rattle.early.specs.Earlier.{Earlies, Passes}
 use Rattle.early.specs.declared.early.Early.{Early}

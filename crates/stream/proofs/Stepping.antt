@@ -16,7 +16,7 @@ use Rattle.scope.specs.Motif.{Own, Motif, phaseIn, contextIn, ownBy, onEnd, onR
 use Rattle.scope.proofs.Ends.{GoodRead, read-good}
 use Rattle.scope.proofs.Taken.{Taken, read-taken}
 use Rattle.scope.proofs.Falls.{motif-step}
-use Rattle.arm.proofs.Levels.{drawn-pop}
+use Rattle.both.proofs.Levels.{drawn-pop}
 use Rattle.order.specs.Pictures.{pictureAs, imageIn}
 use Rattle.patterns.specs.Numbers.{numbersIn}
 use Rattle.stream.specs.Judging.{Follows, Judges, judges-faulty, Turns, turns-go, turns-stop, afterIn, Ahead, Notes, NotesOn}

@@ -26,11 +26,12 @@ use Rattle.scope.specs.Reach.{Name}
 use Rattle.scope.proofs.Falls.{motif-step}
 use Rattle.items.proofs.Pairs.{scan-tag}
 use Rattle.summary.specs.Balance.{OwnLevel}
-use Rattle.arm.specs.Views.{keeping}
-use Rattle.arm.specs.Runs.{Runs, Kept, kept-none, kept-more}
+use Rattle.page.specs.Views.{keeping}
+use Rattle.arm.specs.Rows.{Kept, kept-none, kept-more}
+use Rattle.both.specs.Runs.{Runs}
 use Rattle.arm.proofs.Rows.{flat-does}
 use Rattle.arm.proofs.Ways.{or-false}
-use Rattle.arm.proofs.Levels.{own-does}
+use Rattle.both.proofs.Levels.{own-does}
 use Rattle.motif.specs.Tables.{mark, callsRow, lacksOne}
 use Rattle.order.specs.Pictures.{pictureAs}
 use Rattle.patterns.specs.Selects.{selectsIn}

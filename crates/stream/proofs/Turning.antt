@@ -20,11 +20,11 @@ use Rattle.scope.specs.Motif.{Hatch, Motif, savedAfter, pictureAfter, ownBy, on
 use Rattle.scope.specs.Calls.{flat}
 use Rattle.scope.specs.Reach.{Name, any, namesIn}
 use Rattle.summary.specs.Sums.{SumsAs}
-use Rattle.arm.specs.Runs.{Runs}
+use Rattle.both.specs.Runs.{Runs}
 use Rattle.summary.proofs.Empty.{empty-sums}
 use Rattle.summary.specs.Balance.{Level, Balanced, OwnLevel}
 use Rattle.arm.proofs.Rows.{flat-does, flat-calls}
-use Rattle.arm.proofs.Levels.{own-does, own-calls, own-level, saved-depth, may-saved}
+use Rattle.both.proofs.Levels.{own-does, own-calls, own-level, saved-depth, may-saved}
 use Rattle.order.specs.Pictures.{pictureAs}
 use Rattle.motif.specs.Held.{Finds, finds-at, finds-none}
 use Rattle.motif.specs.Tables.{mark, callsRow, lacksOne, SumFor, SumsUp}

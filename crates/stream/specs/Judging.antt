@@ -12,7 +12,7 @@ use Rattle.scope.specs.Motif as scope
 use Rattle.scope.specs.Calls.{flat}
 use Rattle.scope.specs.Reach.{Name}
 use Rattle.summary.specs.Sums.{SumsAs}
-use Rattle.arm.specs.Runs.{Runs}
+use Rattle.both.specs.Runs.{Runs}
 use Rattle.summary.specs.Balance.{OwnLevel}
 use Rattle.motif.specs.Tables.{mark, callsRow, lacksOne, SumsUp}
 use Rattle.order.specs.Pictures.{pictureAs}

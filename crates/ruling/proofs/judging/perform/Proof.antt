@@ -2,7 +2,7 @@
 -- Assumes nothing.
 use mathlib.Core.Path.{sym, ap, _∙_}
 use Rattle.setting.specs.Views.{settingAs}
-use Rattle.arm.specs.Views.{keeping}
+use Rattle.page.specs.Views.{keeping}
 use Rattle.reader.specs.Reads.{operatorAs}
 use mathlib.Core.Bool.{false}
 use Rattle.scope.specs.Arm.{Act}
