@@ -14,12 +14,12 @@ use arm::page::Passed;
 use motif::Kept;
 use names::attributes::END_POINT;
 use names::limits::PERFORMED_MOST;
-use number::is_white;
 use order::Picture;
 use place::Busy;
 use place::Place;
 use reader::LineEnd;
 use state::State;
+use white::is_white;
 
 // Where a run stands.
 pub struct Run {

@@ -2,10 +2,10 @@
 -- Assumes nothing.
 use mathlib.Core.Path.{sym, _∙_}
 use borrow.Author.Tests.{not-true}
-use Rattle.number.proofs.Spaces.{after-black, after-end}
+use Rattle.white.proofs.Spaces.{after-black, after-end}
 use borrow.Author.Needs.{needs}
-use Rattle.number.proofs.white.after_white.Statement.{statement}
-use Rattle.number.proofs.white.after_white.Tie as tie
+use Rattle.white.proofs.white.after_white.Statement.{statement}
+use Rattle.white.proofs.white.after_white.Tie as tie
 
 returns : tie.Need-returns
 returns c = sym (after-end _ _ (c .if1 .taken))

@@ -4,7 +4,7 @@ ghost use mathlib.Core.Bool.{true};
 ghost use Prim.Native.Nat.{_+_, _≤_};
 ghost use Rattle.scope.specs.Choice.{between as Choice·between};
 ghost use Rattle.scope.specs.Item.{white, after};
-ghost use Rattle.number.specs.White.{Passed};
+ghost use Rattle.white.specs.White.{Passed};
 
 // Low to high, both included.
 pub fn between(low: u8, high: u8, x: u8) -> bool

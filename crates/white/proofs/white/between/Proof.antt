@@ -2,8 +2,8 @@
 -- Assumes nothing.
 use mathlib.Core.Bool.{false≢true}
 use borrow.Author.Tests.{le-leb, lt-leb, leb-true}
-use Rattle.number.proofs.white.between.Statement.{statement}
-use Rattle.number.proofs.white.between.Tie as tie
+use Rattle.white.proofs.white.between.Statement.{statement}
+use Rattle.white.proofs.white.between.Tie as tie
 
 returns : tie.Need-returns
 returns c = (simp (lt-leb _ _ (c .if1 .taken)), λ e. absurd (false≢true e))

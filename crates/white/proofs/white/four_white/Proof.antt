@@ -7,10 +7,10 @@ use native.Mathlib.Omega.{arith}
 use borrow.Author.Tests.{eqb-true}
 use lib.ListN.{getD}
 use Rattle.scope.specs.Item.{white}
-use Rattle.number.proofs.Spaces.{after-four, all-20, all-00}
+use Rattle.white.proofs.Spaces.{after-four, all-20, all-00}
 use borrow.Author.Needs.{needs}
-use Rattle.number.proofs.white.four_white.Statement.{statement}
-use Rattle.number.proofs.white.four_white.Tie as tie
+use Rattle.white.proofs.white.four_white.Statement.{statement}
+use Rattle.white.proofs.white.four_white.Tie as tie
 
 -- each of the four is a byte
 bytes : (c : tie.After-shared-slice-known4)

@@ -4,8 +4,8 @@ use mathlib.Core.Path.{sym, _∙_}
 use borrow.Author.Tests.{eq-eqb, ne-eqb}
 use Rattle.scope.specs.Item.{white}
 use borrow.Author.Needs.{needs}
-use Rattle.number.proofs.white.is_white.Statement.{statement}
-use Rattle.number.proofs.white.is_white.Tie as tie
+use Rattle.white.proofs.white.is_white.Statement.{statement}
+use Rattle.white.proofs.white.is_white.Tie as tie
 
 between-requires : tie.Need-between-requires
 between-requires c κs = search needs

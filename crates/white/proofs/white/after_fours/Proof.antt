@@ -6,10 +6,10 @@ use native.Mathlib.Omega.{arith}
 use borrow.Author.Tests.{not-false}
 use lib.ListN.{length}
 use Rattle.scope.specs.Item.{after}
-use Rattle.number.specs.White.{Passed}
+use Rattle.white.specs.White.{Passed}
 use borrow.Author.Needs.{needs}
-use Rattle.number.proofs.white.after_fours.Statement.{statement}
-use Rattle.number.proofs.white.after_fours.Tie as tie
+use Rattle.white.proofs.white.after_fours.Statement.{statement}
+use Rattle.white.proofs.white.after_fours.Tie as tie
 
 abbrev Inv-loop : tie.InvT-loop
 Inv-loop s at next₀ next = after s next ≡ after s at

@@ -1,13 +1,13 @@
 -- The invariant: the first place that is not white is the same from p on as from the start.
 use borrow.Author.Tests.{not-true, not-false}
-use Rattle.number.proofs.Spaces.{after-white, after-black, after-end}
+use Rattle.white.proofs.Spaces.{after-white, after-black, after-end}
 use Rattle.scope.specs.Item.{after}
 use lib.ListN.{length}
 use mathlib.Core.Path.{_≡_, sym, _∙_}
 use Prim.Native.Nat.{_-_}
 use borrow.Author.Needs.{needs}
-use Rattle.number.proofs.white.behind_white.Statement.{statement}
-use Rattle.number.proofs.white.behind_white.Tie as tie
+use Rattle.white.proofs.white.behind_white.Statement.{statement}
+use Rattle.white.proofs.white.behind_white.Tie as tie
 
 abbrev Inv-loop : tie.InvT-loop
 Inv-loop s at p₀ p = after s p ≡ after s at
