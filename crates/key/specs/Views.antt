@@ -2,7 +2,7 @@
 -- Assumes nothing.
 use Prim.Native.Nat.{ℕ}
 use mathlib.Core.List.{List, [], _∷_}
-use Rattle.motif.specs.declared.key.Key.{Key}
+use Rattle.key.specs.declared.key.Key.{Key}
 
 abbrev pub keyAs : Key → List ℕ
 keyAs k = k .first ∷ k .next ∷ k .long ∷ []

@@ -1,9 +1,9 @@
 -- `key_of` meets its contract: the first eight bytes, the next eight, and the length.
 -- Assumes nothing.
-use Rattle.motif.specs.Keys.{keyOf}
+use Rattle.key.specs.Keys.{keyOf}
 use borrow.Author.Needs.{needs}
-use Rattle.motif.proofs.key.key_of.Statement.{statement}
-use Rattle.motif.proofs.key.key_of.Tie as tie
+use Rattle.key.proofs.key.key_of.Statement.{statement}
+use Rattle.key.proofs.key.key_of.Tie as tie
 
 pack-requires : tie.Need-pack-requires
 pack-requires c κs = search needs

@@ -3,10 +3,10 @@
 use Prim.Native.Nat.{_-_}
 use mathlib.Core.Path.{refl}
 use native.Mathlib.Omega.{arith}
-use Rattle.motif.proofs.Within.{part-none, part-all}
+use Rattle.key.proofs.Within.{part-none, part-all}
 use borrow.Author.Needs.{needs}
-use Rattle.motif.proofs.part.within.Statement.{statement}
-use Rattle.motif.proofs.part.within.Tie as tie
+use Rattle.key.proofs.part.within.Statement.{statement}
+use Rattle.key.proofs.part.within.Tie as tie
 
 returns : tie.Need-returns
 returns c =

@@ -5,11 +5,11 @@ use mathlib.Core.Path.{_≡_, refl}
 use native.Mathlib.Omega.{arith}
 use native.Mathlib.Numerals.{add-one}
 use native.Mathlib.Nat.{pow-zero, pow-suc}
-use Rattle.motif.proofs.Packs.{pow-seven}
-use Rattle.motif.specs.Keys.{packed}
+use Rattle.key.proofs.Packs.{pow-seven}
+use Rattle.key.specs.Keys.{packed}
 use borrow.Author.Needs.{needs}
-use Rattle.motif.proofs.key.pack.Statement.{statement}
-use Rattle.motif.proofs.key.pack.Tie as tie
+use Rattle.key.proofs.key.pack.Statement.{statement}
+use Rattle.key.proofs.key.pack.Tie as tie
 
 abbrev Inv-loop : tie.InvT-loop
 Inv-loop s from v₀ i₀ v i = (i ≤ 8) × (v ≡ packed s from i) × (v < 256 ^ i)

@@ -11,7 +11,7 @@ use lib.Dec.{ltb}
 use borrow.Author.Tests.{ltb-true, ltb-false}
 use Rattle.scope.specs.Choice.{same}
 use Rattle.scope.proofs.Apart.{same-refl, same-eq, clash-of}
-use Rattle.motif.specs.Keys.{packed, keyOf, IsName}
+use Rattle.key.specs.Keys.{packed, keyOf, IsName}
 
 -- the numbers of a list are bytes
 abbrev pub Bytes : List ℕ → Type 0

@@ -4,7 +4,7 @@ ghost use mathlib.Core.Bool.{true};
 ghost use Prim.Native.Nat.{ℕ, _<_};
 ghost use lib.Dec.{eqb};
 ghost use Rattle.scope.specs.Choice.{pick};
-ghost use Rattle.motif.specs.Tables.{mark};
+ghost use Rattle.key.specs.Mark.{mark};
 use names::limits::MOTIFS_MOST;
 
 // Mark j is set; no mark from 64 on is.

@@ -3,9 +3,9 @@
 use mathlib.Core.Path.{refl}
 use native.Mathlib.Omega.{arith}
 use borrow.Author.Needs.{needs}
-use Rattle.motif.specs.Tables.{mark}
-use Rattle.motif.proofs.marks.has_mark.Statement.{statement}
-use Rattle.motif.proofs.marks.has_mark.Tie as tie
+use Rattle.key.specs.Mark.{mark}
+use Rattle.key.proofs.marks.has_mark.Statement.{statement}
+use Rattle.key.proofs.marks.has_mark.Tie as tie
 
 returns : tie.Need-returns
 returns c = λ h. absurd (omega arith)

@@ -10,7 +10,7 @@ use lib.Dec.{eqb, ltb}
 use lib.Pow.{pow-pos, pow-lt, pow-add, shl-shr, shl-exact}
 use borrow.Author.Tests.{eqb-true, eqb-false, ltb-true, ltb-false}
 use Rattle.scope.specs.Choice.{pick}
-use Rattle.motif.specs.Tables.{mark}
+use Rattle.key.specs.Mark.{mark}
 
 -- bit k of 2 ^ j
 bit-same : (j : ℕ) → 2 ^ j / 2 ^ j % 2 ≡ 1

@@ -2,9 +2,9 @@
 -- Assumes nothing.
 use native.Mathlib.Omega.{arith}
 use borrow.Author.Needs.{needs}
-use Rattle.motif.proofs.Marked.{mark-set, one-at}
-use Rattle.motif.proofs.marks.with_mark.Statement.{statement}
-use Rattle.motif.proofs.marks.with_mark.Tie as tie
+use Rattle.key.proofs.Marked.{mark-set, one-at}
+use Rattle.key.proofs.marks.with_mark.Statement.{statement}
+use Rattle.key.proofs.marks.with_mark.Tie as tie
 
 returns : tie.Need-returns
 returns c = λ h. absurd (omega arith)

@@ -1,8 +1,8 @@
 // A name as three numbers.
 ghost use mathlib.Core.Path.{_≡_};
 ghost use Prim.Native.Nat.{_≤_, _<_};
-ghost use Rattle.motif.specs.Keys.{packed, keyOf};
-ghost use Rattle.motif.specs.Views.{keyAs};
+ghost use Rattle.key.specs.Keys.{packed, keyOf};
+ghost use Rattle.key.specs.Views.{keyAs};
 use number::byte_at;
 
 // A name: its first eight bytes, its next eight, its length.

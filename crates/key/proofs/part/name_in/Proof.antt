@@ -2,8 +2,8 @@
 -- Assumes nothing.
 use mathlib.Core.Path.{refl, sym, _∙_}
 use borrow.Author.Needs.{needs}
-use Rattle.motif.proofs.part.name_in.Statement.{statement}
-use Rattle.motif.proofs.part.name_in.Tie as tie
+use Rattle.key.proofs.part.name_in.Statement.{statement}
+use Rattle.key.proofs.part.name_in.Tie as tie
 
 part-in-requires : tie.Need-part-in-requires
 part-in-requires c κs = search needs
