@@ -18,7 +18,7 @@ use Rattle.scope.specs.Judge.{State, Case, caseOf, judgedAt}
 use Rattle.reader.specs.Reads.{operatorAs}
 use Rattle.reader.specs.declared.reading.Operator.{Operator}
 use Rattle.page.specs.declared.page.Page.{Page}
-use Rattle.motif.specs.Keys.{IsName}
+use Rattle.key.specs.Keys.{IsName}
 use Rattle.motif.specs.Held.{Keeps}
 use Rattle.motif.specs.Stored.{Stored, full}
 use Rattle.motif.specs.declared.kept.Kept.{Kept}

@@ -71,7 +71,7 @@ fn begun(
         return Busy::Drawing(page::page::blank(set.gray), Picture::Nothing);
     }
     if tag == BEGIN_STREAM {
-        let name = motif::name_in(job, attrs, o.count);
+        let name = key::name_in(job, attrs, o.count);
         return Busy::Reading(name.first, name.count, 0);
     }
     Busy::Resting

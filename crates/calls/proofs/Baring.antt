@@ -14,8 +14,9 @@ use Rattle.scope.specs.Judge.{someMissing}
 use Rattle.scope.specs.Reach.{Name, any, fits, namesIn, namesOf, holds, calledBy}
 use Rattle.scope.proofs.Apart.{clash-of}
 use Rattle.scope.proofs.Levels.{level-unfolds}
+use Rattle.key.specs.Mark.{mark}
 use Rattle.motif.specs.Held.{Keeps, InRow, levelIn}
-use Rattle.motif.specs.Tables.{mark, Noted, levelOf, Settled}
+use Rattle.motif.specs.Tables.{Noted, levelOf, Settled}
 use Rattle.motif.proofs.Rowed.{held-in, in-below}
 use Rattle.patterns.specs.Numbers.{OfPage, OfSession, numbersIn, selectingIn, Few}
 use Rattle.patterns.specs.Selects.{selectsIn, wantsFrom, Selects}

@@ -10,7 +10,7 @@ use lib.Bits.{bitAnd, and-shr, and-step}
 use borrow.Author.Tests.{eqb-true, eqb-false, eq-eqb, ne-eqb, lt-ltb, le-ltb, ltb-true}
 use Rattle.scope.specs.Choice.{pick}
 use Rattle.scope.proofs.Apart.{clash-of}
-use Rattle.motif.specs.Tables.{mark}
+use Rattle.key.specs.Mark.{mark}
 use Rattle.calls.specs.Marks.{Adds}
 
 -- two tests that are true together are the same

@@ -13,8 +13,9 @@ use Rattle.scope.specs.Motif.{Motif, Held, heldAs, isHeld}
 use Rattle.scope.specs.Reach.{Name, any, lost, steps, namesIn, namesOf, holds, calledBy}
 use Rattle.scope.proofs.Apart.{clash-of, same-eq, same-refl}
 use Rattle.scope.proofs.Graph.{pick-true}
+use Rattle.key.specs.Mark.{mark}
 use Rattle.motif.specs.Held.{Keeps, InRow, callsIn}
-use Rattle.motif.specs.Tables.{mark, rowBy, rowOf, callsRow, lacksOne, Noted}
+use Rattle.motif.specs.Tables.{rowBy, rowOf, callsRow, lacksOne, Noted}
 use Rattle.motif.proofs.Rowed.{held-row, held-in, in-below, row-held, row-one}
 use Rattle.calls.specs.Marks.{Adds, lacks, reaches, Shows}
 use Rattle.calls.proofs.Marking.{alike, mark-none, some-mark, mark-some, and-mark}

@@ -10,8 +10,8 @@ use Rattle.scope.specs.Choice.{pick}
 use Rattle.scope.specs.Motif.{Motif, Held, heldAs}
 use Rattle.scope.specs.Judge.{someMissing}
 use Rattle.scope.specs.Reach.{Name, any, steps, calledBy}
+use Rattle.key.specs.Mark.{mark}
 use Rattle.motif.specs.Held.{InRow, callsIn, missingIn}
-use Rattle.motif.specs.Tables.{mark}
 use Rattle.patterns.specs.Numbers.{OfPage, OfSession, numbersIn}
 use Rattle.patterns.specs.Selects.{selectsIn}
 

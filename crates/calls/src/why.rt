@@ -7,17 +7,18 @@ ghost use lib.Dec.{eqb, ltb};
 ghost use Rattle.scope.specs.Choice.{pick};
 ghost use Rattle.scope.specs.Motif.{Motif};
 ghost use Rattle.scope.specs.Calls.{met};
+ghost use Rattle.key.specs.Mark.{mark};
 ghost use Rattle.motif.specs.Held.{InRow, levelIn};
-ghost use Rattle.motif.specs.Tables.{mark, Tables};
+ghost use Rattle.motif.specs.Tables.{Tables};
 ghost use Rattle.calls.specs.Marks.{Adds, lacks, reaches, closes};
 ghost use Rattle.calls.specs.Judged.{Calls};
 ghost use Rattle.calls.specs.declared.calls.Called.the-variants.{No};
+use key::has_mark;
+use key::with_mark;
 use motif::CALLS;
 use motif::MISSING;
 use motif::ROW;
-use motif::has_mark;
 use motif::in_use;
-use motif::with_mark;
 use names::limits::NESTING_MOST;
 
 // The marks, with mark i set if it is asked for.

@@ -20,7 +20,7 @@ fn row_in(s: &[u8], motifs: &[usize; 704], attrs: &[usize; 80], st: &[usize; 16]
     if st[TAG] != EXEC_STREAM {
         return NONE;
     }
-    let name = motif::name_in(s, attrs, st[COUNT]);
+    let name = key::name_in(s, attrs, st[COUNT]);
     let first = name.first;
     let count = name.count;
     match motif::find(motifs, st[MANY], &s[first..first + count]) {

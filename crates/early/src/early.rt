@@ -66,7 +66,7 @@ fn begin_stream(
     if held < MOTIFS_MOST {
         return Early::Fine;
     }
-    let name = motif::name_in(job, attrs, o.count);
+    let name = key::name_in(job, attrs, o.count);
     let first = name.first;
     let count = name.count;
     match motif::find(motifs, held, &job[first..first + count]) {
@@ -205,7 +205,7 @@ fn drawing_early(
     if o.tag != EXEC_STREAM {
         return Early::Fine;
     }
-    let name = motif::name_in(job, attrs, o.count);
+    let name = key::name_in(job, attrs, o.count);
     let first = name.first;
     let count = name.count;
     exec_stream(motifs, patterns, held, &job[first..first + count])

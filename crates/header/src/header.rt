@@ -7,9 +7,9 @@ ghost use lib.Dec.{eqb, leb};
 ghost use Rattle.scope.specs.Header.{title, mayStand, formFrom, classed, headerOf};
 ghost use Rattle.scope.specs.Header.{ends as Form·ends};
 ghost use Rattle.header.specs.Headers.{formAs, FormWithin, headerAs, HeaderWithin};
-use number::between;
 use number::byte_at;
 use setting::Class;
+use white::between;
 
 // The class, high byte first or not, and where the items begin; or a refusal, a code and a place.
 pub enum Header {

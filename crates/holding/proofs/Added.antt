@@ -18,7 +18,7 @@ use Rattle.scope.specs.Session.{keptAs}
 use Rattle.scope.specs.Sound.{Sound, sound-more}
 use Rattle.scope.proofs.Apart.{clash-of}
 use Rattle.summary.specs.Sums.{bitOf}
-use Rattle.motif.specs.Keys.{keyOf}
+use Rattle.key.specs.Keys.{keyOf}
 use Rattle.motif.specs.Sorted.{Sorted}
 use Rattle.motif.specs.Held.{Keeps, rows-more, InRow, storeOf, cell, keyIn, levelIn, orderIn}
 use Rattle.motif.specs.Search.{enteredIn}

@@ -14,8 +14,9 @@ use Rattle.scope.specs.Arm.{Stroke}
 use Rattle.scope.specs.Motif.{Own, Motif, Held, heldAs}
 use Rattle.scope.specs.Reach.{Name}
 use Rattle.summary.specs.Sums.{SumsAs}
+use Rattle.key.specs.Mark.{mark}
 use Rattle.motif.specs.Held.{Rows, rows-none, rows-more, InRow, cell}
-use Rattle.motif.specs.Tables.{mark, Noted, Settled, SumFor, SumsUp}
+use Rattle.motif.specs.Tables.{Noted, Settled, SumFor, SumsUp}
 use Rattle.motif.proofs.Rowed.{held-row, in-below}
 use Rattle.stream.specs.Judging.{Makes}
 use Rattle.stream.specs.declared.judging.Made.{Made}

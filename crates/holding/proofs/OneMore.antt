@@ -18,8 +18,9 @@ use Rattle.scope.specs.Reach.{Name, namesIn, namesOf, holds, calledBy}
 use Rattle.scope.proofs.Apart.{clash-of}
 use Rattle.summary.specs.Sums.{SumsAs}
 use Rattle.summary.proofs.Empty.{empty-sums}
+use Rattle.key.specs.Mark.{mark}
 use Rattle.motif.specs.Held.{Rows, rows-more, Keeps, InRow, cell, levelIn, sumIn, callsIn, missingIn}
-use Rattle.motif.specs.Tables.{mark, rowBy, rowOf, callsRow, lacksOne, levelOf, settledRow, Noted, Settled, Tables, SumFor, SumsUp}
+use Rattle.motif.specs.Tables.{rowBy, rowOf, callsRow, lacksOne, levelOf, settledRow, Noted, Settled, Tables, SumFor, SumsUp}
 use Rattle.motif.proofs.Rowed.{is-same, held-here, held-on, held-first, held-row, held-in, in-below, keeps-beside}
 use Rattle.rounds.specs.Rounds.{LevelsBut}
 use Rattle.stream.specs.declared.judging.Made.{Made}

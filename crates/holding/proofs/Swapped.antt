@@ -17,7 +17,7 @@ use Rattle.scope.specs.Sound.{Sound}
 use Rattle.scope.proofs.Apart.{same-eq}
 use Rattle.scope.proofs.Replaces.{kept-replaced}
 use Rattle.scope.proofs.Sound.{kept-sound}
-use Rattle.motif.specs.Keys.{keyOf, IsName}
+use Rattle.key.specs.Keys.{keyOf, IsName}
 use Rattle.motif.specs.Held.{Rows, rows-none, rows-more, InRow, keyIn, startIn, longIn, storeOf}
 use Rattle.motif.proofs.Rowed.{is-same, none-is, held-here, held-on, held-row}
 use Rattle.motif.proofs.Stored.{bytes-store, row-start, row-long}

@@ -7,7 +7,7 @@ use lib.ListN.{length, take, drop}
 use Rattle.scope.specs.Setting.{Setting}
 use Rattle.scope.specs.Motif.{Own, Motif, Judged, motifOf}
 use Rattle.summary.specs.Sums.{bitOf}
-use Rattle.motif.specs.Keys.{IsName}
+use Rattle.key.specs.Keys.{IsName}
 use Rattle.motif.specs.Held.{Rows, Keeps, levelIn, callsIn, missingIn}
 use Rattle.motif.specs.Tables.{Noted, Settled}
 use Rattle.motif.specs.Stored.{Stored}

@@ -7,9 +7,9 @@ use mathlib.Core.List.{List, [], _∷_, _++_}
 use lib.ListN.{length, getD, set}
 use Rattle.scope.specs.Motif.{Motif, Held, heldAs, bytesHeld}
 use Rattle.summary.specs.Sums.{bitOf}
-use Rattle.motif.specs.Keys.{keyOf, IsName}
+use Rattle.key.specs.Keys.{keyOf, IsName}
+use Rattle.key.specs.Mark.{mark}
 use Rattle.motif.specs.Held.{Rows, keyIn, longIn, levelIn, callsIn}
-use Rattle.motif.specs.Tables.{mark}
 use Rattle.stream.specs.declared.judging.Made.{Made}
 
 -- numbers stored one behind the other, the first at place at + k

@@ -10,7 +10,7 @@ ghost use Rattle.scope.specs.Motif.{Own, Motif, Held, heldAs};
 ghost use Rattle.scope.specs.Sound.{Sound};
 ghost use Rattle.setting.specs.Views.{settingAs};
 ghost use Rattle.summary.specs.Sums.{bitOf};
-ghost use Rattle.motif.specs.Keys.{keyOf};
+ghost use Rattle.key.specs.Keys.{keyOf};
 ghost use Rattle.motif.specs.Tables.{Tables};
 ghost use Rattle.motif.specs.Stored.{Stores, Stored};
 ghost use Rattle.stream.specs.Judging.{Makes};
@@ -51,7 +51,7 @@ fn write_row(
     requires { ⌜ i < 64 ⌝ }
     ensures { λ _. ⌜ now (motifs .exit) ≡ written (now (motifs .entry)) (i * 10) 0 (newRow (keyOf (now (name .entry))) start long made) ⌝ }
 {
-    let key = motif::key_of(name);
+    let key = key::key_of(name);
     let missing = bit(made.missing);
     motifs[i * ROW] = key.first;
     motifs[i * ROW + 1] = key.next;
@@ -73,7 +73,7 @@ fn is_done(motifs: &[usize; 704], next: usize, j: usize) -> bool
     if motifs[j * ROW + LEVEL] == 0 {
         return false;
     }
-    !motif::has_mark(motifs[j * ROW + CALLS], next)
+    !key::has_mark(motifs[j * ROW + CALLS], next)
 }
 
 // So it is with every motif held.

@@ -7,7 +7,7 @@ ghost use lib.ListN.{length, take, drop};
 ghost use Rattle.setting.specs.Views.{settingAs};
 ghost use Rattle.scope.specs.Motif.{Own, Motif, valid, motifOf};
 ghost use Rattle.scope.specs.Session.{keptAs};
-ghost use Rattle.motif.specs.Keys.{IsName};
+ghost use Rattle.key.specs.Keys.{IsName};
 ghost use Rattle.motif.specs.Stored.{Stored, full};
 ghost use Rattle.stream.specs.Judging.{Makes};
 use crate::adding::added;

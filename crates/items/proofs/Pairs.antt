@@ -19,7 +19,7 @@ use Rattle.items.specs.Values.{answerTo}
 use Rattle.items.specs.declared.pair.Pair.{Pair as CodePair}
 use Rattle.items.specs.declared.pair.Pair.the-variants.{Next, No, Waits}
 use Rattle.items.proofs.Rows.{length-rows, rows-stored}
-use Rattle.number.proofs.Spaces.{after-white, after-black, after-end}
+use Rattle.white.proofs.Spaces.{after-white, after-black, after-end}
 
 -- the numbers of a value are not all there, or they are
 pub numbers-short : (s : List ℕ) (at first n w : ℕ) → length s < first + n * w → numbersAt s at first n w ≡ Value.no 5 at

@@ -10,10 +10,10 @@ use crate::value::Value;
 use crate::value::value_at;
 use crate::value::width_in;
 use number::Width;
-use number::after_white;
 use number::byte_at;
 use number::bytes_of;
 use number::number_at;
+use white::after_white;
 
 // The place after a pair that was read; a refusal; or the bytes end while the value waits.
 pub enum Pair {

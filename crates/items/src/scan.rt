@@ -8,8 +8,8 @@ ghost use Rattle.items.specs.Rows.{rowsOf};
 ghost use Rattle.items.specs.Scans.{scanAs, Within};
 use crate::pair::Pair;
 use crate::pair::pair_at;
-use number::after_white;
-use number::between;
+use white::after_white;
+use white::between;
 
 // An operator's tag, how many attributes it has and its place; the end of the bytes with nothing waiting; or a refusal.
 pub enum Scan {

@@ -6,9 +6,9 @@ ghost use Rattle.scope.specs.Item.{widthOf, kindOf, countedAt, arrayAt, valueOf
 ghost use Rattle.number.specs.Widths.{bytesOf, widthIn};
 ghost use Rattle.items.specs.Values.{kindAs, KindFits, startsAs, Starts, Taken};
 use number::Width;
-use number::between;
 use number::bytes_of;
 use number::number_at;
+use white::between;
 
 // What a value's tag starts: so many numbers, an array; or it is no value's tag.
 enum Kind {

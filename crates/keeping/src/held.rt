@@ -30,7 +30,7 @@ pub fn none() -> Keeping {
 
 // BeginStream: the one that is being read has this name and no bytes yet.
 fn begin_stream(job: &[u8], attrs: &[usize; 80], st: &[usize; 16], kept: Kept) -> Keeping {
-    let name = motif::name_in(job, attrs, st[COUNT]);
+    let name = key::name_in(job, attrs, st[COUNT]);
     Keeping {
         kept,
         name,

@@ -8,13 +8,13 @@ use mathlib.Core.List.{List, _∷_}
 use native.Mathlib.Omega.{arith}
 use Rattle.scope.specs.Choice.{pick, same}
 use Rattle.scope.specs.Motif.{Motif, Held, heldAs}
-use Rattle.motif.specs.Keys.{keyOf}
+use Rattle.key.specs.Keys.{keyOf}
+use Rattle.key.proofs.Packs.{Bytes, same-key}
 use Rattle.motif.specs.Held.{Rows, rows-none, rows-more, Keeps, Finds, finds-at, finds-none, keyIn}
 use Rattle.motif.specs.Search.{findIn}
 use Rattle.motif.specs.declared.held.Where.{Where}
 use Rattle.motif.specs.declared.held.Where.the-variants.{At, Nowhere}
 use Rattle.motif.proofs.Rowed.{is-same, none-is, held-here, held-on, held-first, still-held}
-use Rattle.motif.proofs.Packs.{Bytes, same-key}
 use Rattle.motif.proofs.Finding.{find-held}
 
 -- the search through the first rows, the last one first

@@ -10,11 +10,11 @@ use native.Mathlib.Omega.{arith}
 use lib.ListN.{length}
 use Rattle.scope.specs.Motif.{Motif}
 use Rattle.scope.proofs.Apart.{clash-of}
-use Rattle.motif.specs.Keys.{packed, keyOf, IsName}
+use Rattle.key.specs.Keys.{packed, keyOf, IsName}
+use Rattle.key.proofs.Packs.{Bytes, packed-below, packed-cons, packed-split, high-same, low-same}
 use Rattle.motif.specs.Before.{before}
 use Rattle.motif.specs.Held.{Keeps, InRow, orderIn}
 use Rattle.motif.proofs.Ordered.{before-less, before-more, before-same, before-first, before-self, Three, lower, level, higher, three}
-use Rattle.motif.proofs.Packs.{Bytes, packed-below, packed-cons, packed-split, high-same, low-same}
 use Rattle.motif.proofs.Rowed.{in-below}
 use Rattle.motif.proofs.Stored.{row-key, row-name}
 

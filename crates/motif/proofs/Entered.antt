@@ -12,7 +12,8 @@ use lib.ListN.{length, getD, take, drop, set, length-drop, length-append, List·
 use lib.Seq.{paste, paste-suc, length-paste, length-paste-head, length-take-le, getD-take, getD-drop, getD-append-add}
 use borrow.Author.Tests.{lt-ltb}
 use Rattle.scope.specs.Motif.{Motif, Held, heldAs}
-use Rattle.motif.specs.Keys.{keyOf}
+use Rattle.key.specs.Keys.{keyOf}
+use Rattle.key.proofs.Packs.{Bytes, key-eq}
 use Rattle.motif.specs.Before.{before}
 use Rattle.motif.specs.Sorted.{Sorted}
 use Rattle.motif.specs.Held.{Rows, keyIn, orderIn}
@@ -22,7 +23,6 @@ use Rattle.motif.proofs.Halves.{First, place-first, place-within}
 use Rattle.motif.proofs.Sorting.{Put, sorted-more, sorted-alike}
 use Rattle.motif.proofs.Rowed.{none-is, row-held}
 use Rattle.motif.proofs.Stored.{row-key, row-name}
-use Rattle.motif.proofs.Packs.{Bytes, key-eq}
 
 -- a turn of the loop that moves numbers up
 pub paste-more : (xs ys : List ℕ) (a : ℕ) (vs : List ℕ) (i v : ℕ) → ys ≡ paste xs a vs i → v ≡ getD vs i 0 → a + i < length xs → i < length vs

@@ -5,7 +5,7 @@ use mathlib.Core.Path.{_≡_, refl}
 use mathlib.Core.Bool.{true, false}
 use mathlib.Core.List.{List, [], _∷_}
 use lib.ListN.{length, replicate, take, drop, set}
-use Rattle.motif.specs.Keys.{packed, keyOf}
+use Rattle.key.specs.Keys.{packed, keyOf}
 use Rattle.motif.specs.Before.{before}
 use Rattle.motif.specs.Sorted.{middle, halve}
 use Rattle.motif.specs.Search.{placeOf, rowAt, findIn, putIn, enteredIn}

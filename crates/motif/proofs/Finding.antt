@@ -14,7 +14,8 @@ use Rattle.scope.specs.Choice.{pick, same}
 use Rattle.scope.specs.Motif.{Motif, Held, heldAs}
 use Rattle.scope.proofs.Apart.{same-refl, same-eq, clash-of}
 use Rattle.scope.proofs.Ends.{pick-all}
-use Rattle.motif.specs.Keys.{keyOf}
+use Rattle.key.specs.Keys.{keyOf}
+use Rattle.key.proofs.Packs.{Bytes, key-eq}
 use Rattle.motif.specs.Before.{before}
 use Rattle.motif.specs.Held.{Keeps, InRow, Finds, finds-at, finds-none, cell, keyIn, orderIn}
 use Rattle.motif.specs.Search.{few, placeOf, rowAt, findIn, Row}
@@ -24,7 +25,6 @@ use Rattle.motif.proofs.Ordered.{Three, lower, level, higher, three, no
 use Rattle.motif.proofs.Halves.{First, place-first}
 use Rattle.motif.proofs.Rowed.{held-row, held-in, in-below, row-held}
 use Rattle.motif.proofs.Stored.{row-key, row-name}
-use Rattle.motif.proofs.Packs.{Bytes, key-eq}
 
 -- three numbers are the same as three others, one after the other
 same-three : (a b c x y z : ℕ) → same (a ∷ b ∷ c ∷ []) (x ∷ y ∷ z ∷ []) ≡ pick (eqb c z) (pick (eqb a x) (eqb b y) false) false

@@ -3,11 +3,8 @@ pub mod Halves
 pub mod Sorting
 pub mod Rowed
 pub mod Stored
-pub mod Within
-pub mod Packs
 pub mod Finding
 pub mod AsBefore
 pub mod Entered
 pub mod ByName
 pub mod Example
-pub mod Marked

@@ -9,7 +9,7 @@ use lib.ListN.{length, take, drop, length-append, length-drop, take-append-drop}
 use lib.Seq.{take-append-le, drop-append-le, drop-at, take-all}
 use Rattle.scope.specs.Choice.{same}
 use Rattle.scope.specs.Motif.{Motif, heldAs, bytesHeld}
-use Rattle.motif.specs.Keys.{keyOf, IsName}
+use Rattle.key.specs.Keys.{keyOf, IsName}
 use Rattle.motif.specs.Held.{Rows, rows-none, rows-more, InRow, keyIn, startIn, longIn, storeOf}
 use Rattle.motif.proofs.Rowed.{is-same, none-is, held-here, held-on}
 

@@ -7,7 +7,7 @@ use mathlib.Core.Path.{_≡_}
 use mathlib.Core.List.{List, [], _∷_, _++_}
 use lib.ListN.{length, getD}
 use Rattle.scope.specs.Motif.{Motif, Held, heldAs, bytesHeld}
-use Rattle.motif.specs.Keys.{keyOf, IsName}
+use Rattle.key.specs.Keys.{keyOf, IsName}
 use Rattle.motif.specs.Sorted.{Sorted}
 use Rattle.motif.specs.declared.held.Where.{Where}
 use Rattle.motif.specs.declared.held.Where.the-variants.{At, Nowhere}

@@ -1,6 +1,6 @@
 -- What the table says of calls: whom each motif calls, how deep it nests, what it comes to. It is made at EndStream, and a call is judged from it alone.
 -- Assumes nothing.
-use Prim.Native.Nat.{ℕ, zero, suc, _-_, _/_, _%_, _^_, _<_}
+use Prim.Native.Nat.{ℕ, zero, suc, _-_, _<_}
 use mathlib.Core.Path.{_≡_}
 use mathlib.Core.Bool.{Bool, not}
 use mathlib.Core.List.{List, []}
@@ -11,11 +11,8 @@ use Rattle.scope.specs.Motif.{Own, Motif, Held, heldAs}
 use Rattle.scope.specs.Calls.{unfolded}
 use Rattle.scope.specs.Reach.{Name, any, fits, namesIn, holds, calledBy}
 use Rattle.summary.specs.Sums.{SumsAs}
+use Rattle.key.specs.Mark.{mark}
 use Rattle.motif.specs.Held.{Keeps, InRow, levelIn, sumIn, callsIn, missingIn}
-
--- mark j of a number of 64 marks
-unfoldable pub mark : (marks j : ℕ) → Bool
-mark marks j = eqb (marks / 2 ^ j % 2) 1
 
 -- the row of a name; 64, which is no row, where it is not held
 abbrev pub rowBy : Held → ℕ

@@ -2,15 +2,15 @@
 ghost use mathlib.Core.Path.{_≡_};
 ghost use Prim.Native.Nat.{_+_, _≤_, _<_};
 ghost use lib.ListN.{length};
-ghost use Rattle.motif.specs.Keys.{keyOf};
+ghost use Rattle.key.specs.Keys.{keyOf};
+ghost use Rattle.key.specs.Views.{keyAs};
 ghost use Rattle.motif.specs.Before.{before};
-ghost use Rattle.motif.specs.Views.{keyAs};
 ghost use Rattle.motif.specs.Held.{keyIn};
 ghost use Rattle.motif.specs.Search.{placeOf, putIn, enteredIn};
 use crate::held::ORDER;
 use crate::held::ROW;
-use crate::key::Key;
-use crate::key::key_of;
+use key::Key;
+use key::key_of;
 use names::limits::MOTIFS_MOST;
 
 // The name of row i stands before a name: by the first eight bytes, by the next eight, by the length.

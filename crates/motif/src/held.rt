@@ -4,13 +4,13 @@ ghost use mathlib.Core.List.{List};
 ghost use Prim.Native.Nat.{_≤_, _<_};
 ghost use Rattle.scope.specs.Choice.{same};
 ghost use Rattle.scope.specs.Motif.{Motif};
-ghost use Rattle.motif.specs.Keys.{keyOf};
-ghost use Rattle.motif.specs.Views.{keyAs};
+ghost use Rattle.key.specs.Keys.{keyOf};
+ghost use Rattle.key.specs.Views.{keyAs};
 ghost use Rattle.motif.specs.Held.{keyIn, Keeps, Finds};
 ghost use Rattle.motif.specs.Search.{few, findIn, Row};
 use crate::column::place_of;
-use crate::key::Key;
-use crate::key::key_of;
+use key::Key;
+use key::key_of;
 use names::limits::MOTIFS_MOST;
 
 // The table of held motifs has a row of ten numbers for each: the first three are its name.

@@ -2,9 +2,6 @@
 mod column;
 mod held;
 mod kept;
-mod key;
-mod marks;
-mod part;
 
 pub use column::enter;
 pub use held::CALLS;
@@ -19,8 +16,3 @@ pub use held::Where;
 pub use held::find;
 pub use held::in_use;
 pub use kept::Kept;
-pub use key::Key;
-pub use key::key_of;
-pub use marks::has_mark;
-pub use marks::with_mark;
-pub use part::name_in;

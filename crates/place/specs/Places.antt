@@ -13,7 +13,7 @@ use Rattle.scope.specs.Motif as motif
 use Rattle.scope.specs.Session as scope
 use Rattle.page.specs.Holds.{PageHolds}
 use Rattle.page.specs.declared.page.Page.{Page}
-use Rattle.motif.specs.Keys.{IsName}
+use Rattle.key.specs.Keys.{IsName}
 use Rattle.motif.specs.Stored.{Stored, full}
 use Rattle.motif.specs.declared.kept.Kept.{Kept}
 use Rattle.order.specs.Pictures.{pictureAs}

@@ -20,7 +20,7 @@ use Rattle.scope.specs.Order.{Phase, in-page, in-motif, drawn, mayCome, rowsFit
 use Rattle.scope.specs.Reading.{Context, Read, withData, asWhole, withAttributes, withLine, scanned, operatorAt}
 use Rattle.number.proofs.Digits.{one-digit}
 use Rattle.items.proofs.Pairs.{numbers-all, scan-tag, black-item}
-use Rattle.number.proofs.Spaces.{after-black}
+use Rattle.white.proofs.Spaces.{after-black}
 use Rattle.reader.specs.EndPoint.{lineOf, Point, point-ubyte, point-uint16, point-sint16, point-real, point-none, Drawn, drawn-path, drawn-rel, Ends, Line}
 
 -- whole numbers are taken

@@ -87,7 +87,7 @@ fn data_at(c: Context, s: &[u8], at: usize, due: usize) -> Found
     if lacks(c.asked, c.opened) {
         return Found::No(17, at);
     }
-    let p = number::after_white(s, at + 1);
+    let p = white::after_white(s, at + 1);
     let set = c.set;
     block_at(s, set.high, at, due, p)
 }

@@ -1,7 +1,7 @@
 // How many calls lead from each motif to one of them, and whom each calls on the way.
+use key::has_mark;
 use motif::CALLS;
 use motif::ROW;
-use motif::has_mark;
 use motif::in_use;
 
 // As many calls as count: one for each motif that may run at a time.

@@ -12,8 +12,9 @@ use Rattle.scope.specs.Choice.{pick}
 use Rattle.scope.specs.Motif.{Motif, Held, heldAs, isHeld}
 use Rattle.scope.specs.Reach.{Name, all, any, fits, namesIn, namesOf, holds, calledBy}
 use Rattle.scope.proofs.Graph.{clash, pick-true}
+use Rattle.key.specs.Mark.{mark}
 use Rattle.motif.specs.Held.{Keeps, InRow, levelIn, callsIn, missingIn}
-use Rattle.motif.specs.Tables.{mark, rowOf, callsRow, lacksOne, Noted}
+use Rattle.motif.specs.Tables.{rowOf, callsRow, lacksOne, Noted}
 use Rattle.motif.proofs.Rowed.{held-row, held-in, in-below}
 use Rattle.rounds.specs.Rounds.{earlierOf, readyOf}
 use Rattle.rounds.proofs.Levels.{nests}

@@ -11,9 +11,10 @@ use Rattle.scope.specs.Choice.{pick}
 use Rattle.scope.specs.Motif.{Motif}
 use Rattle.scope.specs.Reach.{Name}
 use Rattle.scope.proofs.Graph.{clash}
+use Rattle.key.specs.Mark.{mark}
 use Rattle.motif.specs.Search.{few}
 use Rattle.motif.specs.Held.{Keeps, InRow, levelIn, callsIn, missingIn}
-use Rattle.motif.specs.Tables.{mark, callsRow, Noted, levelOf}
+use Rattle.motif.specs.Tables.{callsRow, Noted, levelOf}
 use Rattle.motif.proofs.Rowed.{in-below}
 use Rattle.rounds.specs.Rounds.{earlierOf, readyOf, nextOf, LevelsBut}
 use Rattle.rounds.proofs.Levels.{nests, under-level}

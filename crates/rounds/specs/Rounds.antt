@@ -7,8 +7,9 @@ use mathlib.Core.List.{List}
 use lib.Dec.{eqb, ltb, leb}
 use Rattle.scope.specs.Choice.{pick}
 use Rattle.scope.specs.Motif.{Motif}
+use Rattle.key.specs.Mark.{mark}
 use Rattle.motif.specs.Held.{InRow, levelIn, callsIn, missingIn}
-use Rattle.motif.specs.Tables.{mark, levelOf}
+use Rattle.motif.specs.Tables.{levelOf}
 
 -- not called, or with a level from 1 to below t
 unfoldable pub earlierOf : (called : Bool) → (level t : ℕ) → Bool

@@ -12,7 +12,6 @@ ghost use Rattle.running.specs.Running.{inSession, standing, Further, Ru
 use motif::Kept;
 use names::attributes::END_POINT;
 use names::limits::PERFORMED_MOST;
-use number::is_white;
 use order::Picture;
 use page::page::Page;
 use page::page::Passed;
@@ -20,6 +19,7 @@ use place::Busy;
 use place::Place;
 use reader::LineEnd;
 use state::State;
+use white::is_white;
 
 // Where a run stands.
 pub struct Run {

@@ -11,8 +11,9 @@ use borrow.Author.Tests.{eqb-true, eqb-false}
 use Rattle.scope.specs.Motif.{Motif}
 use Rattle.summary.specs.Sums.{SumsAs}
 use Rattle.summary.proofs.Empty.{empty-sums}
+use Rattle.key.specs.Mark.{mark}
 use Rattle.motif.specs.Held.{Keeps, InRow, cell, levelIn, sumIn, callsIn, missingIn}
-use Rattle.motif.specs.Tables.{mark, callsRow, lacksOne, levelOf, settledRow}
+use Rattle.motif.specs.Tables.{callsRow, lacksOne, levelOf, settledRow}
 use Rattle.motif.proofs.Rowed.{in-below, keeps-beside}
 use Rattle.settling.specs.Making.{NotedTo, Rounded}
 use Rattle.settling.proofs.Cells.{cell-there, cell-row, cell-column}

@@ -9,8 +9,9 @@ use Rattle.scope.specs.Setting.{Setting}
 use Rattle.scope.specs.Motif.{Motif}
 use Rattle.scope.specs.Sound.{Sound}
 use Rattle.summary.specs.Sums.{SumsAs}
+use Rattle.key.specs.Mark.{mark}
 use Rattle.motif.specs.Held.{Keeps, InRow, levelIn, sumIn, callsIn, missingIn}
-use Rattle.motif.specs.Tables.{mark, callsRow, lacksOne, Noted, levelOf, settledRow, Settled}
+use Rattle.motif.specs.Tables.{callsRow, lacksOne, Noted, levelOf, settledRow, Settled}
 use Rattle.motif.specs.Stored.{Stores}
 
 -- the store has the motifs, and each is what its bytes say

@@ -32,7 +32,8 @@ use Rattle.both.specs.Runs.{Runs}
 use Rattle.arm.proofs.Rows.{flat-does}
 use Rattle.arm.proofs.Ways.{or-false}
 use Rattle.both.proofs.Levels.{own-does}
-use Rattle.motif.specs.Tables.{mark, callsRow, lacksOne}
+use Rattle.key.specs.Mark.{mark}
+use Rattle.motif.specs.Tables.{callsRow, lacksOne}
 use Rattle.order.specs.Pictures.{pictureAs}
 use Rattle.patterns.specs.Selects.{selectsIn}
 use Rattle.reader.specs.EndPoint.{lineOf, Drawn, drawn-path, drawn-rel, Line}

@@ -26,8 +26,9 @@ use Rattle.summary.specs.Balance.{Level, Balanced, OwnLevel}
 use Rattle.arm.proofs.Rows.{flat-does, flat-calls}
 use Rattle.both.proofs.Levels.{own-does, own-calls, own-level, saved-depth, may-saved}
 use Rattle.order.specs.Pictures.{pictureAs}
+use Rattle.key.specs.Mark.{mark}
 use Rattle.motif.specs.Held.{Finds, finds-at, finds-none}
-use Rattle.motif.specs.Tables.{mark, callsRow, lacksOne, SumFor, SumsUp}
+use Rattle.motif.specs.Tables.{callsRow, lacksOne, SumFor, SumsUp}
 use Rattle.motif.specs.declared.held.Where.{Where}
 use Rattle.motif.specs.declared.held.Where.the-variants.{At, Nowhere}
 use Rattle.stream.proofs.Naming.{deed-row, deed-lacks, held-row, held-lacks, none-row, none-lacks}

@@ -14,7 +14,8 @@ use Rattle.scope.specs.Reach.{Name}
 use Rattle.summary.specs.Sums.{SumsAs}
 use Rattle.both.specs.Runs.{Runs}
 use Rattle.summary.specs.Balance.{OwnLevel}
-use Rattle.motif.specs.Tables.{mark, callsRow, lacksOne, SumsUp}
+use Rattle.key.specs.Mark.{mark}
+use Rattle.motif.specs.Tables.{callsRow, lacksOne, SumsUp}
 use Rattle.order.specs.Pictures.{pictureAs}
 use Rattle.patterns.specs.Numbers.{numbersIn, noted, collected}
 use Rattle.patterns.specs.Selects.{selectsIn}

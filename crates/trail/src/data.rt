@@ -15,7 +15,7 @@ use number::number_at;
 
 // Where the item behind the operator's tag stands.
 fn item(s: &[u8], st: &[usize; 16]) -> usize {
-    number::after_white(s, on(st[PLACE], 1))
+    white::after_white(s, on(st[PLACE], 1))
 }
 
 // Data stands behind the operator.

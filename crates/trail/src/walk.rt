@@ -36,7 +36,7 @@ pub fn on(at: usize, k: usize) -> usize {
 
 // The place behind an operator's tag, and behind its data if there is any.
 fn behind(s: &[u8], high: bool, place: usize) -> usize {
-    let p = number::after_white(s, on(place, 1));
+    let p = white::after_white(s, on(place, 1));
     let b = byte_at(s, p);
     if b == 0xfa {
         return on(on(p, 5), number_at(s, on(p, 1), Width::Four, high) as usize);

@@ -193,7 +193,7 @@ fn ended_line(opened: usize) -> usize {
 
 // Of 27: what is open at the end.
 fn open_line(s: &[u8], st: &[usize; 16]) -> usize {
-    if number::after_white(s, st[START]) < s.len() {
+    if white::after_white(s, st[START]) < s.len() {
         return WAITS;
     }
     let phase = st[PHASE];

@@ -25,7 +25,7 @@ fn is_defined(job: &[u8], name: &[u8], attrs: &[usize; 80], st: &[usize; 16]) ->
     if st[TAG] != 0x5b {
         return false;
     }
-    let part = motif::name_in(job, attrs, st[COUNT]);
+    let part = key::name_in(job, attrs, st[COUNT]);
     let first = part.first;
     let count = part.count;
     if job.len() < first {

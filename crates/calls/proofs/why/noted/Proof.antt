@@ -5,7 +5,7 @@ use mathlib.Core.Path.{_≡_, refl, sym, _∙_}
 use mathlib.Core.Bool.{Bool, true, false}
 use lib.Dec.{eqb}
 use Rattle.scope.specs.Choice.{pick}
-use Rattle.motif.specs.Tables.{mark}
+use Rattle.key.specs.Mark.{mark}
 use Rattle.calls.proofs.why.noted.Statement.{statement}
 use Rattle.calls.proofs.why.noted.Tie as tie
 

@@ -4,7 +4,7 @@ use Prim.Native.Nat.{_+_, _*_, _≤_}
 use mathlib.Core.Path.{refl, ap, _∙_}
 use native.Mathlib.Omega.{arith}
 use lib.ListN.{length}
-use Rattle.motif.specs.Keys.{keyOf}
+use Rattle.key.specs.Keys.{keyOf}
 use Rattle.motif.specs.Search.{enteredIn}
 use Rattle.holding.specs.Rowing.{newRow}
 use Rattle.holding.proofs.Cells.{written-length}

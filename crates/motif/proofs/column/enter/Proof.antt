@@ -4,7 +4,7 @@ use Prim.Native.Nat.{_+_, _-_, _<_}
 use mathlib.Core.Path.{_≡_, refl, ap, _∙_}
 use lib.ListN.{length}
 use borrow.Author.Tests.{lt-ltb, le-ltb}
-use Rattle.motif.specs.Keys.{keyOf}
+use Rattle.key.specs.Keys.{keyOf}
 use Rattle.motif.specs.Search.{placeOf, enteredIn}
 use Rattle.motif.proofs.Entered.{put-length}
 use borrow.Author.Needs.{needs}

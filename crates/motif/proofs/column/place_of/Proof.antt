@@ -3,8 +3,8 @@
 use Prim.Native.Nat.{_-_, _≤_}
 use mathlib.Core.Path.{sym, _∙_}
 use native.Mathlib.Omega.{arith}
+use Rattle.key.specs.Views.{keyAs}
 use Rattle.motif.specs.Sorted.{middle}
-use Rattle.motif.specs.Views.{keyAs}
 use Rattle.motif.specs.Held.{keyIn, orderIn}
 use Rattle.motif.specs.Search.{placeOf}
 use Rattle.motif.proofs.Halves.{Going, going-start, going-up, going-down, going-over}

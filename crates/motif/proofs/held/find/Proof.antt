@@ -3,7 +3,7 @@
 use mathlib.Core.Path.{_≡_, sym, ap, _∙_}
 use native.Mathlib.Omega.{arith}
 use Rattle.scope.specs.Choice.{same}
-use Rattle.motif.specs.Keys.{keyOf}
+use Rattle.key.specs.Keys.{keyOf}
 use Rattle.motif.specs.declared.held.Where.the-variants.{At, Nowhere}
 use Rattle.motif.specs.Held.{keyIn, orderIn}
 use Rattle.motif.specs.Search.{placeOf}

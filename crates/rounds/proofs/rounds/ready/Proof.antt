@@ -5,8 +5,8 @@ use mathlib.Core.Path.{_≡_, refl, sym, _∙_}
 use mathlib.Core.Bool.{true, false}
 use native.Mathlib.Omega.{arith}
 use borrow.Author.Tests.{not-true, not-false}
+use Rattle.key.specs.Mark.{mark}
 use Rattle.motif.specs.Held.{levelIn, callsIn}
-use Rattle.motif.specs.Tables.{mark}
 use Rattle.rounds.specs.Rounds.{earlierOf, readyOf}
 use Rattle.rounds.proofs.Rounded.{ready-down}
 use borrow.Author.Needs.{needs}

@@ -6,7 +6,7 @@ use mathlib.Core.Bool.{false}
 use native.Mathlib.Omega.{arith}
 use borrow.Author.Tests.{le-leb, lt-leb, ne-eqb}
 use Rattle.scope.specs.Item.{white}
-use Rattle.number.proofs.Spaces.{after-black}
+use Rattle.white.proofs.Spaces.{after-black}
 use borrow.Author.Needs.{needs}
 use Rattle.running.proofs.running.item_at.Statement.{statement}
 use Rattle.running.proofs.running.item_at.Tie as tie

@@ -6,7 +6,7 @@ use native.Mathlib.Omega.{arith}
 use borrow.Author.Tests.{not-true, not-false}
 use lib.ListN.{length}
 use Rattle.scope.specs.Item.{after}
-use Rattle.number.proofs.Spaces.{after-white, after-black}
+use Rattle.white.proofs.Spaces.{after-white, after-black}
 use borrow.Author.Needs.{needs}
 use Rattle.running.proofs.running.near_item.Statement.{statement}
 use Rattle.running.proofs.running.near_item.Tie as tie

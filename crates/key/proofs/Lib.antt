@@ -1,0 +1,3 @@
+pub mod Packs
+pub mod Within
+pub mod Marked
