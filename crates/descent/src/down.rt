@@ -1,10 +1,10 @@
 // Down from motif to motif, to the first operator that breaks the rule of a code.
+use crate::before::page_at;
 use crate::call::CALLED;
 use crate::call::EXEC_STREAM;
 use crate::call::NONE;
 use crate::call::note_called;
 use crate::call::performed;
-use crate::page::page_at;
 use crate::select::bare;
 use arm::seen::Seen;
 use attributes::Part;

@@ -3,8 +3,8 @@
 use mathlib.Core.Path.{_≡_}
 use lib.ListN.{length}
 use borrow.Author.Needs.{needs}
-use Rattle.descent.proofs.page.page_at.Statement.{statement}
-use Rattle.descent.proofs.page.page_at.Tie as tie
+use Rattle.descent.proofs.before.page_at.Statement.{statement}
+use Rattle.descent.proofs.before.page_at.Tie as tie
 
 abbrev Inv-loop : tie.InvT-loop
 Inv-loop job to set store₀ motifs₀ attrs₀ st₀ page₀ held₀ at₀ turns₀ store motifs attrs st page held at turns =
