@@ -32,7 +32,7 @@ fn row_in(s: &[u8], motifs: &[usize; 704], attrs: &[usize; 80], st: &[usize; 16]
 // What is seen after an operator that is no call.
 fn step(s: &[u8], set: Setting, attrs: &[usize; 80], st: &[usize; 16], seen: Seen) -> Seen {
     let tag = (st[TAG] % 256) as u8;
-    let reads = trail::is_told(s, st);
+    let reads = data::is_told(s, st);
     seen.step(act::act_of(s, set.high, set.gray, tag, reads, attrs, st[COUNT]))
 }
 

@@ -14,7 +14,7 @@ fn is_bare(job: &[u8], to: usize, s: &[u8], attrs: &[usize; 80], st: &[usize; 16
         return false;
     }
     let number = attributes::value_in(s, high, attrs, st[COUNT], PATTERN_SELECT_ID);
-    !trail::is_hatched(job, to, number)
+    !hatched::is_hatched(job, to, number)
 }
 
 // Goes through a motif to its first operator that does, which `st` and `attrs` tell then; the answer is 1 if there is one.

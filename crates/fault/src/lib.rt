@@ -40,9 +40,9 @@ fn line_of(code: u32, s: &[u8], at: usize, st: &[usize; 16], f: Facts) -> usize 
         }
     }
     if code == 34 {
-        return trail::undefined_line(s, at, f.pattern);
+        return why::undefined_line(s, at, f.pattern);
     }
-    trail::line_of(code, s, st)
+    why::line_of(code, s, st)
 }
 
 // The code and the cure of a line.
@@ -64,7 +64,7 @@ fn caused(job: &[u8], list: &[u8], records: usize, s: &[u8], k: usize, f: Facts)
 
 // The line of the cure, which for 9 depends on where matters stand.
 fn cure_at(k: usize, st: &[usize; 16]) -> usize {
-    if k == 9 { trail::may_come_line(st) } else { k }
+    if k == 9 { why::may_come_line(st) } else { k }
 }
 
 // Says what is wrong at a place of the job, and the cure.

@@ -81,7 +81,7 @@ fn of_bare(
     st: &[usize; 16],
 ) {
     let f = tell::facts_in(motif, st[trail::PLACE], attrs, st);
-    let k = trail::undefined_line(job, b.at, f.pattern);
+    let k = why::undefined_line(job, b.at, f.pattern);
     tell::cause(k, motif, f);
     say(b"; the motif ");
     name_of(motifs, b.motif);

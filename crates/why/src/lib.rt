@@ -1,19 +1,17 @@
 // Which sentence says why: the line of the code itself, or a line further down that says more.
-use crate::data;
-use crate::hatched::Until;
-use crate::hatched::hatched;
-use crate::step::BETWEEN;
-use crate::step::IMAGE;
-use crate::step::MOTIF;
-use crate::step::OPENED;
-use crate::step::PAGE;
-use crate::step::PATTERN;
-use crate::step::PHASE;
-use crate::step::SAVED;
-use crate::step::SESSION;
-use crate::step::STREAM;
-use crate::walk::START;
-use crate::walk::TAG;
+use hatched::Until;
+use hatched::hatched;
+use trail::BETWEEN;
+use trail::IMAGE;
+use trail::MOTIF;
+use trail::OPENED;
+use trail::PAGE;
+use trail::PATTERN;
+use trail::PHASE;
+use trail::SESSION;
+use trail::START;
+use trail::STREAM;
+use trail::TAG;
 
 const NO_SESSION: usize = 37;
 

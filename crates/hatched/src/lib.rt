@@ -1,13 +1,13 @@
 // Whether a pattern is defined at a place of a job, and if not, with what it ended.
-use crate::walk::COUNT;
-use crate::walk::TAG;
-use crate::walk::begin;
-use crate::walk::pass;
 use names::attributes::PATTERN_DEFINE_ID;
 use names::attributes::PATTERN_PERSISTENCE;
+use trail::COUNT;
+use trail::TAG;
+use trail::begin;
+use trail::pass;
 
 // It is defined, for the page or for the session; it was, for the page before, for an earlier page, or in an earlier session; or it never was.
-pub(crate) enum Until {
+pub enum Until {
     Now,
     PageBefore,
     EarlierPage,
@@ -112,7 +112,7 @@ fn told(h: &[usize; 4]) -> Until {
 }
 
 // How matters stand with the pattern of a number before the operator at a place of the job.
-pub(crate) fn hatched(job: &[u8], to: usize, number: u32) -> Until {
+pub fn hatched(job: &[u8], to: usize, number: u32) -> Until {
     let high = number::byte_at(job, 0) == 0x28;
     let mut attrs = [0usize; 80];
     let mut st = [0usize; 16];

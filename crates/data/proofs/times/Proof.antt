@@ -4,8 +4,8 @@ use Prim.Native.Nat.{ℕ, _*_, _≤_}
 use native.Mathlib.Nat.{mul-le-mul}
 use native.Mathlib.Omega.{arith}
 use borrow.Author.Needs.{needs}
-use Rattle.trail.proofs.data.times.Statement.{statement}
-use Rattle.trail.proofs.data.times.Tie as tie
+use Rattle.data.proofs.times.Statement.{statement}
+use Rattle.data.proofs.times.Tie as tie
 
 product : (x y : ℕ) → x ≤ 65535 → y ≤ 131070 → x * y ≤ 65535 * 131070
 product x y h k = mul-le-mul h k

@@ -1,8 +1,8 @@
 -- Nothing has to hold from turn to turn; each turn brings the end one nearer.
 -- Assumes nothing.
 use borrow.Author.Needs.{needs}
-use Rattle.trail.proofs.hatched.hatched.Statement.{statement}
-use Rattle.trail.proofs.hatched.hatched.Tie as tie
+use Rattle.hatched.proofs.hatched.Statement.{statement}
+use Rattle.hatched.proofs.hatched.Tie as tie
 
 abbrev Inv-loop : tie.InvT-loop
 Inv-loop job to number high attrs₀ st₀ h₀ at₀ turns₀ attrs st h at turns = Unit {0}

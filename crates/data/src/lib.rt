@@ -1,10 +1,4 @@
 // The data that an operator asks for, and the length that stands behind it.
-use crate::step::DEPTH;
-use crate::step::WIDTH;
-use crate::walk::COUNT;
-use crate::walk::PLACE;
-use crate::walk::TAG;
-use crate::walk::on;
 use names::attributes::BLOCK_HEIGHT;
 use names::attributes::NUMBER_OF_POINTS;
 use names::attributes::POINT_TYPE;
@@ -12,6 +6,12 @@ use names::attributes::STREAM_DATA_LENGTH;
 use number::Width;
 use number::byte_at;
 use number::number_at;
+use trail::COUNT;
+use trail::DEPTH;
+use trail::PLACE;
+use trail::TAG;
+use trail::WIDTH;
+use trail::on;
 
 // Where the item behind the operator's tag stands.
 fn item(s: &[u8], st: &[usize; 16]) -> usize {
