@@ -1,8 +1,8 @@
 // The page at a place of a job, and the motifs held there.
-use crate::call::performed;
 use arm::page::Page;
 use arm::page::blank;
 use arm::seen::Seen;
+use down::performed;
 use keeping::keep;
 use setting::Setting;
 use trail::TAG;

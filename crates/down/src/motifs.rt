@@ -2,10 +2,7 @@
 use crate::call::CALLED;
 use crate::call::EXEC_STREAM;
 use crate::call::NONE;
-use crate::call::note_called;
 use crate::call::performed;
-use crate::page::page_at;
-use crate::select::bare;
 use arm::page::Page;
 use arm::seen::Seen;
 use attributes::Part;
@@ -17,17 +14,7 @@ use setting::Setting;
 use trail::TAG;
 
 // The code of the rule, among the numbers of a walk.
-const CODE: usize = 15;
-
-// A motif with the operator: where its bytes lie in the store, and its row; the row of the motif that the job calls, 64 if its name is not held, and
-// where it calls; and how many are held.
-pub struct Breach {
-    pub bytes: Part,
-    pub motif: usize,
-    pub called: usize,
-    pub at: usize,
-    pub held: usize,
-}
+pub const CODE: usize = 15;
 
 // The operator that a walk has come to calls a name that is not held.
 fn is_lost(st: &[usize; 16]) -> bool {
@@ -88,7 +75,7 @@ fn through(
 }
 
 // The bytes of the motif of a row.
-pub(crate) fn bytes_of(motifs: &[usize; 704], k: usize) -> Part {
+pub fn bytes_of(motifs: &[usize; 704], k: usize) -> Part {
     if 63 < k {
         return Part { first: 0, count: 0 };
     }
@@ -120,7 +107,7 @@ fn inside(
 }
 
 // From the motif that is called down to the one with the operator; the answer is its row.
-fn down(
+pub fn down(
     set: Setting,
     store: &[u8],
     motifs: &[usize; 704],
@@ -143,7 +130,7 @@ fn down(
 }
 
 // Of 21: the nearest motif that names one not held, and in it the operator that does; the answer is its row.
-fn lacking(
+pub fn lacking(
     set: Setting,
     store: &[u8],
     motifs: &[usize; 704],
@@ -155,49 +142,4 @@ fn lacking(
     st[CALLED] = k;
     inside(set, store, motifs, start, attrs, st);
     k
-}
-
-// The row of the motif with the operator that breaks the rule of a code; of a ring it is the motif that is called.
-fn found(
-    job: &[u8],
-    to: usize,
-    set: Setting,
-    store: &[u8],
-    motifs: &mut [usize; 704],
-    start: Page,
-    attrs: &mut [usize; 80],
-    st: &mut [usize; 16],
-) -> usize {
-    match st[CODE] {
-        21 => lacking(set, store, motifs, start, attrs, st),
-        32 => st[CALLED],
-        34 => bare(job, to, store, motifs, attrs, st),
-        _ => down(set, store, motifs, start, attrs, st),
-    }
-}
-
-// The motif with the operator by which the call at a place of the job breaks the rule of a code; `st` and `attrs` tell the operator, store and table have the motifs.
-pub fn breach_in(
-    job: &[u8],
-    code: u32,
-    to: usize,
-    gray: bool,
-    store: &mut [u8],
-    motifs: &mut [usize; 704],
-    attrs: &mut [usize; 80],
-    st: &mut [usize; 16],
-) -> Breach {
-    let set = trail::setting_in(job, gray);
-    let page = page_at(job, to, set, store, motifs, attrs, st);
-    st[CODE] = code as usize;
-    note_called(job, motifs, attrs, st);
-    let called = st[CALLED];
-    let motif = found(job, to, set, store, motifs, page, attrs, st);
-    Breach {
-        bytes: bytes_of(motifs, motif),
-        motif,
-        called,
-        at: to,
-        held: st[MANY],
-    }
 }

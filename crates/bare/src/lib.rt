@@ -1,6 +1,6 @@
 // Of 34: the nearest motif that a call comes to and that selects a pattern that is not defined where the job calls.
-use crate::call::CALLED;
-use crate::down::bytes_of;
+use down::CALLED;
+use down::bytes_of;
 use keeping::MANY;
 use motif::MISSING;
 use motif::ROW;
@@ -86,7 +86,7 @@ fn mark(job: &[u8], to: usize, store: &[u8], motifs: &mut [usize; 704], held: us
 }
 
 // The row of the nearest one, and in it the operator that does.
-pub(crate) fn bare(
+pub fn bare(
     job: &[u8],
     to: usize,
     store: &[u8],

@@ -1,8 +1,8 @@
 -- Nothing has to hold from turn to turn; each turn brings the end one nearer.
 -- Assumes nothing.
 use borrow.Author.Needs.{needs}
-use Rattle.descent.proofs.down.through.Statement.{statement}
-use Rattle.descent.proofs.down.through.Tie as tie
+use Rattle.down.proofs.motifs.through.Statement.{statement}
+use Rattle.down.proofs.motifs.through.Tie as tie
 
 abbrev Inv-loop : tie.InvT-loop
 Inv-loop s motifs attrs₀ st₀ own seen₀ at₀ turns₀ attrs st seen at turns = Unit {0}

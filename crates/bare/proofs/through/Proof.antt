@@ -1,8 +1,8 @@
 -- Nothing has to hold from turn to turn; each turn brings the end one nearer.
 -- Assumes nothing.
 use borrow.Author.Needs.{needs}
-use Rattle.descent.proofs.select.through.Statement.{statement}
-use Rattle.descent.proofs.select.through.Tie as tie
+use Rattle.bare.proofs.through.Statement.{statement}
+use Rattle.bare.proofs.through.Tie as tie
 
 abbrev Inv-loop : tie.InvT-loop
 Inv-loop job to s attrs₀ st₀ high at₀ turns₀ attrs st at turns = Unit {0}

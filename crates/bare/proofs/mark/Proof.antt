@@ -2,8 +2,8 @@
 -- Assumes nothing.
 use Prim.Native.Nat.{_-_}
 use borrow.Author.Needs.{needs}
-use Rattle.descent.proofs.select.mark.Statement.{statement}
-use Rattle.descent.proofs.select.mark.Tie as tie
+use Rattle.bare.proofs.mark.Statement.{statement}
+use Rattle.bare.proofs.mark.Tie as tie
 
 abbrev Inv-loop : tie.InvT-loop
 Inv-loop job to store motifs₀ held attrs₀ st₀ many k₀ motifs attrs st k = Unit {0}

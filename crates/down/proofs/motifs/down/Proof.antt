@@ -1,8 +1,8 @@
 -- Nothing has to hold from turn to turn; each turn brings the end one nearer.
 -- Assumes nothing.
 use borrow.Author.Needs.{needs}
-use Rattle.descent.proofs.down.down.Statement.{statement}
-use Rattle.descent.proofs.down.down.Tie as tie
+use Rattle.down.proofs.motifs.down.Statement.{statement}
+use Rattle.down.proofs.motifs.down.Tie as tie
 
 abbrev Inv-loop : tie.InvT-loop
 Inv-loop set store motifs attrs₀ st₀ page₀ k₀ turns₀ attrs st page k turns = Unit {0}
