@@ -1,6 +1,6 @@
 // What the table asks of an operator's attributes, in words.
-use crate::called::attribute;
-use crate::called::operator;
+use phrase::attribute;
+use phrase::operator;
 use setting::Class;
 use table::Kind;
 use text::number;
