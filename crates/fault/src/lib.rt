@@ -1,6 +1,6 @@
 // A fault of a job or of a motif: its cause and its cure.
+use facts::Facts;
 use setting::Class;
-use tell::Facts;
 use text::number;
 use text::say;
 
@@ -72,7 +72,7 @@ pub fn of_job(job: &[u8], list: &[u8], records: usize, code: u32, at: usize) {
     let mut attrs = [0usize; 80];
     let mut st = [0usize; 16];
     trail::walk_job(job, at, &mut attrs, &mut st);
-    let f = tell::facts_in(job, at, &attrs, &st);
+    let f = facts::facts_in(job, at, &attrs, &st);
     let k = caused(job, list, records, job, line_of(code, job, at, &st, f), f);
     ending(job, cure_at(k, &st), code, f);
 }
@@ -82,7 +82,7 @@ pub fn of_motif(job: &[u8], list: &[u8], records: usize, motif: &[u8], code: u32
     let mut attrs = [0usize; 80];
     let mut st = [0usize; 16];
     trail::walk_motif(motif, at, &mut attrs, &mut st);
-    let f = tell::facts_in(motif, at, &attrs, &st);
+    let f = facts::facts_in(motif, at, &attrs, &st);
     let k = caused(
         job,
         list,

@@ -1,5 +1,5 @@
 // A sentence with gaps: a percent sign and a letter stand for a fact.
-use crate::facts::Facts;
+use facts::Facts;
 use text::number;
 
 // For what a pattern is defined.

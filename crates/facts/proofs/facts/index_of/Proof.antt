@@ -2,8 +2,8 @@
 -- Assumes nothing.
 use Prim.Native.Nat.{_-_}
 use borrow.Author.Needs.{needs}
-use Rattle.tell.proofs.facts.index_of.Statement.{statement}
-use Rattle.tell.proofs.facts.index_of.Tie as tie
+use Rattle.facts.proofs.facts.index_of.Statement.{statement}
+use Rattle.facts.proofs.facts.index_of.Tie as tie
 
 abbrev Inv-loop : tie.InvT-loop
 Inv-loop attrs n at i₀ i = Unit {0}
