@@ -1,6 +1,6 @@
 // The page at a place of a job, and the motifs held there.
-use crate::call::performed;
 use arm::seen::Seen;
+use down::performed;
 use keeping::keep;
 use page::page::Page;
 use page::page::blank;

@@ -1,8 +1,6 @@
 // From a refused call down through the motifs to the operator that breaks the rule of its code.
 mod before;
-mod call;
-mod down;
-mod select;
+mod breach;
 
-pub use down::Breach;
-pub use down::breach_in;
+pub use breach::Breach;
+pub use breach::breach_in;

@@ -1,6 +1,6 @@
 // A fault of a job or of a motif: its cause and its cure.
+use facts::Facts;
 use setting::Class;
-use tell::Facts;
 use text::number;
 use text::say;
 
@@ -40,9 +40,9 @@ fn line_of(code: u32, s: &[u8], at: usize, st: &[usize; 16], f: Facts) -> usize 
         }
     }
     if code == 34 {
-        return trail::undefined_line(s, at, f.pattern);
+        return why::undefined_line(s, at, f.pattern);
     }
-    trail::line_of(code, s, st)
+    why::line_of(code, s, st)
 }
 
 // The code and the cure of a line.
@@ -64,7 +64,7 @@ fn caused(job: &[u8], list: &[u8], records: usize, s: &[u8], k: usize, f: Facts)
 
 // The line of the cure, which for 9 depends on where matters stand.
 fn cure_at(k: usize, st: &[usize; 16]) -> usize {
-    if k == 9 { trail::may_come_line(st) } else { k }
+    if k == 9 { why::may_come_line(st) } else { k }
 }
 
 // Says what is wrong at a place of the job, and the cure.
@@ -72,7 +72,7 @@ pub fn of_job(job: &[u8], list: &[u8], records: usize, code: u32, at: usize) {
     let mut attrs = [0usize; 80];
     let mut st = [0usize; 16];
     trail::walk_job(job, at, &mut attrs, &mut st);
-    let f = tell::facts_in(job, at, &attrs, &st);
+    let f = facts::facts_in(job, at, &attrs, &st);
     let k = caused(job, list, records, job, line_of(code, job, at, &st, f), f);
     ending(job, cure_at(k, &st), code, f);
 }
@@ -82,7 +82,7 @@ pub fn of_motif(job: &[u8], list: &[u8], records: usize, motif: &[u8], code: u32
     let mut attrs = [0usize; 80];
     let mut st = [0usize; 16];
     trail::walk_motif(motif, at, &mut attrs, &mut st);
-    let f = tell::facts_in(motif, at, &attrs, &st);
+    let f = facts::facts_in(motif, at, &attrs, &st);
     let k = caused(
         job,
         list,

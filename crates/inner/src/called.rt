@@ -42,7 +42,7 @@ fn of_breach(
     attrs: &[usize; 80],
     st: &[usize; 16],
 ) {
-    let f = tell::facts_in(motif, st[trail::PLACE], attrs, st);
+    let f = facts::facts_in(motif, st[trail::PLACE], attrs, st);
     tell::cause(code as usize, motif, f);
     inner_names(motifs, b.motif, b.called, f.at);
     ending(motif, cure_in(code), code, f);
@@ -59,7 +59,7 @@ fn of_lacking(
     attrs: &[usize; 80],
     st: &[usize; 16],
 ) {
-    let f = tell::facts_in(motif, st[trail::PLACE], attrs, st);
+    let f = facts::facts_in(motif, st[trail::PLACE], attrs, st);
     let k = unheld::cause(job, list, records, motif, f);
     say(b"; the motif ");
     name_of(motifs, b.motif);
@@ -80,8 +80,8 @@ fn of_bare(
     attrs: &[usize; 80],
     st: &[usize; 16],
 ) {
-    let f = tell::facts_in(motif, st[trail::PLACE], attrs, st);
-    let k = trail::undefined_line(job, b.at, f.pattern);
+    let f = facts::facts_in(motif, st[trail::PLACE], attrs, st);
+    let k = why::undefined_line(job, b.at, f.pattern);
     tell::cause(k, motif, f);
     say(b"; the motif ");
     name_of(motifs, b.motif);
@@ -95,7 +95,7 @@ fn of_bare(
 fn of_ring(job: &[u8], motifs: &[usize; 704], b: Breach, attrs: &[usize; 80], st: &[usize; 16]) {
     let mut next = [0usize; 64];
     let first = rings::ring(motifs, b.held, b.called, &mut next);
-    let f = tell::facts_in(job, st[trail::PLACE], attrs, st);
+    let f = facts::facts_in(job, st[trail::PLACE], attrs, st);
     let k = ring(motifs, &next, first);
     by_call(motifs, first, b.called);
     ending(job, k, 32, f);

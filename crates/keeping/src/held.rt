@@ -47,7 +47,7 @@ fn joined_after(
     joined: usize,
 ) -> usize {
     let end = st[BEHIND];
-    let count = trail::told(job, number::byte_at(job, 0) == 0x28, st) as usize;
+    let count = data::told(job, number::byte_at(job, 0) == 0x28, st) as usize;
     if job.len() < end {
         return joined;
     }

@@ -1,6 +1,6 @@
 // What each line means, and what to change. The first lines are the codes', that of 20, which is retired, is empty; those from 30 on say more where more is known, and are no codes. The cures have lines more: for an operator of a motif that is called, for what may come in place of an operator that is not known, and for a motif that calls itself.
-use crate::facts::Facts;
 use crate::sentence::sentence;
+use facts::Facts;
 
 // Says why a job or a motif is refused.
 pub fn cause(k: usize, s: &[u8], f: Facts) {

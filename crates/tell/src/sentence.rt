@@ -1,5 +1,5 @@
 // A sentence with gaps: a percent sign and a letter stand for a fact.
-use crate::facts::Facts;
+use facts::Facts;
 use text::number;
 
 // For what a pattern is defined.
@@ -17,16 +17,16 @@ fn fact(s: &[u8], f: Facts, letter: u8) {
     match letter {
         b'a' => phrase::attribute(f.number),
         b'b' => text::byte(f.byte),
-        b'c' => phrase::choice(class, f.tag),
+        b'c' => takes::choice(class, f.tag),
         b'h' => text::many(f.height, b"row"),
-        b'k' => phrase::all_of(class, f.tag),
+        b'k' => takes::all_of(class, f.tag),
         b'l' => lasting(f.lasting),
         b'm' => phrase::attribute(f.missing),
         b'n' => phrase::signed(f.pattern),
         b'o' => phrase::operator(f.tag),
         b'p' => text::plain(f.at),
-        b'q' => phrase::takes(class, f.missing),
-        b'r' => phrase::takes(class, f.number),
+        b'q' => takes::takes(class, f.missing),
+        b'r' => takes::takes(class, f.number),
         b's' => text::many(f.saved, b"state"),
         b't' => phrase::kind(f.byte),
         b'u' => text::part(s, f.letters, f.name),

@@ -2,8 +2,8 @@
 use crate::behind::Later;
 use crate::behind::look_behind;
 use alike::Other;
+use facts::Facts;
 use listing::field_four;
-use tell::Facts;
 use text::say;
 
 // The lines of its sentences.
