@@ -4,7 +4,7 @@ use crate::ring::ring;
 use descent::Breach;
 use fault::ending;
 use fault::of_job;
-use roster::name_of;
+use held::name_of;
 use text::say;
 
 // Lines of cures for an operator of a motif that is called.

@@ -1,5 +1,5 @@
 // The motif that a call names.
-use roster::name_of;
+use held::name_of;
 use text::say;
 
 // The motif that the job calls, if what is told is of another.

@@ -1,5 +1,5 @@
 // A ring of motifs, told by their names.
-use roster::name_of;
+use held::name_of;
 use text::say;
 
 // Lines of cures for a ring of motifs, and for one that calls itself.

@@ -1,5 +1,5 @@
 // The lines of a job's list, and behind each session those of its motifs.
-use crate::held::motifs_held;
+use held::motifs_held;
 use keeping::Keeping;
 use keeping::MANY;
 use keeping::keep;

@@ -2,8 +2,8 @@
 -- Assumes nothing.
 use Prim.Native.Nat.{_-_}
 use borrow.Author.Needs.{needs}
-use Rattle.roster.proofs.held.motifs_held.Statement.{statement}
-use Rattle.roster.proofs.held.motifs_held.Tie as tie
+use Rattle.held.proofs.held.motifs_held.Statement.{statement}
+use Rattle.held.proofs.held.motifs_held.Tie as tie
 
 abbrev Inv-loop : tie.InvT-loop
 Inv-loop store motifs held many place₀ place = Unit {0}

@@ -1,8 +1,8 @@
 -- Nothing has to hold from turn to turn; each turn brings the end one nearer.
 -- Assumes nothing.
 use borrow.Author.Needs.{needs}
-use Rattle.roster.proofs.held.operators.Statement.{statement}
-use Rattle.roster.proofs.held.operators.Tie as tie
+use Rattle.held.proofs.held.operators.Statement.{statement}
+use Rattle.held.proofs.held.operators.Tie as tie
 
 abbrev Inv-loop : tie.InvT-loop
 Inv-loop s high attrs₀ st₀ many₀ at₀ turns₀ attrs st many at turns = Unit {0}

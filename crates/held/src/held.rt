@@ -69,7 +69,7 @@ fn row_at(motifs: &[usize; 704], place: usize) -> usize {
 }
 
 // The lines of so many motifs.
-pub(crate) fn motifs_held(store: &[u8], motifs: &[usize; 704], held: usize) {
+pub fn motifs_held(store: &[u8], motifs: &[usize; 704], held: usize) {
     let many = motif::in_use(held);
     let mut place: usize = 0;
     while place < many {
