@@ -27,8 +27,8 @@ use Rattle.patterns.specs.Selects.{selectsIn}
 use Rattle.place.specs.Places.{Hatches, BusyHolds, resting-holds, reading-holds, PlaceHolds, inside-holds}
 use Rattle.early.specs.Earlier.{Earlies, early-fine, early-call, early-held}
 use Rattle.after.specs.Afterwards.{Comes, After}
-use Rattle.stream.specs.Judging.{Makes}
-use Rattle.stream.specs.declared.judging.Made.{Made}
+use Rattle.within.specs.Judging.{Makes}
+use Rattle.within.specs.declared.inside.Made.{Made}
 use Rattle.early.specs.declared.early.Early.{Early}
 use Rattle.early.specs.declared.early.Early.the-variants.{Fine, Call, Held, No}
 use Rattle.place.specs.declared.place.Busy.the-variants.{Resting, Reading}

@@ -28,9 +28,9 @@ use Rattle.motif.specs.declared.held.Where.the-variants.{At, Nowhere}
 use Rattle.scope.proofs.Placed.{motif-placed}
 use Rattle.calls.specs.Judged.{Calls, calls-sum, calls-missing, calls-again, calls-deep}
 use Rattle.calls.specs.declared.calls.Called.the-variants as Called-is
-use Rattle.stream.specs.Judging.{Judges, judges-valid, judges-faulty}
-use Rattle.stream.specs.declared.judging.Made.{Made}
-use Rattle.stream.specs.declared.judging.Judged.the-variants.{Valid, Faulty}
+use Rattle.within.specs.Judging.{Judges, judges-valid, judges-faulty}
+use Rattle.within.specs.declared.inside.Made.{Made}
+use Rattle.within.specs.declared.inside.Judged.the-variants.{Valid, Faulty}
 use Rattle.early.proofs.Places.{taken, few-free, again-free, new-taken, place-other, place-begin}
 use Rattle.early.proofs.Wanting.{call-wants}
 use Rattle.early.specs.Hatched.{Hatched}

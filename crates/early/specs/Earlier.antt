@@ -17,8 +17,8 @@ use Rattle.reader.specs.declared.reading.Operator.{Operator}
 use Rattle.summary.specs.Sums.{SumsAs}
 use Rattle.patterns.specs.Numbers.{OfMotif, numbersIn, collected}
 use Rattle.patterns.specs.Selects.{selectsIn}
-use Rattle.stream.specs.Judging.{Makes}
-use Rattle.stream.specs.declared.judging.Made.{Made}
+use Rattle.within.specs.Judging.{Makes}
+use Rattle.within.specs.declared.inside.Made.{Made}
 use Rattle.early.specs.declared.early.Early.{Early}
 use Rattle.early.specs.declared.early.Early.the-variants.{Fine, Call, Held, No}
 

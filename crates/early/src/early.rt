@@ -37,8 +37,8 @@ use place::Busy;
 use place::Place;
 use reader::Operator;
 use setting::Setting;
-use stream::Judged;
-use stream::Made;
+use within::Judged;
+use within::Made;
 
 // Inner, unless said otherwise.
 pub const OUTER: usize = 4_294_967_295;

@@ -29,8 +29,8 @@ use Rattle.motif.proofs.Rowed.{rows-length}
 use Rattle.motif.proofs.Sorting.{sorted-alike}
 use Rattle.motif.proofs.Entered.{entered-length, entered-cell, entered-sorted, key-new}
 use Rattle.rounds.specs.Rounds.{LevelsBut}
-use Rattle.stream.specs.Judging.{Makes}
-use Rattle.stream.specs.declared.judging.Made.{Made}
+use Rattle.within.specs.Judging.{Makes}
+use Rattle.within.specs.declared.inside.Made.{Made}
 use Rattle.holding.specs.Rowing.{written, newRow, Done}
 use Rattle.holding.specs.Comes.{Comes, newOf, Fresh}
 use Rattle.holding.proofs.Cells.{row-cell, Alike, written-alike, written-behind, rows-same, noted-same, settled-same, makes-same}

@@ -18,8 +18,8 @@ use Rattle.key.specs.Mark.{mark}
 use Rattle.motif.specs.Held.{Rows, rows-none, rows-more, InRow, cell}
 use Rattle.motif.specs.Tables.{Noted, Settled, SumFor, SumsUp}
 use Rattle.motif.proofs.Rowed.{held-row, in-below}
-use Rattle.stream.specs.Judging.{Makes}
-use Rattle.stream.specs.declared.judging.Made.{Made}
+use Rattle.within.specs.Judging.{Makes}
+use Rattle.within.specs.declared.inside.Made.{Made}
 use Rattle.holding.specs.Rowing.{written}
 
 pub written-length : (vs t : List ℕ) (at k : ℕ) → length (written t at k vs) ≡ length t

@@ -23,7 +23,7 @@ use Rattle.motif.specs.Held.{Rows, rows-more, Keeps, InRow, cell, levelIn, sumI
 use Rattle.motif.specs.Tables.{rowBy, rowOf, callsRow, lacksOne, levelOf, settledRow, Noted, Settled, Tables, SumFor, SumsUp}
 use Rattle.motif.proofs.Rowed.{is-same, held-here, held-on, held-first, held-row, held-in, in-below, keeps-beside}
 use Rattle.rounds.specs.Rounds.{LevelsBut}
-use Rattle.stream.specs.declared.judging.Made.{Made}
+use Rattle.within.specs.declared.inside.Made.{Made}
 use Rattle.holding.specs.Rowing.{Done}
 use Rattle.holding.specs.Comes.{Fresh}
 use Rattle.holding.proofs.Each.{each-map, none-each}

@@ -12,8 +12,8 @@ use Rattle.motif.specs.Held.{Rows, Keeps, levelIn, callsIn, missingIn}
 use Rattle.motif.specs.Tables.{Noted, Settled}
 use Rattle.motif.specs.Stored.{Stored}
 use Rattle.motif.specs.declared.kept.Kept.{Kept}
-use Rattle.stream.specs.Judging.{Makes}
-use Rattle.stream.specs.declared.judging.Made.{Made}
+use Rattle.within.specs.Judging.{Makes}
+use Rattle.within.specs.declared.inside.Made.{Made}
 
 -- a valid motif of this name, whose bytes stand in the work buffer behind those held
 pub record Comes (set : Setting) (work t : List ℕ) (kept : Kept) (joined : ℕ) (name : List ℕ) (ms : List Motif) (bytes : List ℕ) (ops : List Own) : Type 0 where

@@ -10,7 +10,7 @@ use Rattle.summary.specs.Sums.{bitOf}
 use Rattle.key.specs.Keys.{keyOf, IsName}
 use Rattle.key.specs.Mark.{mark}
 use Rattle.motif.specs.Held.{Rows, keyIn, longIn, levelIn, callsIn}
-use Rattle.stream.specs.declared.judging.Made.{Made}
+use Rattle.within.specs.declared.inside.Made.{Made}
 
 -- numbers stored one behind the other, the first at place at + k
 unfoldable pub written : (t : List ℕ) → (at k : ℕ) → (vs : List ℕ) → List ℕ

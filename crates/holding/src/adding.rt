@@ -13,7 +13,7 @@ ghost use Rattle.summary.specs.Sums.{bitOf};
 ghost use Rattle.key.specs.Keys.{keyOf};
 ghost use Rattle.motif.specs.Tables.{Tables};
 ghost use Rattle.motif.specs.Stored.{Stores, Stored};
-ghost use Rattle.stream.specs.Judging.{Makes};
+ghost use Rattle.within.specs.Judging.{Makes};
 ghost use Rattle.holding.specs.Rowing.{written, newRow, Done};
 ghost use Rattle.holding.specs.Comes.{Comes, newOf, Fresh};
 use motif::CALLS;
@@ -26,8 +26,8 @@ use motif::START;
 use motif::SUM;
 use names::limits::MOTIFS_MOST;
 use setting::Setting;
-use stream::Made;
 use summary::EMPTY;
+use within::Made;
 
 // A truth as a number.
 fn bit(b: bool) -> usize

@@ -9,14 +9,14 @@ ghost use Rattle.scope.specs.Motif.{Own, Motif, valid, motifOf};
 ghost use Rattle.scope.specs.Session.{keptAs};
 ghost use Rattle.key.specs.Keys.{IsName};
 ghost use Rattle.motif.specs.Stored.{Stored, full};
-ghost use Rattle.stream.specs.Judging.{Makes};
+ghost use Rattle.within.specs.Judging.{Makes};
 use crate::adding::added;
 use crate::replacing::replaced;
 use motif::Kept;
 use motif::Where;
 use names::limits::STORE_MOST;
 use setting::Setting;
-use stream::Made;
+use within::Made;
 
 // There is room for so many bytes behind those held, in the store and in a work buffer of this length.
 fn fits(len: usize, used: usize, joined: usize) -> bool

@@ -2,10 +2,10 @@
 use attributes::Part;
 use motif::Kept;
 use setting::Setting;
-use stream::Judged;
 use trail::BEHIND;
 use trail::COUNT;
 use trail::TAG;
+use within::Judged;
 
 // How many are held, among the numbers of a walk.
 pub const MANY: usize = 14;

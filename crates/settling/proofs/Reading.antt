@@ -13,9 +13,9 @@ use Rattle.scope.specs.Sound.{Sound, sound-none, sound-more}
 use Rattle.motif.specs.Held.{Keeps, InRow, startIn, longIn}
 use Rattle.motif.proofs.Rowed.{is-same, none-is, held-here, held-on}
 use Rattle.motif.proofs.Stored.{row-start, row-long, stored-at}
-use Rattle.stream.specs.Judging.{Makes, Judges, judges-valid}
-use Rattle.stream.specs.declared.judging.Made.{Made}
-use Rattle.stream.specs.declared.judging.Judged.the-variants.{Valid, Faulty}
+use Rattle.within.specs.Judging.{Makes, Judges, judges-valid}
+use Rattle.within.specs.declared.inside.Made.{Made}
+use Rattle.within.specs.declared.inside.Judged.the-variants.{Valid, Faulty}
 use Rattle.settling.specs.Making.{InStore}
 
 -- a motif that is judged valid

@@ -15,7 +15,7 @@ ghost use Rattle.summary.specs.Sums.{SumsAs};
 ghost use Rattle.motif.specs.Held.{Keeps, InRow, levelIn, sumIn};
 ghost use Rattle.motif.specs.Tables.{SumsUp, Tables};
 ghost use Rattle.motif.specs.Stored.{Stores};
-ghost use Rattle.stream.specs.Judging.{Makes, Judges};
+ghost use Rattle.within.specs.Judging.{Makes, Judges};
 ghost use Rattle.settling.specs.Making.{InStore, NotedTo, Rounded};
 use motif::CALLS;
 use motif::LENGTH;
@@ -26,9 +26,9 @@ use motif::START;
 use motif::SUM;
 use names::limits::NESTING_MOST;
 use setting::Setting;
-use stream::Judged;
-use stream::Made;
 use summary::EMPTY;
+use within::Judged;
+use within::Made;
 
 // A motif that calls nobody and comes to nothing.
 fn nothing() -> Made {

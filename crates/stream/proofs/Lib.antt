@@ -1,5 +1,2 @@
-pub mod Naming
-pub mod Noting
-pub mod Stepping
 pub mod Strips
-pub mod Turning
+pub mod Walking

@@ -38,12 +38,12 @@ use Rattle.order.specs.Pictures.{pictureAs}
 use Rattle.patterns.specs.Selects.{selectsIn}
 use Rattle.reader.specs.EndPoint.{lineOf, Drawn, drawn-path, drawn-rel, Line}
 use Rattle.reader.proofs.EndPoint.{line-read, line-drawn, line-in-motif}
-use Rattle.stream.specs.Judging.{Follows, Comes}
-use Rattle.stream.specs.Lines.{Quiet, quiet-close, quiet-paint, Strip, strip-none, strip-line, strip-quiet}
-use Rattle.stream.specs.declared.judging.Inside.{Inside}
+use Rattle.within.specs.Judging.{Follows}
+use Rattle.stream.specs.Lines.{Quiet, quiet-close, quiet-paint, Strip, strip-none, strip-line, strip-quiet, Comes}
+use Rattle.within.specs.declared.inside.Inside.{Inside}
 use Rattle.stream.specs.declared.lines.Run.{Run}
-use Rattle.stream.proofs.Naming.{deed-row, deed-lacks}
-use Rattle.stream.proofs.Noting.{selects-does}
+use Rattle.within.proofs.Naming.{deed-row, deed-lacks}
+use Rattle.within.proofs.Noting.{selects-does}
 
 -- what holds of each of these tags
 each-line : {tag : ℕ} (P : ℕ → Type 0) → P 0x9b → P 0x9d → Drawn tag → P tag

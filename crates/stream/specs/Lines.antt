@@ -1,4 +1,4 @@
--- Operators of a motif that leave the page as it is, with no image open, one after the other with nothing between them.
+-- Operators of a motif that leave the page as it is, with no image open, one after the other with nothing between them, and where they lead to.
 -- Assumes nothing.
 use Prim.Native.Nat.{ℕ, _+_, _≤_, _<_}
 use mathlib.Core.Path.{_≡_}
@@ -7,6 +7,11 @@ use mathlib.Core.List.{List}
 use lib.ListN.{length, getD}
 use Rattle.scope.specs.Names.{CloseSubPath, PaintPath}
 use Rattle.reader.specs.EndPoint.{Line}
+use Rattle.scope.specs.Setting.{Setting}
+use Rattle.scope.specs.Motif as scope
+use Rattle.patterns.specs.Selects.{selectsIn}
+use Rattle.within.specs.Judging.{Follows}
+use Rattle.within.specs.declared.inside.Inside.{Inside}
 use Rattle.stream.specs.declared.lines.Run.{Run}
 use Rattle.stream.specs.declared.lines.Pass.{Pass}
 use Rattle.stream.specs.declared.lines.Pass.the-variants.{To, No}
@@ -32,3 +37,10 @@ Stripped high s start No = Unit {0}
 abbrev pub Beyond : (len : ℕ) → Run → Pass → Type 0
 Beyond len run (To on) = (run .at < on .at) × (on .at ≤ len) × (on .count ≡ run .count + 1)
 Beyond len run No = Unit {0}
+
+-- the code stands where the definition comes to from w on
+pub record Comes (t : List ℕ) (ms : List scope.Motif) (set : Setting) (s : List ℕ) (w : scope.Inside) (i : Inside) : Type 0 where
+  pub stands : scope.Inside
+  pub follows : Follows t ms i stands
+  pub judged : scope.judgedInside set s stands ≡ scope.judgedInside set s w
+  pub selects : selectsIn (stands .ops) ≡ selectsIn (w .ops)

@@ -2,7 +2,5 @@
 mod judging;
 mod lines;
 
-pub use judging::Judged;
-pub use judging::Made;
 pub use judging::judge_motif;
 pub use judging::judge_noting;

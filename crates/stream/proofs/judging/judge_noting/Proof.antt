@@ -2,8 +2,8 @@
 -- Assumes nothing.
 use mathlib.Core.Path.{refl, sym, _∙_}
 use borrow.Author.Tests.{not-true, not-false}
-use Rattle.stream.specs.Judging.{judges-faulty}
-use Rattle.stream.proofs.Stepping.{faulty-valid}
+use Rattle.within.specs.Judging.{judges-faulty}
+use Rattle.stream.proofs.Walking.{faulty-valid}
 use Rattle.scope.specs.Motif.{motifOf, motifFrom}
 use borrow.Author.Needs.{needs}
 use Rattle.stream.proofs.judging.judge_noting.Statement.{statement}

@@ -8,9 +8,7 @@ use lib.ListN.{length}
 use Rattle.setting.specs.Views.{settingAs}
 use Rattle.scope.specs.Motif.{Motif, judgedInside}
 use Rattle.motif.specs.Held.{Keeps}
-use Rattle.stream.proofs.Turning.{starting, starts}
-use Rattle.stream.proofs.Stepping.{Stands, turned-go, turned-stop, turned-notes}
-use Rattle.stream.proofs.Noting.{none-noted, same-noted}
+use Rattle.stream.proofs.Walking.{starting, starts, none-noted, same-noted, Stands, turned-go, turned-stop, turned-notes}
 use borrow.Author.Needs.{needs}
 use Rattle.stream.proofs.judging.operators.Statement.{statement}
 use Rattle.stream.proofs.judging.operators.Tie as tie

@@ -10,12 +10,12 @@ use Rattle.scope.specs.Motif as scope
 use Rattle.scope.specs.Motif.{Motif, contextIn}
 use Rattle.order.specs.Views.{phaseAs}
 use Rattle.reader.specs.Reads.{readAs}
-use Rattle.stream.specs.Judging.{Follows}
-use Rattle.stream.proofs.Stepping.{context-is, rows-read, pop-read, step-no, step-ended, step-on, notes-no, notes-ended, notes-on, ahead}
-use Rattle.stream.proofs.Noting.{call-notes}
+use Rattle.within.specs.Judging.{Follows}
+use Rattle.within.proofs.Stepping.{context-is, rows-read, pop-read, step-no, step-ended, step-on, notes-no, notes-ended, notes-on, ahead}
+use Rattle.within.proofs.Noting.{call-notes}
 use borrow.Author.Needs.{needs}
-use Rattle.stream.proofs.judging.advance.Statement.{statement}
-use Rattle.stream.proofs.judging.advance.Tie as tie
+use Rattle.within.proofs.inside.advance.Statement.{statement}
+use Rattle.within.proofs.inside.advance.Tie as tie
 
 -- what was read is what the definition reads where it stands
 read-is : (c : tie.After-operator-at) (ms : List Motif) (w : scope.Inside) → length (c .before .before .before .before .args .attrs .now) ≡ 80

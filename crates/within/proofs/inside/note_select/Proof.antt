@@ -2,8 +2,8 @@
 -- Assumes nothing.
 use mathlib.Core.Path.{refl}
 use borrow.Author.Needs.{needs}
-use Rattle.stream.proofs.judging.note_select.Statement.{statement}
-use Rattle.stream.proofs.judging.note_select.Tie as tie
+use Rattle.within.proofs.inside.note_select.Statement.{statement}
+use Rattle.within.proofs.inside.note_select.Tie as tie
 
 enum-told : tie.Need-enum-told
 enum-told c = search needs

@@ -2,11 +2,11 @@
 -- Assumes nothing.
 use mathlib.Core.Path.{_≡_, sym, _∙_}
 use borrow.Author.Tests.{eq-eqb, ne-eqb}
-use Rattle.stream.proofs.Turning.{ended-even}
-use Rattle.stream.specs.Judging.{judges-faulty}
+use Rattle.within.proofs.Turning.{ended-even}
+use Rattle.within.specs.Judging.{judges-faulty}
 use borrow.Author.Needs.{needs}
-use Rattle.stream.proofs.judging.balanced.Statement.{statement}
-use Rattle.stream.proofs.judging.balanced.Tie as tie
+use Rattle.within.proofs.inside.balanced.Statement.{statement}
+use Rattle.within.proofs.inside.balanced.Tie as tie
 
 returns : tie.Need-returns
 returns c = λ t ms w f. rw (ne-eqb (w .saved) 0 (λ e. c .if1 .taken (f .saved ∙ e))) judges-faulty

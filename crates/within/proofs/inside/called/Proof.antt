@@ -2,8 +2,8 @@
 -- Assumes nothing.
 use mathlib.Core.Path.{refl}
 use borrow.Author.Needs.{needs}
-use Rattle.stream.proofs.judging.called.Statement.{statement}
-use Rattle.stream.proofs.judging.called.Tie as tie
+use Rattle.within.proofs.inside.called.Statement.{statement}
+use Rattle.within.proofs.inside.called.Tie as tie
 
 unpacked-requires : tie.Need-unpacked-requires
 unpacked-requires c κs = search needs

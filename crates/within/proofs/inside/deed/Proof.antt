@@ -2,7 +2,7 @@
 -- Assumes nothing.
 use Rattle.setting.specs.Views.{settingAs}
 use Rattle.scope.specs.Order.{rowsFit}
-use Rattle.stream.proofs.Turning.{saved-most}
+use Rattle.within.proofs.Turning.{saved-most}
 use mathlib.Core.Bool.{true}
 use mathlib.Core.Path.{refl, sym, ap, _∙_, subst⁻¹, _≡_}
 use Rattle.reader.specs.Reads.{operatorAs}
@@ -10,12 +10,12 @@ use Rattle.order.specs.Pictures.{imageIn, pictureFor}
 use Rattle.act.proofs.Operators.{act-is}
 use Rattle.order.proofs.Pictures.{picture-is}
 use Rattle.patterns.specs.Numbers.{numbersIn}
-use Rattle.stream.specs.Judging.{notedBy}
-use Rattle.stream.proofs.Turning.{deed-on}
-use Rattle.stream.proofs.Noting.{deed-notes}
+use Rattle.within.specs.Judging.{notedBy}
+use Rattle.within.proofs.Turning.{deed-on}
+use Rattle.within.proofs.Noting.{deed-notes}
 use borrow.Author.Needs.{needs}
-use Rattle.stream.proofs.judging.deed.Statement.{statement}
-use Rattle.stream.proofs.judging.deed.Tie as tie
+use Rattle.within.proofs.inside.deed.Statement.{statement}
+use Rattle.within.proofs.inside.deed.Tie as tie
 
 act-of-requires : tie.Need-act-of-requires
 act-of-requires c κs = search needs

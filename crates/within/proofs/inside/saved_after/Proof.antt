@@ -4,8 +4,8 @@ use native.Mathlib.Numerals.{add-one}
 use borrow.Author.Tests.{eq-eqb, ne-eqb}
 use Rattle.scope.specs.Motif.{savedAfter}
 use borrow.Author.Needs.{needs}
-use Rattle.stream.proofs.judging.saved_after.Statement.{statement}
-use Rattle.stream.proofs.judging.saved_after.Tie as tie
+use Rattle.within.proofs.inside.saved_after.Statement.{statement}
+use Rattle.within.proofs.inside.saved_after.Tie as tie
 
 add-result : tie.Need-add-result
 add-result c = search needs

@@ -12,7 +12,7 @@ use Rattle.scope.specs.Arm.{Act, Select, no-pattern, pattern, wanted, actOf}
 use Rattle.scope.specs.Motif.{Own, does, calls, ownBy}
 use Rattle.patterns.specs.Numbers.{numbersIn, collected}
 use Rattle.patterns.specs.Selects.{selectsFrom, selectsIn}
-use Rattle.stream.specs.Judging.{notedBy, Notes}
+use Rattle.within.specs.Judging.{notedBy, Notes}
 
 -- what operators select, one row after the other
 selects-append : (os qs : List Own) (ns : List ℕ) → selectsFrom (os ++ qs) ns ≡ selectsFrom qs (selectsFrom os ns)
@@ -34,11 +34,6 @@ collected-wanted : (x : Select) (ns : List ℕ) → collected (wanted x ns) ≡ 
 unfolding collected
 collected-wanted no-pattern ns = refl
 collected-wanted (pattern n) ns = refl
-
--- nothing is noted of no operator
-pub none-noted : (own : List ℕ) → numbersIn own 0 ≡ [] → Notes own []
-unfolding collected selectsFrom
-none-noted own e = record { are = e }
 
 -- an operator whose pattern was noted
 does-noted : (was own : List ℕ) (os : List Own) (o : Operator) (a : Act) → numbersIn own 0 ≡ notedBy (a .select) (numbersIn was 0) → Notes was os
@@ -62,7 +57,3 @@ pub call-notes : (set : Setting) (s : List ℕ) (o : Operator) (own : List ℕ) 
     → Notes own (os ++ (ownBy set s o ∷ []))
 unfolding ownBy
 call-notes set s o own os e h = rw (eq-eqb (o .tag) 0x5e e) (calls-noted own os o (bytesIn s (o .attrs) StreamName) h)
-
--- operators that select the same
-pub same-noted : (own : List ℕ) (os qs : List Own) → selectsIn qs ≡ selectsIn os → Notes own os → Notes own qs
-same-noted own os qs e h = record { are = h .are ∙ ap collected (sym e) }

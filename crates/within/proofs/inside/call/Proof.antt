@@ -6,10 +6,10 @@ use mathlib.Core.List.{List}
 use lib.ListN.{take, drop}
 use native.Mathlib.Omega.{arith}
 use Rattle.reader.specs.Reads.{operatorAs}
-use Rattle.stream.proofs.Turning.{call-none, call-at}
+use Rattle.within.proofs.Turning.{call-none, call-at}
 use borrow.Author.Needs.{needs}
-use Rattle.stream.proofs.judging.call.Statement.{statement}
-use Rattle.stream.proofs.judging.call.Tie as tie
+use Rattle.within.proofs.inside.call.Statement.{statement}
+use Rattle.within.proofs.inside.call.Tie as tie
 
 -- the row that was found is one of 64
 few : (c : tie.After-known-told) → c .before .i .given .0 .0 < 64

@@ -2,8 +2,8 @@
 -- Assumes nothing.
 use Rattle.scope.specs.Motif.{phaseIn}
 use borrow.Author.Needs.{needs}
-use Rattle.stream.proofs.judging.phase_in.Statement.{statement}
-use Rattle.stream.proofs.judging.phase_in.Tie as tie
+use Rattle.within.proofs.inside.phase_in.Statement.{statement}
+use Rattle.within.proofs.inside.phase_in.Tie as tie
 
 enum-told : tie.Need-enum-told
 enum-told c = search needs

@@ -19,12 +19,12 @@ use Rattle.motif.specs.Tables.{callsRow, lacksOne, SumsUp}
 use Rattle.order.specs.Pictures.{pictureAs}
 use Rattle.patterns.specs.Numbers.{numbersIn, noted, collected}
 use Rattle.patterns.specs.Selects.{selectsIn}
-use Rattle.stream.specs.declared.judging.Inside.{Inside}
-use Rattle.stream.specs.declared.judging.Made.{Made}
-use Rattle.stream.specs.declared.judging.Judged.{Judged}
-use Rattle.stream.specs.declared.judging.Judged.the-variants.{Valid, Faulty}
-use Rattle.stream.specs.declared.judging.Turn.{Turn}
-use Rattle.stream.specs.declared.judging.Turn.the-variants.{Go, Stop}
+use Rattle.within.specs.declared.inside.Inside.{Inside}
+use Rattle.within.specs.declared.inside.Made.{Made}
+use Rattle.within.specs.declared.inside.Judged.{Judged}
+use Rattle.within.specs.declared.inside.Judged.the-variants.{Valid, Faulty}
+use Rattle.within.specs.declared.inside.Turn.{Turn}
+use Rattle.within.specs.declared.inside.Turn.the-variants.{Go, Stop}
 
 -- the code stands where the definition stands: the two runs are those of the operators so far, where a call performs besides what the table sums up for its name,
 -- whatever the motif's number will be; and the names called so far are noted
@@ -77,13 +77,6 @@ pub record Called (old : Inside) (next marks : ℕ) (lacks : Bool) (sum : ℕ) (
   pub calls : new .calls ≡ marks
   pub missing : new .missing ≡ lacks
   pub runs : (row called : List Stroke) (x : Stroke) → Runs (old .both) row → x .act ≡ idle → SumsAs sum called → Runs (new .both) (row ++ (x ∷ called))
-
--- the code stands where the definition comes to from w on
-pub record Comes (t : List ℕ) (ms : List scope.Motif) (set : Setting) (s : List ℕ) (w : scope.Inside) (i : Inside) : Type 0 where
-  pub stands : scope.Inside
-  pub follows : Follows t ms i stands
-  pub judged : scope.judgedInside set s stands ≡ scope.judgedInside set s w
-  pub selects : selectsIn (stands .ops) ≡ selectsIn (w .ops)
 
 -- one operator more: the pattern that it selects is noted
 abbrev pub notedBy : Select → List ℕ → List ℕ

@@ -8,7 +8,6 @@ use native.Mathlib.Omega.{arith}
 use borrow.Author.Tests.{eq-eqb, ne-eqb}
 use lib.ListN.{length, getD}
 use lib.Dec.{eqb}
-use native.Mathlib.Nat.{zero-div}
 use Rattle.scope.specs.Setting.{Setting}
 use Rattle.scope.specs.Choice.{pick}
 use Rattle.scope.specs.Attributes.{bytesIn}
@@ -18,7 +17,7 @@ use Rattle.scope.specs.Arm.{Stroke, actOf}
 use Rattle.scope.specs.Motif as scope
 use Rattle.scope.specs.Motif.{Hatch, Motif, savedAfter, pictureAfter, ownBy, onEnd}
 use Rattle.scope.specs.Calls.{flat}
-use Rattle.scope.specs.Reach.{Name, any, namesIn}
+use Rattle.scope.specs.Reach.{Name}
 use Rattle.summary.specs.Sums.{SumsAs}
 use Rattle.both.specs.Runs.{Runs}
 use Rattle.summary.proofs.Empty.{empty-sums}
@@ -31,11 +30,11 @@ use Rattle.motif.specs.Held.{Finds, finds-at, finds-none}
 use Rattle.motif.specs.Tables.{callsRow, lacksOne, SumFor, SumsUp}
 use Rattle.motif.specs.declared.held.Where.{Where}
 use Rattle.motif.specs.declared.held.Where.the-variants.{At, Nowhere}
-use Rattle.stream.proofs.Naming.{deed-row, deed-lacks, held-row, held-lacks, none-row, none-lacks}
-use Rattle.stream.specs.Judging.{Follows, Judges, judges-valid, judges-faulty, afterIn, Called}
-use Rattle.stream.specs.declared.judging.Inside.{Inside}
-use Rattle.stream.specs.declared.judging.Judged.{Judged}
-use Rattle.stream.specs.declared.judging.Judged.the-variants.{Valid, Faulty}
+use Rattle.within.proofs.Naming.{deed-row, deed-lacks, held-row, held-lacks, none-row, none-lacks}
+use Rattle.within.specs.Judging.{Follows, Judges, judges-valid, judges-faulty, afterIn, Called}
+use Rattle.within.specs.declared.inside.Inside.{Inside}
+use Rattle.within.specs.declared.inside.Judged.{Judged}
+use Rattle.within.specs.declared.inside.Judged.the-variants.{Valid, Faulty}
 
 -- an operator that is no call
 module _ (t : List ℕ) (ms : List Motif) (set : Setting) (s : List ℕ) (o : Operator) (w : scope.Inside) where
@@ -163,17 +162,3 @@ saved-most tag n r e = subst⁻¹ (λ x. x ≤ n + 1) e (by (eqb tag 0x61) (eqb 
     by true b = omega arith
     by false true = omega arith
     by false false = omega arith
-
--- where the judging of a motif starts
-abbrev pub starting : ℕ → scope.Inside
-starting next = record { at = next; saved = 0; picture = scope.Picture.none; ops = [] }
-
-no-marks : (j : ℕ) → mark 0 j ≡ false
-unfolding mark
-no-marks j = rw zero-div
-
-pub starts : (t : List ℕ) (ms : List Motif) (i : Inside) → i .saved ≡ 0 → pictureAs (i .picture) ≡ scope.Picture.none → i .calls ≡ 0 → i .missing ≡ false
-    → Runs (i .both) [] → Follows t ms i (starting (i .at))
-unfolding flat OwnLevel callsRow lacksOne any namesIn
-starts t ms i a b c d r =
-    record { at = refl; saved = a; picture = b; whom = λ j l. ap (λ m. mark m j) c ∙ no-marks j; lacks = d; runs = λ g u k. r; level = refl }

@@ -3,10 +3,10 @@
 use Rattle.due.specs.Views.{imageAs}
 use Rattle.order.specs.Pictures.{pictureAs}
 use mathlib.Core.Path.{sym, ap, _∙_}
-use Rattle.stream.proofs.Turning.{ended-open, ended-hatching, ended-closed}
+use Rattle.within.proofs.Turning.{ended-open, ended-hatching, ended-closed}
 use borrow.Author.Needs.{needs}
-use Rattle.stream.proofs.judging.ended.Statement.{statement}
-use Rattle.stream.proofs.judging.ended.Tie as tie
+use Rattle.within.proofs.inside.ended.Statement.{statement}
+use Rattle.within.proofs.inside.ended.Tie as tie
 
 enum-told : tie.Need-enum-told
 enum-told c = search needs

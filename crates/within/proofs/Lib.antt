@@ -1,0 +1,4 @@
+pub mod Naming
+pub mod Noting
+pub mod Stepping
+pub mod Turning
