@@ -1,12 +1,12 @@
--- `holding::adding::sum_for` meets its contract: the level is 0 or not.
+-- `adding::adding::sum_for` meets its contract: the level is 0 or not.
 -- Assumes nothing.
 use native.Mathlib.Omega.{arith}
 use mathlib.Core.Path.{_≡_}
 use mathlib.Core.Bool.{true, false}
 use lib.Dec.{eqb}
 use borrow.Author.Tests.{eq-eqb, ne-eqb}
-use Rattle.holding.proofs.adding.sum_for.Statement.{statement}
-use Rattle.holding.proofs.adding.sum_for.Tie as tie
+use Rattle.adding.proofs.adding.sum_for.Statement.{statement}
+use Rattle.adding.proofs.adding.sum_for.Tie as tie
 
 returns : tie.Need-returns
 returns c = let a = c .before .args in let e : eqb (a .level) 0 ≡ true = eq-eqb (a .level) 0 (omega arith) in rw e

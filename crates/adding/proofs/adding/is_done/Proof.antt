@@ -1,4 +1,4 @@
--- `holding::adding::is_done` meets its contract: what the two tests say.
+-- `adding::adding::is_done` meets its contract: what the two tests say.
 -- Assumes nothing.
 use native.Mathlib.Omega.{arith}
 use mathlib.Core.Path.{sym, _∙_}
@@ -6,8 +6,8 @@ use borrow.Author.Tests.{not-true}
 use Rattle.scope.proofs.Apart.{clash-of}
 use Prim.Native.Nat.{_<_}
 use borrow.Author.Needs.{needs}
-use Rattle.holding.proofs.adding.is_done.Statement.{statement}
-use Rattle.holding.proofs.adding.is_done.Tie as tie
+use Rattle.adding.proofs.adding.is_done.Statement.{statement}
+use Rattle.adding.proofs.adding.is_done.Tie as tie
 
 mul-if1 : tie.Need-mul-if1
 mul-if1 c = search needs

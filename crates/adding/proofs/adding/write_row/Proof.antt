@@ -1,9 +1,9 @@
--- `holding::adding::write_row` meets its contract: nine stores, one behind the other.
+-- `adding::adding::write_row` meets its contract: nine stores, one behind the other.
 -- Assumes nothing.
-use Rattle.holding.proofs.Added.{row-written}
+use Rattle.adding.proofs.NewName.{row-written}
 use borrow.Author.Needs.{needs}
-use Rattle.holding.proofs.adding.write_row.Statement.{statement}
-use Rattle.holding.proofs.adding.write_row.Tie as tie
+use Rattle.adding.proofs.adding.write_row.Statement.{statement}
+use Rattle.adding.proofs.adding.write_row.Tie as tie
 
 key-of-requires : tie.Need-key-of-requires
 key-of-requires c κs = search needs

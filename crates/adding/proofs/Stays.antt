@@ -18,7 +18,7 @@ use Rattle.scope.proofs.Graph.{pick-true, fits-more}
 use Rattle.scope.proofs.Levels.{level-unfolds}
 use Rattle.motif.specs.Tables.{rowBy, rowOf, callsRow, lacksOne, levelOf}
 use Rattle.motif.proofs.Rowed.{held-first, still-held}
-use Rattle.holding.proofs.Each.{Each, each-map, each-both, all-each, any-none, none-each, all-same, any-same, flat-same}
+use Rattle.adding.proofs.Each.{Each, each-map, each-both, all-each, any-none, none-each, all-same, any-same, flat-same}
 
 -- of each name: it is held
 abbrev pub Held-all : List Motif → List Name → Type 0

@@ -31,10 +31,10 @@ use Rattle.motif.proofs.Entered.{entered-length, entered-cell, entered-sorted, 
 use Rattle.rounds.specs.Rounds.{LevelsBut}
 use Rattle.stream.specs.Judging.{Makes}
 use Rattle.stream.specs.declared.judging.Made.{Made}
-use Rattle.holding.specs.Rowing.{written, newRow, Done}
-use Rattle.holding.specs.Comes.{Comes, newOf, Fresh}
-use Rattle.holding.proofs.Cells.{row-cell, Alike, written-alike, written-behind, rows-same, noted-same, settled-same, makes-same}
-use Rattle.holding.proofs.OneMore.{noted-last, levels-before, last-in, calls-not-itself, tables-last}
+use Rattle.adding.specs.Rowing.{written, newRow, Done}
+use Rattle.adding.specs.Comes.{Comes, newOf, Fresh}
+use Rattle.adding.proofs.Cells.{row-cell, Alike, written-alike, written-behind, rows-same, noted-same, settled-same, makes-same}
+use Rattle.adding.proofs.OneMore.{noted-last, levels-before, last-in, calls-not-itself, tables-last}
 
 -- the stores of a row, one by one
 pub row-written : (t : List ℕ) (i a b c start long missing : ℕ) (made : Made) → missing ≡ bitOf (made .missing)

@@ -1,10 +1,10 @@
--- `holding::adding::settle_last` meets its contract: the level is what those of its callees make it, and its summary stands beside it.
+-- `adding::adding::settle_last` meets its contract: the level is what those of its callees make it, and its summary stands beside it.
 -- Assumes nothing.
 use lib.ListN.{length-set}
-use Rattle.holding.proofs.Added.{settles}
+use Rattle.adding.proofs.NewName.{settles}
 use borrow.Author.Needs.{needs}
-use Rattle.holding.proofs.adding.settle_last.Statement.{statement}
-use Rattle.holding.proofs.adding.settle_last.Tie as tie
+use Rattle.adding.proofs.adding.settle_last.Statement.{statement}
+use Rattle.adding.proofs.adding.settle_last.Tie as tie
 
 add-level-of : tie.Need-add-level-of
 add-level-of c = search needs

@@ -1,15 +1,15 @@
--- `holding::adding::all_done` meets its contract: the motifs passed are done.
+-- `adding::adding::all_done` meets its contract: the motifs passed are done.
 -- Assumes nothing.
 use native.Mathlib.Omega.{arith}
 use mathlib.Core.Path.{sym}
 use Prim.Native.Nat.{ℕ, _-_, _≤_, _<_}
 use borrow.Author.Tests.{not-false}
 use Rattle.scope.proofs.Apart.{clash-of}
-use Rattle.holding.specs.Rowing.{Done}
-use Rattle.holding.proofs.Cells.{one-more}
+use Rattle.adding.specs.Rowing.{Done}
+use Rattle.adding.proofs.Cells.{one-more}
 use borrow.Author.Needs.{needs}
-use Rattle.holding.proofs.adding.all_done.Statement.{statement}
-use Rattle.holding.proofs.adding.all_done.Tie as tie
+use Rattle.adding.proofs.adding.all_done.Statement.{statement}
+use Rattle.adding.proofs.adding.all_done.Tie as tie
 
 abbrev Inv-loop : tie.InvT-loop
 Inv-loop motifs held j₀ j = (j ≤ held) × ((i : ℕ) → i < j → Done motifs held i)

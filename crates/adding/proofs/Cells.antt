@@ -20,7 +20,7 @@ use Rattle.motif.specs.Tables.{Noted, Settled, SumFor, SumsUp}
 use Rattle.motif.proofs.Rowed.{held-row, in-below}
 use Rattle.stream.specs.Judging.{Makes}
 use Rattle.stream.specs.declared.judging.Made.{Made}
-use Rattle.holding.specs.Rowing.{written}
+use Rattle.adding.specs.Rowing.{written}
 
 pub written-length : (vs t : List ℕ) (at k : ℕ) → length (written t at k vs) ≡ length t
 unfolding written

@@ -1,4 +1,4 @@
--- `holding::adding::added` meets its contract: the row is written, comes into the column, and the table is settled, unless all rows are in use.
+-- `adding::adding::added` meets its contract: the row is written, comes into the column, and the table is settled, unless all rows are in use.
 -- Assumes nothing.
 use Prim.Native.Nat.{_+_, _*_, _≤_}
 use mathlib.Core.Path.{refl, ap, _∙_}
@@ -6,12 +6,12 @@ use native.Mathlib.Omega.{arith}
 use lib.ListN.{length}
 use Rattle.key.specs.Keys.{keyOf}
 use Rattle.motif.specs.Search.{enteredIn}
-use Rattle.holding.specs.Rowing.{newRow}
-use Rattle.holding.proofs.Cells.{written-length}
-use Rattle.holding.proofs.Added.{held-length, added-stored}
+use Rattle.adding.specs.Rowing.{newRow}
+use Rattle.adding.proofs.Cells.{written-length}
+use Rattle.adding.proofs.NewName.{held-length, added-stored}
 use borrow.Author.Needs.{needs}
-use Rattle.holding.proofs.adding.added.Statement.{statement}
-use Rattle.holding.proofs.adding.added.Tie as tie
+use Rattle.adding.proofs.adding.added.Statement.{statement}
+use Rattle.adding.proofs.adding.added.Tie as tie
 
 returns : tie.Need-returns
 returns c = (refl, λ ms bytes ops k n l q. absurd (omega (arith, held-length k n)))

@@ -24,10 +24,10 @@ use Rattle.motif.specs.Tables.{rowBy, rowOf, callsRow, lacksOne, levelOf, settl
 use Rattle.motif.proofs.Rowed.{is-same, held-here, held-on, held-first, held-row, held-in, in-below, keeps-beside}
 use Rattle.rounds.specs.Rounds.{LevelsBut}
 use Rattle.stream.specs.declared.judging.Made.{Made}
-use Rattle.holding.specs.Rowing.{Done}
-use Rattle.holding.specs.Comes.{Fresh}
-use Rattle.holding.proofs.Each.{each-map, none-each}
-use Rattle.holding.proofs.Stays.{Held-all, fits-closed, level-fits, none-unfolds, lacks-held, held-lacks, still-all, calls-same, level-same, unfolds-same, own-unfolds}
+use Rattle.adding.specs.Rowing.{Done}
+use Rattle.adding.specs.Comes.{Fresh}
+use Rattle.adding.proofs.Each.{each-map, none-each}
+use Rattle.adding.proofs.Stays.{Held-all, fits-closed, level-fits, none-unfolds, lacks-held, held-lacks, still-all, calls-same, level-same, unfolds-same, own-unfolds}
 
 -- the row of the last motif
 rows-new : {t : List ℕ} {n : ℕ} {m : Motif} {ms : List Motif} → Rows t (suc n) (m ∷ ms) → heldAs (m .name) ms ≡ Held.none

@@ -14,8 +14,8 @@ ghost use Rattle.key.specs.Keys.{keyOf};
 ghost use Rattle.motif.specs.Tables.{Tables};
 ghost use Rattle.motif.specs.Stored.{Stores, Stored};
 ghost use Rattle.stream.specs.Judging.{Makes};
-ghost use Rattle.holding.specs.Rowing.{written, newRow, Done};
-ghost use Rattle.holding.specs.Comes.{Comes, newOf, Fresh};
+ghost use Rattle.adding.specs.Rowing.{written, newRow, Done};
+ghost use Rattle.adding.specs.Comes.{Comes, newOf, Fresh};
 use motif::CALLS;
 use motif::Kept;
 use motif::LENGTH;
@@ -132,7 +132,7 @@ fn settle(work: &[u8], set: Setting, motifs: &mut [usize; 704], held: usize, mad
 }
 
 // The motif becomes held as the last one, unless there is no row for it.
-pub(crate) fn added(
+pub fn added(
     work: &[u8],
     motifs: &mut [usize; 704],
     set: Setting,

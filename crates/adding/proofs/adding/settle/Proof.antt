@@ -1,4 +1,4 @@
--- `holding::adding::settle` meets its contract: the table is made anew, or its last row is settled where each motif before it is done.
+-- `adding::adding::settle` meets its contract: the table is made anew, or its last row is settled where each motif before it is done.
 -- Assumes nothing.
 use Prim.Native.Nat.{_+_}
 use mathlib.Core.List.{_∷_}
@@ -6,8 +6,8 @@ use native.Mathlib.Numerals.{add-one}
 use borrow.Author.Tests.{not-false}
 use Rattle.motif.specs.Held.{Keeps}
 use borrow.Author.Needs.{needs}
-use Rattle.holding.proofs.adding.settle.Statement.{statement}
-use Rattle.holding.proofs.adding.settle.Tie as tie
+use Rattle.adding.proofs.adding.settle.Statement.{statement}
+use Rattle.adding.proofs.adding.settle.Tie as tie
 
 add-remake : tie.Need-add-remake
 add-remake c = search needs
