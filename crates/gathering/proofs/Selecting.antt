@@ -19,7 +19,7 @@ use Rattle.motif.proofs.Rowed.{is-same, none-is, held-row, row-one, in-below}
 use Rattle.patterns.specs.Numbers.{OfMotif, numbersIn, collected, OtherRows, Unknown, Quiet}
 use Rattle.patterns.specs.Selects.{selectsIn, Selects}
 use Rattle.settling.proofs.Reading.{sound-at}
-use Rattle.after.specs.Hatching.{OwnKept}
+use Rattle.gathering.specs.Selected.{OwnKept}
 
 -- the row that a search for the name finds
 pub own-at : {p p₁ name : List ℕ} {i : ℕ} {ms : List Motif} {m : Motif} → Finds ms name (At i) → heldAs name ms ≡ Held.is m → i < 64

@@ -1,6 +1,6 @@
--- `after::join_block` meets its contract: the block stands behind the bytes joined before.
+-- `gathering::join_block` meets its contract: the block stands behind the bytes joined before.
 -- Assumes nothing.
-use Rattle.after.proofs.Joined.{block-out, work-is, work-joined, work-held}
+use Rattle.gathering.proofs.Joined.{block-out, work-is, work-joined, work-held}
 use Prim.Native.Nat.{_+_, _-_, _≤_}
 use lib.ListN.{length}
 use mathlib.Core.Path.{_≡_, refl, sym, _∙_}
@@ -8,8 +8,8 @@ use borrow.Author.Tests.{not-true, not-false}
 use native.Mathlib.Omega.{arith}
 use mathlib.Core.Bool.{true≢false}
 use borrow.Author.Needs.{needs}
-use Rattle.after.proofs.after.join_block.Statement.{statement}
-use Rattle.after.proofs.after.join_block.Tie as tie
+use Rattle.gathering.proofs.gathering.join_block.Statement.{statement}
+use Rattle.gathering.proofs.gathering.join_block.Tie as tie
 
 fits-requires : tie.Need-fits-requires
 fits-requires c κs = search needs

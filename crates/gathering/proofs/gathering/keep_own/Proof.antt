@@ -1,10 +1,10 @@
--- `hatching::keep_own` meets its contract: the name is held, so the search finds its row.
+-- `gathering::keep_own` meets its contract: the name is held, so the search finds its row.
 -- Assumes nothing.
 use mathlib.Core.Path.{refl}
-use Rattle.after.proofs.Selecting.{own-at, own-nowhere}
+use Rattle.gathering.proofs.Selecting.{own-at, own-nowhere}
 use borrow.Author.Needs.{needs}
-use Rattle.after.proofs.hatching.keep_own.Statement.{statement}
-use Rattle.after.proofs.hatching.keep_own.Tie as tie
+use Rattle.gathering.proofs.gathering.keep_own.Statement.{statement}
+use Rattle.gathering.proofs.gathering.keep_own.Tie as tie
 
 find-requires : tie.Need-find-requires
 find-requires c κs = search needs

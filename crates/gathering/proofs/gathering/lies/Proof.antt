@@ -1,12 +1,12 @@
--- `after::lies` meets its contract: one bound after the other.
+-- `gathering::lies` meets its contract: one bound after the other.
 -- Assumes nothing.
 use Prim.Native.Nat.{_-_, _≤_}
 use mathlib.Core.Path.{sym}
 use mathlib.Core.Bool.{true≢false}
 use native.Mathlib.Omega.{arith}
 use borrow.Author.Tests.{leb-true, le-leb}
-use Rattle.after.proofs.after.lies.Statement.{statement}
-use Rattle.after.proofs.after.lies.Tie as tie
+use Rattle.gathering.proofs.gathering.lies.Statement.{statement}
+use Rattle.gathering.proofs.gathering.lies.Tie as tie
 
 returns : tie.Need-returns
 returns c = (λ e. absurd (true≢false (sym e)), λ h. absurd (omega arith))

@@ -1,4 +1,4 @@
--- `after::fits` meets its contract: one bound after the other.
+-- `gathering::fits` meets its contract: one bound after the other.
 -- Assumes nothing.
 use Prim.Native.Nat.{_-_, _≤_}
 use mathlib.Core.Path.{sym, _∙_}
@@ -6,8 +6,8 @@ use mathlib.Core.Bool.{true≢false}
 use native.Mathlib.Omega.{arith}
 use borrow.Author.Tests.{leb-true, le-leb, not-true, not-false}
 use borrow.Author.Needs.{needs}
-use Rattle.after.proofs.after.fits.Statement.{statement}
-use Rattle.after.proofs.after.fits.Tie as tie
+use Rattle.gathering.proofs.gathering.fits.Statement.{statement}
+use Rattle.gathering.proofs.gathering.fits.Tie as tie
 
 lies-requires : tie.Need-lies-requires
 lies-requires c κs = search needs

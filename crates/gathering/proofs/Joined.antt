@@ -12,7 +12,7 @@ use borrow.Author.Tests.{le-leb, leb-true, leb-false}
 use Rattle.scope.proofs.Ends.{pick-all}
 use Rattle.buffer.specs.Over.{over, joinedAt}
 use Rattle.buffer.proofs.Parts.{length-over, drop-over, take-under, part-over}
-use Rattle.after.specs.Block.{blockJoined}
+use Rattle.gathering.specs.Block.{blockJoined}
 
 -- a part in the middle is the end of a part from the start
 mid : (w : List ℕ) (u j : ℕ) → u ≤ length w → take j (drop u w) ≡ drop u (take (u + j) w)

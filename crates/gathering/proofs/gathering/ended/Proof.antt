@@ -1,11 +1,11 @@
--- `after::ended` meets its contract: only a valid motif comes, and it is held, with what it selects.
+-- `gathering::ended` meets its contract: only a valid motif comes, and it is held, with what it selects.
 -- Assumes nothing.
 use mathlib.Core.Path.{refl}
 use Rattle.setting.specs.Views.{settingAs}
-use Rattle.after.proofs.Ending.{fine-after, call-after, no-after, hold-after}
+use Rattle.gathering.proofs.Ending.{fine-after, call-after, no-after, hold-after}
 use borrow.Author.Needs.{needs}
-use Rattle.after.proofs.after.ended.Statement.{statement}
-use Rattle.after.proofs.after.ended.Tie as tie
+use Rattle.gathering.proofs.gathering.ended.Statement.{statement}
+use Rattle.gathering.proofs.gathering.ended.Tie as tie
 
 enum-told : tie.Need-enum-told
 enum-told c = search needs

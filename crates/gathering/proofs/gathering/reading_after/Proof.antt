@@ -1,4 +1,4 @@
--- `after::reading_after` meets its contract: ReadStream, else EndStream.
+-- `gathering::reading_after` meets its contract: ReadStream, else EndStream.
 -- Assumes nothing.
 use Prim.Native.Nat.{_+_, _-_}
 use mathlib.Core.Path.{_≡_, refl, sym, _∙_}
@@ -8,11 +8,11 @@ use lib.ListN.{length}
 use borrow.Author.Tests.{not-true, not-false}
 use Rattle.setting.specs.Views.{settingAs}
 use Rattle.early.proofs.Parts.{part-same}
-use Rattle.after.proofs.Going.{block-after, nameless-after}
-use Rattle.after.proofs.Joined.{block-long, block-past}
+use Rattle.gathering.proofs.Blocks.{block-after, nameless-after}
+use Rattle.gathering.proofs.Joined.{block-long, block-past}
 use borrow.Author.Needs.{needs}
-use Rattle.after.proofs.after.reading_after.Statement.{statement}
-use Rattle.after.proofs.after.reading_after.Tie as tie
+use Rattle.gathering.proofs.gathering.reading_after.Statement.{statement}
+use Rattle.gathering.proofs.gathering.reading_after.Tie as tie
 
 join-block-requires : tie.Need-join-block-requires
 join-block-requires c κs = search needs

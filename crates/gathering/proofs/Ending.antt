@@ -26,7 +26,7 @@ use Rattle.patterns.specs.Numbers.{OfSession, OfMotif, numbersIn, collected}
 use Rattle.patterns.specs.Selects.{selectsIn}
 use Rattle.place.specs.Places.{Hatches, BusyHolds, resting-holds, reading-holds, PlaceHolds, inside-holds}
 use Rattle.early.specs.Earlier.{Earlies, early-fine, early-call, early-held}
-use Rattle.after.specs.Afterwards.{Comes, After}
+use Rattle.gathering.specs.Afterwards.{Comes, After}
 use Rattle.stream.specs.Judging.{Makes}
 use Rattle.stream.specs.declared.judging.Made.{Made}
 use Rattle.early.specs.declared.early.Early.{Early}
@@ -35,9 +35,9 @@ use Rattle.place.specs.declared.place.Busy.the-variants.{Resting, Reading}
 use Rattle.place.specs.declared.place.Place.{Place}
 use Rattle.place.specs.declared.place.Place.the-variants.{Inside}
 use Rattle.scope.proofs.Replaces.{kept-replaced}
-use Rattle.after.specs.Hatching.{OwnKept}
-use Rattle.after.proofs.Selecting.{selects-kept}
-use Rattle.after.proofs.Storing.{held-room}
+use Rattle.gathering.specs.Selected.{OwnKept}
+use Rattle.gathering.proofs.Selecting.{selects-kept}
+use Rattle.gathering.proofs.Storing.{held-room}
 use Rattle.early.proofs.Tags.{stream-ends}
 
 module _ (job attrs : List ℕ) (by : Setting) (o : Operator) (work t p : List ℕ) (nr : o .tag ≡ 0x5c → ⊥) where
