@@ -1,19 +1,16 @@
--- The store of motifs where a session begins, while one more motif is read, and its room when that one is held.
+-- The store of motifs where a session begins; and a name that a motif begins with is bytes, as a part of the job.
 -- Assumes nothing.
-use Prim.Native.Nat.{ℕ, zero, suc, _+_, _≤_, _<_}
-use mathlib.Core.Path.{_≡_, refl, _∙_}
+use Prim.Native.Nat.{ℕ, zero, suc, _+_, _<_}
+use mathlib.Core.Path.{_≡_, refl}
 use mathlib.Core.List.{List, [], _∷_}
 use native.Mathlib.Omega.{arith}
 use lib.ListN.{length, getD, take, drop}
 use lib.Seq.{getD-drop}
 use Rattle.scope.specs.Setting.{Setting}
-use Rattle.scope.specs.Motif.{Own, Motif, heldAs, bytesHeld, valid}
-use Rattle.scope.specs.Session.{keptAs}
+use Rattle.scope.specs.Motif.{Motif, heldAs, bytesHeld}
 use Rattle.scope.specs.Sound.{sound-none}
-use Rattle.scope.proofs.Replaces.{kept-replaced}
 use Rattle.motif.specs.Held.{InRow, storeOf}
 use Rattle.motif.specs.Stored.{Stored}
-use Rattle.motif.specs.declared.kept.Kept.{Kept}
 use Rattle.motif.proofs.Rowed.{none-is, keeps-none}
 use Rattle.patterns.specs.Numbers.{Quiet}
 use Rattle.patterns.specs.Selects.{Selects}
@@ -41,18 +38,6 @@ stored-none set work t l =
 -- so nothing is to be known of what they select
 pub selects-none : {p : List ℕ} → Quiet p → Selects p []
 selects-none q = record { at = λ i m r. no-row r; quiet = q; known = λ i m r k. no-row r }
-
--- the bytes behind those held do not matter
-pub stored-beside : {set : Setting} {work t : List ℕ} {kept : Kept} {ms : List Motif} (work₁ : List ℕ) → length work₁ ≡ length work
-    → take (kept .used) work₁ ≡ take (kept .used) work → Stored set work t kept ms → Stored set work₁ t kept ms
-stored-beside {work = work} {ms = ms} work₁ l e s =
-    let f : take (bytesHeld ms) work₁ ≡ take (bytesHeld ms) work = rw (s .used) at e in
-    let n : bytesHeld ms ≤ length work₁ = rw l (s .stores .within) in
-    record { tables = s .tables; used = s .used; stores = record { within = n; bytes = f ∙ s .stores .bytes }; sound = s .sound }
-
--- a motif that becomes held takes no more than its bytes
-pub held-room : (name bytes : List ℕ) (ops : List Own) (ms : List Motif) → bytesHeld (keptAs name bytes (valid ops) ms) ≤ bytesHeld ms + length bytes
-held-room name bytes ops ms = let e = kept-replaced name bytes ops ms .room in omega arith
 
 take-byte : (n : ℕ) (s : List ℕ) → ((i : ℕ) → getD s i 0 < 256) → (i : ℕ) → getD (take n s) i 0 < 256
 take-byte zero s f i = omega arith

@@ -1,13 +1,13 @@
--- What an operator leaves of the patterns: the numbers that are defined, and those that a motif selects.
+-- What an operator leaves of the patterns: the numbers that are defined.
 -- Assumes nothing.
-use Prim.Native.Nat.{ℕ, suc, _≤_, _<_}
+use Prim.Native.Nat.{ℕ, _≤_}
 use mathlib.Core.Path.{_≡_}
 use mathlib.Core.Bool.{true, false}
 use mathlib.Core.List.{List}
 use lib.ListN.{length}
 use Rattle.scope.specs.Motif.{Picture}
 use Rattle.scope.specs.Session.{definedAfter}
-use Rattle.patterns.specs.Numbers.{OfPage, OfSession, OfMotif, numbersIn, OtherRows, Unknown, Quiet}
+use Rattle.patterns.specs.Numbers.{OfPage, OfSession, numbersIn}
 use Rattle.place.specs.Places.{Beside}
 
 -- p₁ has what p has, and what an operator of this tag defines, where this picture is open and there is room
@@ -15,13 +15,3 @@ pub record Defines (p : List ℕ) (tag : ℕ) (v : Picture) (p₁ : List ℕ) : 
   pub beside : Beside p p₁
   pub page : length (numbersIn p OfPage) ≤ 32 → numbersIn p₁ OfPage ≡ definedAfter false tag v (numbersIn p OfPage)
   pub session : length (numbersIn p OfSession) ≤ 32 → numbersIn p₁ OfSession ≡ definedAfter true tag v (numbersIn p OfSession)
-
--- the row of the motif of this number has what the motif that was judged selects; every other row is as it was, and of no call it is known that it lacks none
-pub record OwnKept (p : List ℕ) (number : ℕ) (p₁ : List ℕ) : Type 0 where
-  pub row : ℕ
-  pub is : number ≡ suc row
-  pub below : row < 64
-  pub own : numbersIn p₁ row ≡ numbersIn p OfMotif
-  pub others : OtherRows p row p₁
-  pub quiet : Quiet p → Quiet p₁
-  pub unknown : Unknown p₁

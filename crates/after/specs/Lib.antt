@@ -1,3 +1,2 @@
-pub mod Afterwards
-pub mod Block
+pub mod Begins
 pub mod Hatching

@@ -1,21 +1,20 @@
 // Where the job stands after an operator.
 ghost use mathlib.Core.Path.{_≡_};
-ghost use mathlib.Core.Bool.{true};
 ghost use mathlib.Core.List.{List};
-ghost use Prim.Native.Nat.{ℕ, _+_, _≤_};
-ghost use lib.ListN.{length, take, drop};
+ghost use Prim.Native.Nat.{ℕ};
+ghost use lib.ListN.{length, drop};
 ghost use Rattle.setting.specs.Views.{settingAs};
 ghost use Rattle.patterns.specs.Numbers.{OfSession, numbersIn};
 ghost use Rattle.place.specs.Places.{Beside};
-ghost use Rattle.after.specs.Afterwards.{openedAfter, Begins, Draws, Joins, Stays, After};
-ghost use Rattle.after.specs.Block.{blockJoined};
+ghost use Rattle.gathering.specs.Afterwards.{After};
+ghost use Rattle.after.specs.Begins.{openedAfter, Begins, Draws};
 ghost use Rattle.place.specs.declared.place.Busy.the-variants as busy-is;
 ghost use Rattle.place.specs.declared.place.Place.the-variants as place-is;
 use crate::hatching::define_open;
-use crate::hatching::keep_own;
 use early::Early;
+use gathering::Stream;
+use gathering::reading_after;
 use motif::Kept;
-use names::limits::STORE_MOST;
 use names::operators::BEGIN_IMAGE;
 use names::operators::BEGIN_PAGE;
 use names::operators::BEGIN_STREAM;
@@ -23,22 +22,12 @@ use names::operators::CLOSE_DATA_SOURCE;
 use names::operators::END_PAGE;
 use names::operators::END_SESSION;
 use names::operators::OPEN_DATA_SOURCE;
-use names::operators::READ_STREAM;
 use order::Picture;
 use page::page::Page;
 use place::Busy;
 use place::Place;
 use reader::Operator;
 use setting::Setting;
-
-// A motif that is being read, in a session with this source and these motifs: place and length of its name in the job, and how many bytes are joined.
-struct Stream {
-    opened: bool,
-    kept: Kept,
-    first: usize,
-    count: usize,
-    joined: usize,
-}
 
 // OpenDataSource opens the source, CloseDataSource closes it.
 fn opened_after(tag: u8, opened: bool) -> bool
@@ -124,119 +113,6 @@ fn drawn_on(
     Busy::Drawing(
         page,
         order::picture_after(job, high, tag, attrs, o.count, picture),
-    )
-}
-
-// So many bytes from a place on lie within a length.
-fn lies(len: usize, first: usize, count: usize) -> bool
-    ensures { λ r. ⌜ (r ≡ true → first + count ≤ len) ⌝ }
-    ensures { λ r. ⌜ (first + count ≤ len → r ≡ true) ⌝ }
-{
-    if len < first {
-        return false;
-    }
-    count <= len - first
-}
-
-// Whether so many bytes of a job from a place on lie within its length, and there is room for them behind those held and those joined.
-fn fits(len: usize, first: usize, count: usize, used: usize, joined: usize) -> bool
-    ensures { λ r. ⌜ (r ≡ true → (first + count ≤ len) × (used + joined + count ≤ 16384)) ⌝ }
-    ensures { λ r. ⌜ (first + count ≤ len → used + joined + count ≤ 16384 → r ≡ true) ⌝ }
-{
-    if !lies(len, first, count) {
-        return false;
-    }
-    if STORE_MOST < used {
-        return false;
-    }
-    if STORE_MOST - used < joined {
-        return false;
-    }
-    count <= STORE_MOST - used - joined
-}
-
-// ReadStream joins its data to what was read of the motif; the answer is how many bytes that makes.
-fn join_block(job: &[u8], o: Operator, work: &mut [u8], used: usize, joined: usize) -> usize
-    ensures { λ _. ⌜ now (work .exit) ≡ blockJoined (now (job .entry)) (o .first) (o .length) (used + joined) (now (work .entry)) ⌝ }
-    ensures { λ r. ⌜ Joins (now (job .entry)) o used joined (now (work .entry)) (now (work .exit)) r ⌝ }
-{
-    let first = o.first;
-    let count = o.length;
-    if !fits(job.len(), first, count, used, joined) {
-        return joined;
-    }
-    buffer::join(&job[first..first + count], work, used + joined);
-    joined + count
-}
-
-// EndStream: a valid motif becomes held under its name, or replaces the one held there; nothing else comes here.
-fn ended(
-    set: Setting,
-    name: &[u8],
-    early: Early,
-    opened: bool,
-    kept: Kept,
-    joined: usize,
-    work: &mut [u8],
-    motifs: &mut [usize; 704],
-    patterns: &mut [u16; 4487],
-) -> Place
-    ensures { λ _. ⌜ Stays (now (work .entry)) (now (motifs .entry)) (now (patterns .entry)) (now (work .exit)) (now (motifs .exit)) (now (patterns .exit)) ⌝ }
-    ensures { λ r. ⌜ ((job attrs : List ℕ) (o : Operator) (page : Page) (first count : ℕ) → take count (drop first job) ≡ now (name .entry)
-        → (o .tag ≡ 0x5c → ⊥) → After job attrs (settingAs set) o early page (now (work .entry)) (now (motifs .entry)) (now (patterns .entry))
-        (place-is.Inside opened kept (busy-is.Reading first count joined)) (now (work .exit)) (now (motifs .exit)) (now (patterns .exit)) r) ⌝ }
-{
-    match early {
-        Early::Fine => Place::Outside(false),
-        Early::Call(_, _) => Place::Outside(false),
-        Early::Held(made) => {
-            let after = holding::hold(work, motifs, set, name, kept, joined, made);
-            keep_own(patterns, motifs, after.held, name);
-            Place::Inside(opened, after, Busy::Resting)
-        }
-        Early::No(_, _) => Place::Outside(false),
-    }
-}
-
-// While a motif is read. Its name lies in the job.
-fn reading_after(
-    job: &[u8],
-    set: Setting,
-    o: Operator,
-    early: Early,
-    stream: Stream,
-    work: &mut [u8],
-    motifs: &mut [usize; 704],
-    patterns: &mut [u16; 4487],
-) -> Place
-    ensures { λ _. ⌜ Stays (now (work .entry)) (now (motifs .entry)) (now (patterns .entry)) (now (work .exit)) (now (motifs .exit)) (now (patterns .exit)) ⌝ }
-    ensures { λ r. ⌜ ((attrs : List ℕ) (page : Page)
-        → After (now (job .entry)) attrs (settingAs set) o early page (now (work .entry)) (now (motifs .entry)) (now (patterns .entry))
-        (place-is.Inside (stream .opened) (stream .kept) (busy-is.Reading (stream .first) (stream .count) (stream .joined)))
-        (now (work .exit)) (now (motifs .exit)) (now (patterns .exit)) r) ⌝ }
-{
-    let opened = stream.opened;
-    let kept = stream.kept;
-    let first = stream.first;
-    let count = stream.count;
-    let joined = stream.joined;
-    if o.tag == READ_STREAM {
-        let more = join_block(job, o, work, kept.used, joined);
-        return Place::Inside(opened, kept, Busy::Reading(first, count, more));
-    }
-    if !lies(job.len(), first, count) {
-        return Place::Outside(false);
-    }
-    ended(
-        set,
-        &job[first..first + count],
-        early,
-        opened,
-        kept,
-        joined,
-        work,
-        motifs,
-        patterns,
     )
 }
 

@@ -20,8 +20,8 @@ use Rattle.motif.specs.declared.kept.Kept.{Kept}
 use Rattle.motif.specs.declared.held.Where.the-variants.{At, Nowhere}
 use Rattle.motif.proofs.Rowed.{sorted-beside}
 use Rattle.motif.proofs.Stored.{row-start, row-long}
-use Rattle.holding.specs.Rowing.{Named}
-use Rattle.holding.specs.Comes.{Comes}
+use Rattle.holding.specs.Laid.{Named}
+use Rattle.adding.specs.Comes.{Comes}
 use Rattle.holding.proofs.Swapped.{named-swapped, bytes-swapped, sound-swapped}
 use Rattle.holding.proofs.Moves.{stores-swapped}
 

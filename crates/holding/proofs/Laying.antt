@@ -12,8 +12,8 @@ use Rattle.scope.specs.Motif.{Motif, bytesHeld}
 use Rattle.motif.specs.Sorted.{Sorted}
 use Rattle.motif.specs.Held.{Rows, rows-none, rows-more, keyIn, longIn, orderIn}
 use Rattle.motif.proofs.Sorting.{sorted-alike}
-use Rattle.holding.specs.Rowing.{Named, named-none, named-more, Laid}
-use Rattle.holding.proofs.Cells.{three}
+use Rattle.holding.specs.Laid.{Named, named-none, named-more, Laid}
+use Rattle.adding.proofs.Cells.{three}
 
 pub laid-none : (t : List ℕ) → Laid t t 0 0
 unfolding bytesHeld

@@ -1,8 +1,3 @@
-pub mod Cells
-pub mod Each
-pub mod Stays
-pub mod OneMore
-pub mod Added
 pub mod Swapped
 pub mod Moves
 pub mod Laying

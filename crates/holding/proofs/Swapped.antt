@@ -21,8 +21,8 @@ use Rattle.key.specs.Keys.{keyOf, IsName}
 use Rattle.motif.specs.Held.{Rows, rows-none, rows-more, InRow, keyIn, startIn, longIn, storeOf}
 use Rattle.motif.proofs.Rowed.{is-same, none-is, held-here, held-on, held-row}
 use Rattle.motif.proofs.Stored.{bytes-store, row-start, row-long}
-use Rattle.holding.specs.Rowing.{Named, named-none, named-more}
-use Rattle.holding.proofs.Cells.{three}
+use Rattle.holding.specs.Laid.{Named, named-none, named-more}
+use Rattle.adding.proofs.Cells.{three}
 
 -- a length that changes: the numbers of other rows stay, and so does the key of its own
 module _ (t : List ℕ) (i v : ℕ) where

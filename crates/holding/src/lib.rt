@@ -1,5 +1,4 @@
 // EndStream: a valid motif becomes held, or replaces the one that its name holds.
-mod adding;
 mod holding;
 mod replacing;
 

@@ -12,7 +12,7 @@ use Rattle.items.specs.Rows.{Sized}
 use Rattle.reader.specs.Reads.{operatorAs}
 use Rattle.reader.specs.declared.reading.Operator as Reader
 use Rattle.page.specs.declared.page.Page.{Page}
-use Rattle.after.specs.Afterwards as Afterwards
+use Rattle.gathering.specs.Afterwards as Afterwards
 use Rattle.early.specs.declared.early.Early.{Early}
 use Rattle.place.specs.declared.place.Place.{Place}
 use Rattle.scope.specs.Choice.{pick}

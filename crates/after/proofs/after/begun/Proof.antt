@@ -6,7 +6,7 @@ use native.Mathlib.Omega.{arith}
 use borrow.Author.Tests.{eq-eqb, ne-eqb}
 use Rattle.place.specs.Places.{none-place, resting-holds, reading-holds, drawing-holds}
 use Rattle.place.proofs.Hatched.{beside-unknown, beside-same}
-use Rattle.after.specs.Afterwards.{restingAfter}
+use Rattle.after.specs.Begins.{restingAfter}
 use Rattle.after.proofs.Storing.{part-bytes}
 use borrow.Author.Needs.{needs}
 use Rattle.after.proofs.after.begun.Statement.{statement}

@@ -1,6 +1,6 @@
 -- `after::opened_after` meets its contract: one test after the other.
 -- Assumes nothing.
-use Rattle.after.specs.Afterwards.{openedAfter}
+use Rattle.after.specs.Begins.{openedAfter}
 use borrow.Author.Tests.{eq-eqb, ne-eqb}
 use Rattle.after.proofs.after.opened_after.Statement.{statement}
 use Rattle.after.proofs.after.opened_after.Tie as tie

@@ -4,8 +4,8 @@ use mathlib.Core.Path.{refl, sym, _∙_}
 use borrow.Author.Tests.{not-true, not-false}
 use Rattle.scope.proofs.Apart.{clash-of}
 use Rattle.setting.specs.Views.{settingAs}
-use Rattle.holding.specs.Comes.{Comes}
-use Rattle.holding.proofs.Added.{kept-new, row-left}
+use Rattle.adding.specs.Comes.{Comes}
+use Rattle.adding.proofs.NewName.{kept-new, row-left}
 use Rattle.holding.proofs.Swapped.{kept-swapped}
 use Rattle.holding.proofs.Exchanged.{found-at, found-none}
 use borrow.Author.Needs.{needs}

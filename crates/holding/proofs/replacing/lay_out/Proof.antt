@@ -4,7 +4,7 @@ use native.Mathlib.Omega.{arith}
 use mathlib.Core.Path.{_≡_, sym, subst}
 use Prim.Native.Nat.{_-_, _*_, _≤_, _<_}
 use Rattle.motif.specs.Held.{Rows}
-use Rattle.holding.specs.Rowing.{Named, Laid}
+use Rattle.holding.specs.Laid.{Named, Laid}
 use Rattle.holding.proofs.Laying.{laid-none, laid-more, laid-sorted}
 use borrow.Author.Needs.{needs}
 use Rattle.holding.proofs.replacing.lay_out.Statement.{statement}

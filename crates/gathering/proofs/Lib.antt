@@ -1,0 +1,5 @@
+pub mod Joined
+pub mod Blocks
+pub mod Selecting
+pub mod Storing
+pub mod Ending

@@ -1,0 +1,3 @@
+pub mod Afterwards
+pub mod Block
+pub mod Selected
