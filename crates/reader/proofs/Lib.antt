@@ -1,4 +1,2 @@
 pub mod Blocks
-pub mod EndPoint
 pub mod Lines
-mod Finite

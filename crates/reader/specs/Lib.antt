@@ -1,2 +1,1 @@
-pub mod EndPoint
 pub mod Reads

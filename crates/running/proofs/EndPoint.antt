@@ -20,7 +20,7 @@ use Rattle.page.specs.Holds.{PageHolds}
 use Rattle.arm.specs.Holds.{Moves, moves-to}
 use Rattle.page.specs.declared.page.Page as Code
 use Rattle.arm.specs.declared.moved.Moved.the-variants.{To}
-use Rattle.reader.specs.EndPoint.{lineOf, Drawn, drawn-path, drawn-rel}
+use Rattle.end_point.specs.EndPoint.{lineOf, Drawn, drawn-path, drawn-rel}
 use Rattle.early.specs.Earlier.{Unbroken}
 use Rattle.ruling.specs.Judged.{Judgement}
 use Rattle.ruling.proofs.Ruling.{plain-judged}

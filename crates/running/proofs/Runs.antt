@@ -24,8 +24,8 @@ use Rattle.page.specs.Holds.{PageHolds}
 use Rattle.page.specs.declared.page.Page as Code
 use Rattle.page.specs.declared.page.Passed.the-variants as passed-is
 use Rattle.arm.specs.declared.moved.Moved.the-variants.{To}
-use Rattle.reader.specs.EndPoint.{lineOf, Line}
-use Rattle.reader.proofs.EndPoint.{read-line, line-drawn}
+use Rattle.end_point.specs.EndPoint.{lineOf, Line}
+use Rattle.end_point.proofs.EndPoint.{read-line, line-drawn}
 use Rattle.buffer.specs.Over.{over}
 use Rattle.buffer.specs.Listed.{recordsFor}
 use Rattle.motif.specs.Stored.{Stored}

@@ -9,6 +9,7 @@ ghost use Rattle.order.specs.declared.picture.Picture.the-variants.{Nothing};
 ghost use Rattle.place.specs.declared.place.Busy.the-variants.{Drawing};
 ghost use Rattle.place.specs.declared.place.Place.the-variants.{Inside};
 ghost use Rattle.running.specs.Running.{inSession, standing, Further, Runs};
+use end_point::LineEnd;
 use motif::Kept;
 use names::attributes::END_POINT;
 use names::limits::PERFORMED_MOST;
@@ -17,7 +18,6 @@ use page::page::Page;
 use page::page::Passed;
 use place::Busy;
 use place::Place;
-use reader::LineEnd;
 use state::State;
 use white::is_white;
 
@@ -105,7 +105,7 @@ fn pass_line(job: &[u8], high: bool, list: &mut [u8], from: Run, at: usize) -> P
     if !page.cursor {
         return Pass::No;
     }
-    let op = match reader::line_to(job, high, at) {
+    let op = match end_point::line_to(job, high, at) {
         LineEnd::At(op) => op,
         LineEnd::No => {
             return Pass::No;

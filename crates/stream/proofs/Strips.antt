@@ -36,8 +36,8 @@ use Rattle.key.specs.Mark.{mark}
 use Rattle.motif.specs.Tables.{callsRow, lacksOne}
 use Rattle.order.specs.Pictures.{pictureAs}
 use Rattle.patterns.specs.Selects.{selectsIn}
-use Rattle.reader.specs.EndPoint.{lineOf, Drawn, drawn-path, drawn-rel, Line}
-use Rattle.reader.proofs.EndPoint.{line-read, line-drawn, line-in-motif}
+use Rattle.end_point.specs.EndPoint.{lineOf, Drawn, drawn-path, drawn-rel, Line}
+use Rattle.end_point.proofs.EndPoint.{line-read, line-drawn, line-in-motif}
 use Rattle.within.specs.Judging.{Follows}
 use Rattle.stream.specs.Lines.{Quiet, quiet-close, quiet-paint, Strip, strip-none, strip-line, strip-quiet, Comes}
 use Rattle.within.specs.declared.inside.Inside.{Inside}

@@ -6,7 +6,7 @@ use mathlib.Core.Bool.{Bool, true, false}
 use mathlib.Core.List.{List}
 use lib.ListN.{length, getD}
 use Rattle.scope.specs.Names.{CloseSubPath, PaintPath}
-use Rattle.reader.specs.EndPoint.{Line}
+use Rattle.end_point.specs.EndPoint.{Line}
 use Rattle.scope.specs.Setting.{Setting}
 use Rattle.scope.specs.Motif as scope
 use Rattle.patterns.specs.Selects.{selectsIn}

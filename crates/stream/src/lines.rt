@@ -4,9 +4,9 @@ ghost use mathlib.Core.Bool.{true};
 ghost use Prim.Native.Nat.{ℕ, _≤_};
 ghost use lib.ListN.{length};
 ghost use Rattle.stream.specs.Lines.{Quiet, Strip, Stripped, Beyond};
+use end_point::LineEnd;
 use names::operators::CLOSE_SUB_PATH;
 use names::operators::PAINT_PATH;
-use reader::LineEnd;
 
 // Where a run has come to, of how many operators, and whether a line is among them.
 pub struct Run {
@@ -48,7 +48,7 @@ fn pass_one(s: &[u8], high: bool, run: Run) -> Pass
             drawn: run.drawn,
         });
     }
-    match reader::line_to(s, high, at) {
+    match end_point::line_to(s, high, at) {
         LineEnd::At(op) => Pass::To(Run {
             at: op + 1,
             count: run.count + 1,

@@ -6,7 +6,7 @@ use mathlib.Core.Bool.{true, false}
 use native.Mathlib.Omega.{arith}
 use borrow.Author.Tests.{leb-true, not-true, not-false}
 use lib.ListN.{length}
-use Rattle.reader.specs.EndPoint.{Line}
+use Rattle.end_point.specs.EndPoint.{Line}
 use Rattle.scope.proofs.Ends.{after-le}
 use Rattle.running.proofs.Runs.{runs-still, one-line}
 use borrow.Author.Needs.{needs}

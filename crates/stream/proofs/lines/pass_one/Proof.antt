@@ -6,7 +6,7 @@ use mathlib.Core.List.{List}
 use mathlib.Core.Path.{refl}
 use native.Mathlib.Omega.{arith}
 use lib.ListN.{length}
-use Rattle.reader.specs.EndPoint.{Line}
+use Rattle.end_point.specs.EndPoint.{Line}
 use Rattle.stream.specs.Lines.{strip-line, strip-quiet}
 use borrow.Author.Needs.{needs}
 use Rattle.stream.proofs.lines.pass_one.Statement.{statement}

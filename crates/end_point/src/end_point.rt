@@ -7,7 +7,7 @@ ghost use lib.ListN.{length};
 ghost use Rattle.scope.specs.Names.{LinePath, LineRelPath};
 ghost use Rattle.scope.specs.Number.{number};
 ghost use Rattle.scope.specs.Attributes.{twoAt, finite, pointIn};
-ghost use Rattle.reader.specs.EndPoint.{pointLength, endsAt, realLineTo, lineTo, Point, Drawn, Ends, Lined};
+ghost use Rattle.end_point.specs.EndPoint.{pointLength, endsAt, realLineTo, lineTo, Point, Drawn, Ends, Lined};
 use names::attributes::END_POINT;
 use names::operators::LINE_PATH;
 use names::operators::LINE_REL_PATH;

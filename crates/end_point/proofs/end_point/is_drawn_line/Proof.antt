@@ -2,9 +2,9 @@
 -- Assumes nothing.
 use mathlib.Core.Path.{refl, subst⁻¹}
 use borrow.Author.Tests.{ne-eqb, eqb-true}
-use Rattle.reader.specs.EndPoint.{Drawn, drawn-path, drawn-rel}
-use Rattle.reader.proofs.end_point.is_drawn_line.Statement.{statement}
-use Rattle.reader.proofs.end_point.is_drawn_line.Tie as tie
+use Rattle.end_point.specs.EndPoint.{Drawn, drawn-path, drawn-rel}
+use Rattle.end_point.proofs.end_point.is_drawn_line.Statement.{statement}
+use Rattle.end_point.proofs.end_point.is_drawn_line.Tie as tie
 
 returns : tie.Need-returns
 returns c = rw (c .if1 .taken) (refl, λ e. drawn-path)

@@ -3,9 +3,9 @@
 use mathlib.Core.Path.{refl}
 use native.Mathlib.Omega.{arith}
 use borrow.Author.Tests.{ne-eqb}
-use Rattle.reader.specs.EndPoint.{pointLength, point-ubyte, point-uint16, point-sint16, point-none}
-use Rattle.reader.proofs.end_point.point_length.Statement.{statement}
-use Rattle.reader.proofs.end_point.point_length.Tie as tie
+use Rattle.end_point.specs.EndPoint.{pointLength, point-ubyte, point-uint16, point-sint16, point-none}
+use Rattle.end_point.proofs.end_point.point_length.Statement.{statement}
+use Rattle.end_point.proofs.end_point.point_length.Tie as tie
 
 returns : tie.Need-returns
 unfolding pointLength

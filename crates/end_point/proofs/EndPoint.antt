@@ -21,7 +21,7 @@ use Rattle.scope.specs.Reading.{Context, Read, withData, asWhole, withAttribute
 use Rattle.number.proofs.Digits.{one-digit}
 use Rattle.items.proofs.Pairs.{numbers-all, scan-tag, black-item}
 use Rattle.white.proofs.Spaces.{after-black}
-use Rattle.reader.specs.EndPoint.{lineOf, Point, point-ubyte, point-uint16, point-sint16, point-real, point-none, Drawn, drawn-path, drawn-rel, Ends, Line}
+use Rattle.end_point.specs.EndPoint.{lineOf, Point, point-ubyte, point-uint16, point-sint16, point-real, point-none, Drawn, drawn-path, drawn-rel, Ends, Line}
 
 -- whole numbers are taken
 pub whole-taken : (high : Bool) (s : List ℕ) (first : ℕ) {tag bytes : ℕ} → 0 < bytes → bytes ≤ 4 → Point tag bytes → pointIn (twoAt high s tag first) ≡ true

@@ -10,8 +10,8 @@ use Rattle.scope.specs.Choice.{pick}
 use Rattle.scope.specs.Names.{EndPoint, LinePath, LineRelPath}
 use Rattle.scope.specs.Attributes.{twoAt, pointIn}
 use Rattle.scope.specs.Reading.{Operator}
-use Rattle.reader.specs.declared.end_point.LineEnd.{LineEnd}
-use Rattle.reader.specs.declared.end_point.LineEnd.the-variants.{At, No}
+use Rattle.end_point.specs.declared.end_point.LineEnd.{LineEnd}
+use Rattle.end_point.specs.declared.end_point.LineEnd.the-variants.{At, No}
 
 -- the bytes of a point's whole numbers by its tag; 0 if it has none
 unfoldable pub pointLength : ℕ → ℕ

@@ -3,10 +3,10 @@
 use mathlib.Core.Path.{sym}
 use mathlib.Core.Bool.{true≢false}
 use borrow.Author.Tests.{lt-ltb, le-ltb, eq-eqb, ne-eqb}
-use Rattle.reader.specs.EndPoint.{endsAt}
+use Rattle.end_point.specs.EndPoint.{endsAt}
 use borrow.Author.Needs.{needs}
-use Rattle.reader.proofs.end_point.ends_at.Statement.{statement}
-use Rattle.reader.proofs.end_point.ends_at.Tie as tie
+use Rattle.end_point.proofs.end_point.ends_at.Statement.{statement}
+use Rattle.end_point.proofs.end_point.ends_at.Tie as tie
 
 add-op : tie.Need-add-op
 add-op c = search needs

@@ -4,8 +4,8 @@ use mathlib.Core.Path.{sym, _∙_}
 use borrow.Author.Tests.{not-true, not-false}
 use Rattle.scope.specs.Attributes.{twoAt}
 use borrow.Author.Needs.{needs}
-use Rattle.reader.proofs.end_point.are_finite.Statement.{statement}
-use Rattle.reader.proofs.end_point.are_finite.Tie as tie
+use Rattle.end_point.proofs.end_point.are_finite.Statement.{statement}
+use Rattle.end_point.proofs.end_point.are_finite.Tie as tie
 
 is-finite-at-requires : tie.Need-is-finite-at-requires
 is-finite-at-requires c κs = search needs

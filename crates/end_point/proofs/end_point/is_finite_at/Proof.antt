@@ -3,10 +3,10 @@
 use Prim.Native.Nat.{_+_, _*_, _<_}
 use native.Mathlib.Omega.{arith}
 use lib.ListN.{getD}
-use Rattle.reader.proofs.Finite.{four-bytes}
+use Rattle.end_point.proofs.Finite.{four-bytes}
 use borrow.Author.Needs.{needs}
-use Rattle.reader.proofs.end_point.is_finite_at.Statement.{statement}
-use Rattle.reader.proofs.end_point.is_finite_at.Tie as tie
+use Rattle.end_point.proofs.end_point.is_finite_at.Statement.{statement}
+use Rattle.end_point.proofs.end_point.is_finite_at.Tie as tie
 
 shared-slice-read-is-finite : tie.Need-shared-slice-read-is-finite
 shared-slice-read-is-finite c = search needs

@@ -5,10 +5,10 @@ use mathlib.Core.Path.{sym, ap}
 use mathlib.Core.Bool.{not}
 use lib.Dec.{eqb}
 use Rattle.scope.specs.Attributes.{finite}
-use Rattle.reader.proofs.Finite.{exponent}
+use Rattle.end_point.proofs.Finite.{exponent}
 use borrow.Author.Needs.{needs}
-use Rattle.reader.proofs.end_point.is_finite.Statement.{statement}
-use Rattle.reader.proofs.end_point.is_finite.Tie as tie
+use Rattle.end_point.proofs.end_point.is_finite.Statement.{statement}
+use Rattle.end_point.proofs.end_point.is_finite.Tie as tie
 
 mul-result : tie.Need-mul-result
 mul-result c = search needs

@@ -6,11 +6,11 @@ use mathlib.Core.Bool.{true, false}
 use native.Mathlib.Omega.{arith}
 use borrow.Author.Tests.{le-ltb, eq-eqb, ne-eqb, not-true, not-false}
 use lib.ListN.{length, List·getD-eq-default}
-use Rattle.reader.specs.EndPoint.{pointLength, realLineTo, lineTo}
-use Rattle.reader.proofs.EndPoint.{whole-taken}
+use Rattle.end_point.specs.EndPoint.{pointLength, realLineTo, lineTo}
+use Rattle.end_point.proofs.EndPoint.{whole-taken}
 use borrow.Author.Needs.{needs}
-use Rattle.reader.proofs.end_point.line_to.Statement.{statement}
-use Rattle.reader.proofs.end_point.line_to.Tie as tie
+use Rattle.end_point.proofs.end_point.line_to.Statement.{statement}
+use Rattle.end_point.proofs.end_point.line_to.Tie as tie
 
 returns : tie.Need-returns
 unfolding lineTo realLineTo pointLength

@@ -5,10 +5,10 @@ use mathlib.Core.Bool.{true}
 use mathlib.Core.Path.{_≡_, refl, sym, _∙_, subst⁻¹}
 use native.Mathlib.Omega.{arith}
 use borrow.Author.Tests.{lt-ltb, le-ltb, eq-eqb, ne-eqb, not-true, not-false}
-use Rattle.reader.specs.EndPoint.{realLineTo, Point, point-real}
+use Rattle.end_point.specs.EndPoint.{realLineTo, Point, point-real}
 use borrow.Author.Needs.{needs}
-use Rattle.reader.proofs.end_point.real_line_to.Statement.{statement}
-use Rattle.reader.proofs.end_point.real_line_to.Tie as tie
+use Rattle.end_point.proofs.end_point.real_line_to.Statement.{statement}
+use Rattle.end_point.proofs.end_point.real_line_to.Tie as tie
 
 add-if1 : tie.Need-add-if1
 add-if1 c = search needs

@@ -1,0 +1,2 @@
+pub mod EndPoint
+mod Finite
