@@ -22,3 +22,17 @@ pub fn list() -> [u8; 983040]
 {
     [0; 983040]
 }
+
+// A job that may be longer than any: what vectors tries has room.
+pub fn long_job() -> [u8; 131072]
+    ensures { λ r. ⌜ 131072 ≡ length r ⌝ }
+{
+    [0; 131072]
+}
+
+// A buffer full of a byte that no record and no zeroed work buffer has throughout.
+pub fn filled() -> [u8; 65536]
+    ensures { λ r. ⌜ 65536 ≡ length r ⌝ }
+{
+    [238; 65536]
+}

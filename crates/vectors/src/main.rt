@@ -2,24 +2,10 @@
 //
 // A job is the lengths of the job, of the work buffer and of the list and the start asked for (0 gray, else RGB), four bytes each with the low byte first, then the
 // job.
-mod line;
-mod rooms;
-
-// A checksum with one more byte.
-fn mix(sum: u64, byte: u8) -> u64 {
-    (sum % 4_294_967_296) * 16_777_619 + byte as u64
-}
-
-// A checksum of bytes in their order.
-fn checksum(bytes: &[u8]) -> u64 {
-    let mut sum = 0;
-    let mut i = 0;
-    while i < bytes.len() {
-        sum = mix(sum, bytes[i]);
-        i += 1;
-    }
-    sum % 4_294_967_296
-}
+use answers::checksum;
+use answers::fill;
+use answers::number;
+use answers::seven;
 
 // Judges the first n bytes of the job with as many bytes of the buffers as asked for; code 99 if there are not so many.
 fn judge(
@@ -43,25 +29,25 @@ fn judge(
     checker::check(&job[0..n], &mut work[0..held], &mut list[0..room], gray)
 }
 
+// The line of an answer, with the checksums of both buffers.
+fn print(v: state::Verdict, work: u64, list: u64) {
+    seven(
+        v.code,
+        v.position,
+        v.inner,
+        v.records,
+        v.performed,
+        work,
+        list,
+    );
+}
+
 // Both buffers are full of a byte that no record and no zeroed work buffer has throughout.
 fn answer(job: &[u8], n: usize, held: usize, room: usize, gray: bool) {
     let mut work = rooms::filled();
     let mut list = rooms::filled();
     let verdict = judge(job, n, &mut work, held, &mut list, room, gray);
-    line::print(verdict, checksum(&work), checksum(&list));
-}
-
-// Reads n bytes to the start of job, and whether they came.
-fn fill(job: &mut [u8], n: usize) -> bool {
-    if job.len() < n {
-        return false;
-    }
-    io::read_full(0, &mut job[0..n]) == n
-}
-
-// A number of four bytes.
-fn number(a: u8, b: u8, c: u8, d: u8) -> usize {
-    a as usize + 256 * (b as usize) + 65_536 * (c as usize) + 16_777_216 * (d as usize)
+    print(verdict, checksum(&work), checksum(&list));
 }
 
 // One job, and whether there was one.
@@ -74,7 +60,7 @@ fn next() -> bool {
     let held = number(head[4], head[5], head[6], head[7]);
     let room = number(head[8], head[9], head[10], head[11]);
     let rgb = number(head[12], head[13], head[14], head[15]);
-    let mut job = rooms::job();
+    let mut job = rooms::long_job();
     if !fill(&mut job, n) {
         io::write_all(2, b"the job is cut\n");
         return false;

@@ -2,16 +2,7 @@
 
 // The five numbers on one line.
 fn print(v: state::Verdict) {
-    io::print_decimal(1, v.code as u64);
-    io::write_all(1, b" ");
-    io::print_decimal(1, v.position as u64);
-    io::write_all(1, b" ");
-    io::print_decimal(1, v.inner as u64);
-    io::write_all(1, b" ");
-    io::print_decimal(1, v.records as u64);
-    io::write_all(1, b" ");
-    io::print_decimal(1, v.performed as u64);
-    io::write_all(1, b"\n");
+    answers::five(v.code, v.position, v.inner, v.records, v.performed);
 }
 
 // One byte more than a job may have is room enough to tell a job that is too long.

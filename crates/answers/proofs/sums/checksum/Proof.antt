@@ -3,8 +3,8 @@
 use Prim.Native.Nat.{_≤_, _-_}
 use lib.ListN.{length}
 use borrow.Author.Needs.{needs}
-use Rattle.vectors.proofs.checksum.Statement.{statement}
-use Rattle.vectors.proofs.checksum.Tie as tie
+use Rattle.answers.proofs.sums.checksum.Statement.{statement}
+use Rattle.answers.proofs.sums.checksum.Tie as tie
 
 abbrev Inv-loop : tie.InvT-loop
 Inv-loop bytes sum₀ i₀ sum i = i ≤ length bytes
