@@ -5,8 +5,7 @@ ghost use mathlib.Core.List.{_∷_, []};
 ghost use Rattle.scope.specs.Header.{one, two};
 ghost use Rattle.scope.specs.Table.{tableOne, tableTwo, table, lineIn};
 ghost use Rattle.setting.specs.Views.{classAs};
-ghost use Rattle.scope.specs.Choice.{among};
-ghost use Rattle.table.specs.Lines.{ownLines, ownRules, ownLine, ownRule, isKnown, rowWith, briefAs, briefOf, takesOf, ruleOf};
+ghost use Rattle.table.specs.Lines.{isKnown, rowWith, briefAs, briefOf, takesOf, ruleOf};
 ghost use Rattle.table.specs.declared.table.Form.the-variants.{Each, One, Line, Unknown};
 use names::attributes::SOURCE_HEIGHT as HEIGHT;
 use names::attributes::SOURCE_WIDTH as WIDTH;
@@ -74,53 +73,13 @@ fn needs(a: u8) -> Row
     }
 }
 
-// Takes one, which may be missing.
-fn may(a: u8) -> Row
-    ensures { λ r. ⌜ r ≡ rowWith (Each 0) (a ∷ []) ⌝ }
+// Takes up to three, of which the first so many must be there.
+fn each(must: usize, a: u8, b: u8, c: u8) -> Row
+    ensures { λ r. ⌜ r ≡ rowWith (Each must) (a ∷ b ∷ c ∷ []) ⌝ }
 {
     Row {
-        form: Form::Each(0),
-        numbers: [a, NO, NO, NO, NO, NO, NO, NO],
-    }
-}
-
-// Takes two, which must be there.
-fn needs_two(a: u8, b: u8) -> Row
-    ensures { λ r. ⌜ r ≡ rowWith (Each 2) (a ∷ b ∷ []) ⌝ }
-{
-    Row {
-        form: Form::Each(2),
-        numbers: [a, b, NO, NO, NO, NO, NO, NO],
-    }
-}
-
-// Takes two, which must be there, and one that may be missing.
-fn needs_two_may(a: u8, b: u8, c: u8) -> Row
-    ensures { λ r. ⌜ r ≡ rowWith (Each 2) (a ∷ b ∷ c ∷ []) ⌝ }
-{
-    Row {
-        form: Form::Each(2),
+        form: Form::Each(must),
         numbers: [a, b, c, NO, NO, NO, NO, NO],
-    }
-}
-
-// Takes three, which must be there.
-fn needs_three(a: u8, b: u8, c: u8) -> Row
-    ensures { λ r. ⌜ r ≡ rowWith (Each 3) (a ∷ b ∷ c ∷ []) ⌝ }
-{
-    Row {
-        form: Form::Each(3),
-        numbers: [a, b, c, NO, NO, NO, NO, NO],
-    }
-}
-
-// Takes three, which must be there, and two that may be missing.
-fn needs_three_may_two(a: u8, b: u8, c: u8, d: u8, e: u8) -> Row
-    ensures { λ r. ⌜ r ≡ rowWith (Each 3) (a ∷ b ∷ c ∷ d ∷ e ∷ []) ⌝ }
-{
-    Row {
-        form: Form::Each(3),
-        numbers: [a, b, c, d, e, NO, NO, NO],
     }
 }
 
@@ -144,33 +103,23 @@ fn needs_five(a: u8, b: u8, c: u8, d: u8, e: u8) -> Row
     }
 }
 
-// Takes seven, which must be there.
-fn needs_seven(a: u8, b: u8, c: u8, d: u8, e: u8, f: u8, g: u8) -> Row
-    ensures { λ r. ⌜ r ≡ rowWith (Each 7) (a ∷ b ∷ c ∷ d ∷ e ∷ f ∷ g ∷ []) ⌝ }
+// Takes up to seven, of which the first so many must be there.
+fn each_of_seven(must: usize, a: u8, b: u8, c: u8, d: u8, e: u8, f: u8, g: u8) -> Row
+    ensures { λ r. ⌜ r ≡ rowWith (Each must) (a ∷ b ∷ c ∷ d ∷ e ∷ f ∷ g ∷ []) ⌝ }
 {
     Row {
-        form: Form::Each(7),
+        form: Form::Each(must),
         numbers: [a, b, c, d, e, f, g, NO],
     }
 }
 
-// Takes exactly one of four.
-fn one_of_four(a: u8, b: u8, c: u8, d: u8) -> Row
+// Takes exactly one of up to four.
+fn one_of(a: u8, b: u8, c: u8, d: u8) -> Row
     ensures { λ r. ⌜ r ≡ rowWith One (a ∷ b ∷ c ∷ d ∷ []) ⌝ }
 {
     Row {
         form: Form::One,
         numbers: [a, b, c, d, NO, NO, NO, NO],
-    }
-}
-
-// Takes exactly one of three.
-fn one_of(a: u8, b: u8, c: u8) -> Row
-    ensures { λ r. ⌜ r ≡ rowWith One (a ∷ b ∷ c ∷ []) ⌝ }
-{
-    Row {
-        form: Form::One,
-        numbers: [a, b, c, NO, NO, NO, NO, NO],
     }
 }
 
@@ -200,8 +149,9 @@ fn row_of_one(tag: u8) -> Row
 {
     match tag {
         BEGIN_IMAGE => needs_five(COLOR_MAPPING, COLOR_DEPTH, WIDTH, HEIGHT, DESTINATION_SIZE),
-        BEGIN_PAGE => needs_two_may(ORIENTATION, MEDIA_SIZE, MEDIA_SOURCE),
-        BEGIN_RAST_PATTERN => needs_seven(
+        BEGIN_PAGE => each(2, ORIENTATION, MEDIA_SIZE, MEDIA_SOURCE),
+        BEGIN_RAST_PATTERN => each_of_seven(
+            7,
             COLOR_MAPPING,
             COLOR_DEPTH,
             WIDTH,
@@ -210,13 +160,13 @@ fn row_of_one(tag: u8) -> Row
             PATTERN_DEFINE_ID,
             PATTERN_PERSISTENCE,
         ),
-        BEGIN_SESSION => needs_two_may(MEASURE, UNITS_PER_MEASURE, ERROR_REPORT),
+        BEGIN_SESSION => each(2, MEASURE, UNITS_PER_MEASURE, ERROR_REPORT),
         BEGIN_STREAM => needs(STREAM_NAME),
         CLOSE_DATA_SOURCE => nothing(),
         CLOSE_SUB_PATH => nothing(),
-        COMMENT => may(COMMENT_DATA),
+        COMMENT => each(0, COMMENT_DATA, NO, NO),
         END_IMAGE => nothing(),
-        END_PAGE => may(PAGE_COPIES),
+        END_PAGE => each(0, PAGE_COPIES, NO, NO),
         END_RAST_PATTERN => nothing(),
         END_SESSION => nothing(),
         END_STREAM => nothing(),
@@ -224,79 +174,63 @@ fn row_of_one(tag: u8) -> Row
         LINE_PATH => one_or_both(END_POINT, NUMBER_OF_POINTS, POINT_TYPE),
         LINE_REL_PATH => one_or_both(END_POINT, NUMBER_OF_POINTS, POINT_TYPE),
         NEW_PATH => nothing(),
-        OPEN_DATA_SOURCE => needs_two(SOURCE_TYPE, DATA_ORG),
+        OPEN_DATA_SOURCE => each(2, SOURCE_TYPE, DATA_ORG, NO),
         PAINT_PATH => nothing(),
         POP_GS => nothing(),
         PUSH_GS => nothing(),
-        READ_IMAGE => needs_three(START_LINE, BLOCK_HEIGHT, COMPRESS_MODE),
-        READ_RAST_PATTERN => needs_three(START_LINE, BLOCK_HEIGHT, COMPRESS_MODE),
+        READ_IMAGE => each(3, START_LINE, BLOCK_HEIGHT, COMPRESS_MODE),
+        READ_RAST_PATTERN => each(3, START_LINE, BLOCK_HEIGHT, COMPRESS_MODE),
         READ_STREAM => needs(STREAM_DATA_LENGTH),
         RECTANGLE => needs(BOUNDING_BOX),
-        SET_BRUSH_SOURCE => one_of_four(RGB_COLOR, GRAY_LEVEL, NULL_BRUSH, PATTERN_SELECT_ID),
+        SET_BRUSH_SOURCE => one_of(RGB_COLOR, GRAY_LEVEL, NULL_BRUSH, PATTERN_SELECT_ID),
         SET_COLOR_SPACE => needs(COLOR_SPACE),
         SET_CURSOR => needs(POINT),
         SET_CURSOR_REL => needs(POINT),
-        SET_PEN_SOURCE => one_of(RGB_COLOR, GRAY_LEVEL, NULL_PEN),
+        SET_PEN_SOURCE => one_of(RGB_COLOR, GRAY_LEVEL, NULL_PEN, NO),
         SET_PEN_WIDTH => needs(PEN_WIDTH),
         _ => unknown(),
     }
 }
 
-// Class 2;1 has a line of its own for this operator.
-fn has_own_line(tag: u8) -> bool
-    ensures { λ r. ⌜ r ≡ among ownLines tag ⌝ }
-{
-    match tag {
-        BEGIN_PAGE => true,
-        READ_IMAGE => true,
-        READ_RAST_PATTERN => true,
-        SET_DEFAULT_GS => true,
-        _ => false,
-    }
-}
-
-// The lines that are its own.
-fn own_row(tag: u8) -> Row
-    ensures { λ r. ⌜ (among ownLines tag ≡ true → briefAs r ≡ briefOf (lineIn tableTwo tag)) ⌝ }
+// The same in class 2;1: it has lines of its own, all others are as in 1;1.
+fn row_of_two(tag: u8) -> Row
+    ensures { λ r. ⌜ briefAs r ≡ briefOf (lineIn tableTwo tag) ⌝ }
 {
     match tag {
         BEGIN_PAGE => may_four(ORIENTATION, MEDIA_SIZE, MEDIA_SOURCE, MEDIA_TYPE),
-        READ_IMAGE => needs_three_may_two(
+        READ_IMAGE => each_of_seven(
+            3,
             START_LINE,
             BLOCK_HEIGHT,
             COMPRESS_MODE,
             PAD_BYTES_MULTIPLE,
             BLOCK_BYTE_LENGTH,
+            NO,
+            NO,
         ),
-        READ_RAST_PATTERN => needs_three_may_two(
+        READ_RAST_PATTERN => each_of_seven(
+            3,
             START_LINE,
             BLOCK_HEIGHT,
             COMPRESS_MODE,
             PAD_BYTES_MULTIPLE,
             BLOCK_BYTE_LENGTH,
+            NO,
+            NO,
         ),
-        _ => nothing(),
+        SET_DEFAULT_GS => nothing(),
+        _ => row_of_one(tag),
     }
 }
 
-// The operator's line is one of class 2;1 alone.
-fn is_own_line(class: Class, tag: u8) -> bool
-    ensures { λ r. ⌜ r ≡ ownLine (classAs class) tag ⌝ }
-{
-    match class {
-        Class::One => false,
-        Class::Two => has_own_line(tag),
-    }
-}
-
-// What attributes an operator takes in a class: in 2;1 by its own lines, all others as in 1;1.
+// What attributes an operator takes in a class.
 pub fn row_of(class: Class, tag: u8) -> Row
     ensures { λ r. ⌜ briefAs r ≡ briefOf (lineIn (table (classAs class)) tag) ⌝ }
 {
-    if is_own_line(class, tag) {
-        return own_row(tag);
+    match class {
+        Class::One => row_of_one(tag),
+        Class::Two => row_of_two(tag),
     }
-    row_of_one(tag)
 }
 
 fn takes(kind: Kind, low: usize, high: usize) -> Rule
@@ -348,40 +282,17 @@ fn rule_of_one(number: u8) -> Rule
     }
 }
 
-// Class 2;1 has values of its own for this attribute.
-fn has_own_rule(number: u8) -> bool
-    ensures { λ r. ⌜ r ≡ among ownRules number ⌝ }
-{
-    match number {
-        ORIENTATION => true,
-        MEDIA_SIZE => true,
-        MEDIA_TYPE => true,
-        PAD_BYTES_MULTIPLE => true,
-        BLOCK_BYTE_LENGTH => true,
-        _ => false,
-    }
-}
-
-// The values that are its own.
-fn own_rule(number: u8) -> Rule
-    ensures { λ r. ⌜ (among ownRules number ≡ true → takesOf r ≡ ruleOf two number .takes) ⌝ }
+// The same in class 2;1: it has values of its own, all others are as in 1;1.
+fn rule_of_two(number: u8) -> Rule
+    ensures { λ r. ⌜ takesOf r ≡ ruleOf two number .takes ⌝ }
 {
     match number {
         ORIENTATION => takes(Kind::E, 0, 3),
         MEDIA_SIZE => takes(Kind::M2, 0, 0),
         MEDIA_TYPE => takes(Kind::A, 0, 1024),
         PAD_BYTES_MULTIPLE => takes(Kind::E, 1, 255),
-        _ => takes(Kind::L, 0, 0),
-    }
-}
-
-// The attribute's values are those of class 2;1 alone.
-fn is_own_rule(class: Class, number: u8) -> bool
-    ensures { λ r. ⌜ r ≡ ownRule (classAs class) number ⌝ }
-{
-    match class {
-        Class::One => false,
-        Class::Two => has_own_rule(number),
+        BLOCK_BYTE_LENGTH => takes(Kind::L, 0, 0),
+        _ => rule_of_one(number),
     }
 }
 
@@ -389,10 +300,10 @@ fn is_own_rule(class: Class, number: u8) -> bool
 pub fn rule_of(class: Class, number: u8) -> Rule
     ensures { λ r. ⌜ takesOf r ≡ ruleOf (classAs class) number .takes ⌝ }
 {
-    if is_own_rule(class, number) {
-        return own_rule(number);
+    match class {
+        Class::One => rule_of_one(number),
+        Class::Two => rule_of_two(number),
     }
-    rule_of_one(number)
 }
 
 // The form of a line that the table has.
