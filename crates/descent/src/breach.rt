@@ -1,7 +1,7 @@
 // The motif and in it the operator by which a call breaks the rule of a code.
 use crate::before::page_at;
-use attributes::Part;
 use bare::bare;
+use down::Breach;
 use down::CALLED;
 use down::CODE;
 use down::bytes_of;
@@ -11,16 +11,6 @@ use down::note_called;
 use keeping::MANY;
 use page::page::Page;
 use setting::Setting;
-
-// A motif with the operator: where its bytes lie in the store, and its row; the row of the motif that the job calls, 64 if its name is not held, and
-// where it calls; and how many are held.
-pub struct Breach {
-    pub bytes: Part,
-    pub motif: usize,
-    pub called: usize,
-    pub at: usize,
-    pub held: usize,
-}
 
 // The row of the motif with the operator that breaks the rule of a code; of a ring it is the motif that is called.
 fn found(

@@ -2,5 +2,4 @@
 mod before;
 mod breach;
 
-pub use breach::Breach;
 pub use breach::breach_in;

@@ -1,8 +1,8 @@
 -- Nothing has to hold from turn to turn; each turn brings the end one nearer.
 -- Assumes nothing.
 use borrow.Author.Needs.{needs}
-use Rattle.inner.proofs.ring.calls.Statement.{statement}
-use Rattle.inner.proofs.ring.calls.Tie as tie
+use Rattle.breach.proofs.ring.calls.Statement.{statement}
+use Rattle.breach.proofs.ring.calls.Tie as tie
 
 abbrev Inv-loop : tie.InvT-loop
 Inv-loop motifs next first at₀ turns₀ at turns = Unit {0}

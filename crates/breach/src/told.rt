@@ -1,9 +1,8 @@
-// Which operator, name or ring a call comes to by which it is refused.
+// The operator, name or ring that a call comes to and by which it is refused, and the cure.
 use crate::named::by_call;
 use crate::ring::ring;
-use descent::Breach;
+use down::Breach;
 use fault::ending;
-use fault::of_job;
 use held::name_of;
 use text::say;
 
@@ -34,7 +33,7 @@ fn inner_names(motifs: &[usize; 704], motif: usize, called: usize, at: u32) {
 }
 
 // Says what is wrong at the operator of a motif that a walk has found, of which these are the bytes, and the cure.
-fn of_breach(
+pub fn of_breach(
     motifs: &[usize; 704],
     motif: &[u8],
     b: Breach,
@@ -49,7 +48,7 @@ fn of_breach(
 }
 
 // Of 21: says which name is not held, the motif that calls it, and the cure.
-fn of_lacking(
+pub fn of_lacking(
     job: &[u8],
     list: &[u8],
     records: usize,
@@ -72,7 +71,7 @@ fn of_lacking(
 }
 
 // Of 34: says which pattern is not defined and why, the motif that selects it, and the cure.
-fn of_bare(
+pub fn of_bare(
     job: &[u8],
     motifs: &[usize; 704],
     motif: &[u8],
@@ -92,74 +91,17 @@ fn of_bare(
 }
 
 // Of 32: says the ring that a call comes to, and the cure.
-fn of_ring(job: &[u8], motifs: &[usize; 704], b: Breach, attrs: &[usize; 80], st: &[usize; 16]) {
+pub fn of_ring(
+    job: &[u8],
+    motifs: &[usize; 704],
+    b: Breach,
+    attrs: &[usize; 80],
+    st: &[usize; 16],
+) {
     let mut next = [0usize; 64];
     let first = rings::ring(motifs, b.held, b.called, &mut next);
     let f = facts::facts_in(job, st[trail::PLACE], attrs, st);
     let k = ring(motifs, &next, first);
     by_call(motifs, first, b.called);
     ending(job, k, 32, f);
-}
-
-// Of a call that comes to an operator of a motif, of which these are the bytes.
-fn of_inner(
-    job: &[u8],
-    list: &[u8],
-    records: usize,
-    code: u32,
-    motifs: &[usize; 704],
-    motif: &[u8],
-    b: Breach,
-    attrs: &[usize; 80],
-    st: &[usize; 16],
-) {
-    match code {
-        21 => of_lacking(job, list, records, motifs, motif, b, attrs, st),
-        34 => of_bare(job, motifs, motif, b, attrs, st),
-        _ => of_breach(motifs, motif, b, code, attrs, st),
-    }
-}
-
-// Says what is wrong in the call at a place of the job, where pages start in gray or else in RGB, and the cure; the store is room for the motifs.
-pub fn of_call(
-    job: &[u8],
-    list: &[u8],
-    records: usize,
-    code: u32,
-    at: usize,
-    gray: bool,
-    store: &mut [u8],
-) {
-    let mut motifs = [0usize; 704];
-    let mut attrs = [0usize; 80];
-    let mut st = [0usize; 16];
-    let b = descent::breach_in(job, code, at, gray, store, &mut motifs, &mut attrs, &mut st);
-    if 63 < b.motif {
-        of_job(job, list, records, code, at);
-        return;
-    }
-    if code == 32 {
-        of_ring(job, &motifs, b, &attrs, &st);
-        return;
-    }
-    let part = b.bytes;
-    let first = part.first;
-    let count = part.count;
-    if store.len() < first {
-        return;
-    }
-    if store.len() - first < count {
-        return;
-    }
-    of_inner(
-        job,
-        list,
-        records,
-        code,
-        &motifs,
-        &store[first..first + count],
-        b,
-        &attrs,
-        &st,
-    );
 }
