@@ -12,7 +12,7 @@ ghost use Rattle.arm.specs.Rows.{Kept};
 ghost use Rattle.both.specs.Runs.{Runs};
 ghost use lib.ListN.{length};
 use arm::seen::Seen;
-use page::limits::capped;
+use counts::capped;
 use page::page::Act;
 use page::page::Page;
 use summary::Ending;

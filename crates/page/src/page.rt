@@ -6,7 +6,7 @@ ghost use Rattle.scope.specs.Arm.{blank as Arm·blank, Page as Arm·Page};
 ghost use Rattle.page.specs.Alone.{Pushed, Popped, pageOr, Leaves};
 ghost use Rattle.page.specs.Holds.{PageHolds};
 ghost use Rattle.page.specs.Views.{bitsOf, pageAs, markAs, effectAs};
-use crate::limits::higher;
+use counts::higher;
 use names::limits::SAVED_MOST;
 use names::operators::CLOSE_SUB_PATH;
 use names::operators::NEW_PATH;
