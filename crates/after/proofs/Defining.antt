@@ -20,7 +20,7 @@ use Rattle.scope.proofs.Ends.{pick-all}
 use Rattle.order.specs.Pictures.{pictureFor}
 use Rattle.reader.specs.Reads.{operatorAs}
 use Rattle.reader.specs.declared.reading.Operator.{Operator}
-use Rattle.patterns.specs.Numbers.{OfPage, OfSession, numbersIn, noted, selectingIn, Others}
+use Rattle.pattern_rows.specs.Numbers.{OfPage, OfSession, numbersIn, noted, selectingIn, Others}
 use Rattle.patterns.proofs.Enough.{page-still, session-still}
 use Rattle.place.specs.Places.{HasPlace, none-place, image-place, hatch-place}
 use Rattle.place.proofs.Hatched.{beside-of, beside-same}

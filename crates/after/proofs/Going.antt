@@ -28,7 +28,7 @@ use Rattle.order.specs.declared.picture.Picture.{Picture}
 use Rattle.order.proofs.Pictures.{picture-is}
 use Rattle.place.specs.Places.{drawn-so, Beside, Hatches, HasPlace, BusyHolds, resting-holds, drawing-holds}
 use Rattle.place.specs.Places.{PlaceHolds, outside-holds, inside-holds}
-use Rattle.patterns.specs.Numbers.{OfPage, OfSession, numbersIn}
+use Rattle.pattern_rows.specs.Numbers.{OfPage, OfSession, numbersIn}
 use Rattle.place.proofs.Hatched.{quiet-beside, selects-beside}
 use Rattle.after.specs.Hatching.{Defines}
 use Rattle.gathering.specs.Afterwards.{Comes, After}

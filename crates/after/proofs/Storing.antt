@@ -12,7 +12,7 @@ use Rattle.scope.specs.Sound.{sound-none}
 use Rattle.motif.specs.Held.{InRow, storeOf}
 use Rattle.motif.specs.Stored.{Stored}
 use Rattle.motif.proofs.Rowed.{none-is, keeps-none}
-use Rattle.patterns.specs.Numbers.{Quiet}
+use Rattle.pattern_rows.specs.Numbers.{Quiet}
 use Rattle.patterns.specs.Selects.{Selects}
 
 -- no motif is held

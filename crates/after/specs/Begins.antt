@@ -23,7 +23,7 @@ use Rattle.order.specs.Pictures.{pictureAs, pictureFor, imageIn}
 use Rattle.order.specs.declared.picture.Picture.{Picture}
 use Rattle.motif.specs.Stored.{full}
 use Rattle.motif.specs.declared.kept.Kept.{Kept}
-use Rattle.patterns.specs.Numbers.{OfPage, OfSession, numbersIn}
+use Rattle.pattern_rows.specs.Numbers.{OfPage, OfSession, numbersIn}
 use Rattle.place.specs.Places.{HasPlace, BusyHolds}
 use Rattle.place.specs.declared.place.Busy.{Busy}
 

@@ -7,7 +7,7 @@ use mathlib.Core.List.{List}
 use lib.ListN.{length}
 use Rattle.scope.specs.Motif.{Picture}
 use Rattle.scope.specs.Session.{definedAfter}
-use Rattle.patterns.specs.Numbers.{OfPage, OfSession, numbersIn}
+use Rattle.pattern_rows.specs.Numbers.{OfPage, OfSession, numbersIn}
 use Rattle.place.specs.Places.{Beside}
 
 -- p₁ has what p has, and what an operator of this tag defines, where this picture is open and there is room

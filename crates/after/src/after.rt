@@ -4,7 +4,7 @@ ghost use mathlib.Core.List.{List};
 ghost use Prim.Native.Nat.{ℕ};
 ghost use lib.ListN.{length, drop};
 ghost use Rattle.setting.specs.Views.{settingAs};
-ghost use Rattle.patterns.specs.Numbers.{OfSession, numbersIn};
+ghost use Rattle.pattern_rows.specs.Numbers.{OfSession, numbersIn};
 ghost use Rattle.place.specs.Places.{Beside};
 ghost use Rattle.gathering.specs.Afterwards.{After};
 ghost use Rattle.after.specs.Begins.{openedAfter, Begins, Draws};
@@ -56,7 +56,7 @@ fn begun(
 {
     let tag = o.tag;
     if tag == BEGIN_PAGE {
-        patterns::clear(patterns, patterns::PAGE);
+        patterns::clear(patterns, pattern_rows::PAGE);
         return Busy::Drawing(page::page::blank(set.gray), Picture::Nothing);
     }
     if tag == BEGIN_STREAM {
@@ -145,7 +145,7 @@ pub fn place_after(
     let page = passed.page;
     match place {
         Place::Outside(_) => {
-            patterns::clear(patterns, patterns::SESSION);
+            patterns::clear(patterns, pattern_rows::SESSION);
             Place::Inside(false, Kept { held: 0, used: 0 }, Busy::Resting)
         }
         Place::Inside(opened, kept, busy) => match busy {

@@ -12,10 +12,10 @@ fn define_hatch(patterns: &mut [u16; 4487], hatch: Hatch)
     ensures { λ _. ⌜ ((i : Image) → Defines (now (patterns .entry)) 0xb5 (hatching (hatchAs hatch) i) (now (patterns .exit))) ⌝ }
 {
     if hatch.session {
-        patterns::define(patterns, patterns::SESSION, hatch.number);
+        patterns::define(patterns, pattern_rows::SESSION, hatch.number);
         return;
     }
-    patterns::define(patterns, patterns::PAGE, hatch.number);
+    patterns::define(patterns, pattern_rows::PAGE, hatch.number);
 }
 
 // EndRastPattern defines the pattern that is open; another operator defines none.

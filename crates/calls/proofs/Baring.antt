@@ -18,7 +18,7 @@ use Rattle.key.specs.Mark.{mark}
 use Rattle.motif.specs.Held.{Keeps, InRow, levelIn}
 use Rattle.motif.specs.Tables.{Noted, levelOf, Settled}
 use Rattle.motif.proofs.Rowed.{held-in, in-below}
-use Rattle.patterns.specs.Numbers.{OfPage, OfSession, numbersIn, selectingIn, Few}
+use Rattle.pattern_rows.specs.Numbers.{OfPage, OfSession, numbersIn, selectingIn, Few}
 use Rattle.patterns.specs.Selects.{selectsIn, wantsFrom, Selects}
 use Rattle.patterns.proofs.Enough.{enough}
 use Rattle.calls.specs.Marks.{Adds, reaches, Shows, wantsMore, selectsOf, bad, unmet}

@@ -11,7 +11,7 @@ use Rattle.scope.specs.Motif.{Motif}
 use Rattle.scope.specs.Calls.{unfolded}
 use Rattle.motif.specs.Held.{Keeps, InRow}
 use Rattle.motif.proofs.Rowed.{in-below}
-use Rattle.patterns.specs.Numbers.{OfPage, OfSession, knownIn, SameRows}
+use Rattle.pattern_rows.specs.Numbers.{OfPage, OfSession, knownIn, SameRows}
 use Rattle.patterns.specs.Selects.{wantsFrom, missingOf, Selects}
 use Rattle.patterns.proofs.Forgets.{quiet-too}
 

@@ -12,7 +12,7 @@ use Rattle.scope.specs.Judge.{someMissing}
 use Rattle.scope.specs.Reach.{Name, any, steps, calledBy}
 use Rattle.key.specs.Mark.{mark}
 use Rattle.motif.specs.Held.{InRow, callsIn, missingIn}
-use Rattle.patterns.specs.Numbers.{OfPage, OfSession, numbersIn}
+use Rattle.pattern_rows.specs.Numbers.{OfPage, OfSession, numbersIn}
 use Rattle.patterns.specs.Selects.{selectsIn}
 
 -- r has the marks of own, and of those of the first n rows of which f is true

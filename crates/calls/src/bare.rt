@@ -7,7 +7,7 @@ ghost use Rattle.scope.specs.Calls.{unfolded};
 ghost use Rattle.scope.specs.Judge.{someMissing};
 ghost use Rattle.motif.specs.Held.{InRow, levelIn};
 ghost use Rattle.motif.specs.Tables.{Tables};
-ghost use Rattle.patterns.specs.Numbers.{OfPage, OfSession, numbersIn, SameRows, Few};
+ghost use Rattle.pattern_rows.specs.Numbers.{OfPage, OfSession, numbersIn, SameRows, Few};
 ghost use Rattle.patterns.specs.Selects.{wantsFrom, Selects};
 ghost use Rattle.calls.specs.Marks.{Adds, wantsMore};
 use crate::why::noted;
@@ -17,10 +17,10 @@ use motif::LEVEL;
 use motif::ROW;
 use motif::in_use;
 use names::limits::NESTING_MOST;
+use pattern_rows::lacks;
+use pattern_rows::selecting;
 use patterns::is_known;
-use patterns::lacks;
 use patterns::learn;
-use patterns::selecting;
 
 // The rows that select a pattern that is not defined.
 fn lacking(patterns: &[u16; 4487], n: usize) -> usize

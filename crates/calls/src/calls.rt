@@ -4,7 +4,7 @@ ghost use Prim.Native.Nat.{_<_};
 ghost use Rattle.scope.specs.Motif.{Motif};
 ghost use Rattle.motif.specs.Held.{InRow};
 ghost use Rattle.motif.specs.Tables.{Tables};
-ghost use Rattle.patterns.specs.Numbers.{OfPage, OfSession, numbersIn, SameRows, Few};
+ghost use Rattle.pattern_rows.specs.Numbers.{OfPage, OfSession, numbersIn, SameRows, Few};
 ghost use Rattle.patterns.specs.Selects.{Selects};
 ghost use Rattle.calls.specs.Judged.{Calls};
 use crate::bare::lacks_any;

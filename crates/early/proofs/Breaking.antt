@@ -20,7 +20,7 @@ use Rattle.reader.specs.Reads.{operatorAs}
 use Rattle.reader.specs.declared.reading.Operator.{Operator}
 use Rattle.order.specs.Pictures.{hatchAs}
 use Rattle.order.specs.declared.picture.Hatch.{Hatch}
-use Rattle.patterns.specs.Numbers.{OfPage, OfSession, OfMotif, numbersIn, collected}
+use Rattle.pattern_rows.specs.Numbers.{OfPage, OfSession, OfMotif, numbersIn, collected}
 use Rattle.patterns.specs.Selects.{selectsIn, wantsFrom}
 use Rattle.motif.specs.Held.{Finds, finds-at, finds-none}
 use Rattle.motif.specs.Stored.{full}

@@ -15,7 +15,7 @@ use Rattle.motif.specs.declared.kept.Kept.{Kept}
 use Rattle.order.specs.declared.picture.Picture.{Picture}
 use Rattle.place.specs.Places.{Hatches, BusyHolds, drawing-holds}
 use Rattle.place.specs.declared.place.Busy.the-variants.{Drawing}
-use Rattle.patterns.specs.Numbers.{OfPage, OfSession, numbersIn, Others}
+use Rattle.pattern_rows.specs.Numbers.{OfPage, OfSession, numbersIn, Others}
 use Rattle.early.specs.Hatched.{Hatched}
 
 -- what is kept of patterns in a page

@@ -15,7 +15,7 @@ use Rattle.scope.specs.Verdict.{every}
 use Rattle.reader.specs.Reads.{operatorAs}
 use Rattle.reader.specs.declared.reading.Operator.{Operator}
 use Rattle.summary.specs.Sums.{SumsAs}
-use Rattle.patterns.specs.Numbers.{OfMotif, numbersIn, collected}
+use Rattle.pattern_rows.specs.Numbers.{OfMotif, numbersIn, collected}
 use Rattle.patterns.specs.Selects.{selectsIn}
 use Rattle.within.specs.Judging.{Makes}
 use Rattle.within.specs.declared.inside.Made.{Made}

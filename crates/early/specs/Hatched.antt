@@ -4,7 +4,7 @@ use mathlib.Core.Path.{_≡_}
 use mathlib.Core.List.{List}
 use Prim.Native.Nat.{ℕ}
 use Rattle.scope.specs.Session.{Session, pagePatterns}
-use Rattle.patterns.specs.Numbers.{OfPage, OfSession, numbersIn, Few}
+use Rattle.pattern_rows.specs.Numbers.{OfPage, OfSession, numbersIn, Few}
 
 -- p has the numbers that are defined for the page and for the session, and no more than there are places for
 pub record Hatched (p : List ℕ) (x : Session) : Type 0 where

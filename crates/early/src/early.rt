@@ -17,7 +17,7 @@ ghost use Rattle.reader.specs.Reads.{operatorAs};
 ghost use Rattle.motif.specs.Held.{Keeps};
 ghost use Rattle.motif.specs.Tables.{Tables};
 ghost use Rattle.motif.specs.Stored.{Stored};
-ghost use Rattle.patterns.specs.Numbers.{OfMotif, selectingIn, Others, OtherRows, SameRows};
+ghost use Rattle.pattern_rows.specs.Numbers.{OfMotif, selectingIn, Others, OtherRows, SameRows};
 ghost use Rattle.patterns.specs.Selects.{Selects};
 ghost use Rattle.place.specs.Places.{BusyHolds, PlaceHolds, Hatches, Drawn};
 ghost use Rattle.early.specs.Earlier.{Earlies, EarliesIn};

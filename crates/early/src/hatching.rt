@@ -6,7 +6,7 @@ ghost use Rattle.items.specs.Rows.{Sized};
 ghost use Rattle.setting.specs.Views.{settingAs};
 ghost use Rattle.scope.specs.Choice.{pick};
 ghost use Rattle.scope.specs.Session.{Session};
-ghost use Rattle.patterns.specs.Numbers.{OfPage, OfSession};
+ghost use Rattle.pattern_rows.specs.Numbers.{OfPage, OfSession};
 ghost use Rattle.early.specs.Earlier.{EarliesIn};
 ghost use Rattle.early.specs.Hatched.{Hatched};
 use crate::early::Early;
@@ -21,9 +21,9 @@ fn row_of(session: bool) -> usize
     ensures { λ r. ⌜ r ≡ pick session OfSession OfPage ⌝ }
 {
     if session {
-        return patterns::SESSION;
+        return pattern_rows::SESSION;
     }
-    patterns::PAGE
+    pattern_rows::PAGE
 }
 
 // BeginRastPattern: 33 for a new number with 32 defined at its persistence.
@@ -39,10 +39,10 @@ pub fn begin_pattern(
 {
     let hatch = order::hatch_of(job, set.high, attrs, o.count);
     let row = row_of(hatch.session);
-    if patterns::count(patterns, row) < PATTERNS_MOST {
+    if pattern_rows::count(patterns, row) < PATTERNS_MOST {
         return Early::Fine;
     }
-    if patterns::has(patterns, row, hatch.number) {
+    if pattern_rows::has(patterns, row, hatch.number) {
         return Early::Fine;
     }
     Early::No(33, OUTER)

@@ -22,7 +22,7 @@ use Rattle.key.specs.Keys.{IsName}
 use Rattle.motif.specs.Held.{Keeps}
 use Rattle.motif.specs.Stored.{Stored, full}
 use Rattle.motif.specs.declared.kept.Kept.{Kept}
-use Rattle.patterns.specs.Numbers.{OfSession, OfMotif, numbersIn, collected}
+use Rattle.pattern_rows.specs.Numbers.{OfSession, OfMotif, numbersIn, collected}
 use Rattle.patterns.specs.Selects.{selectsIn}
 use Rattle.place.specs.Places.{Hatches, BusyHolds, resting-holds, reading-holds, PlaceHolds, inside-holds}
 use Rattle.early.specs.Earlier.{Earlies, early-fine, early-call, early-held}

@@ -16,7 +16,7 @@ use Rattle.motif.specs.Stored.{Stored}
 use Rattle.motif.specs.declared.held.Where.the-variants.{At, Nowhere}
 use Rattle.motif.specs.declared.kept.Kept.{Kept}
 use Rattle.motif.proofs.Rowed.{is-same, none-is, held-row, row-one, in-below}
-use Rattle.patterns.specs.Numbers.{OfMotif, numbersIn, collected, OtherRows, Unknown, Quiet}
+use Rattle.pattern_rows.specs.Numbers.{OfMotif, numbersIn, collected, OtherRows, Unknown, Quiet}
 use Rattle.patterns.specs.Selects.{selectsIn, Selects}
 use Rattle.settling.proofs.Reading.{sound-at}
 use Rattle.gathering.specs.Selected.{OwnKept}

@@ -3,7 +3,7 @@
 use Prim.Native.Nat.{ℕ, suc, _<_}
 use mathlib.Core.Path.{_≡_}
 use mathlib.Core.List.{List}
-use Rattle.patterns.specs.Numbers.{OfMotif, numbersIn, OtherRows, Unknown, Quiet}
+use Rattle.pattern_rows.specs.Numbers.{OfMotif, numbersIn, OtherRows, Unknown, Quiet}
 
 -- the row of the motif of this number has what the motif that was judged selects; every other row is as it was, and of no call it is known that it lacks none
 pub record OwnKept (p : List ℕ) (number : ℕ) (p₁ : List ℕ) : Type 0 where

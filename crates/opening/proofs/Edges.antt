@@ -26,7 +26,7 @@ use Rattle.page.specs.declared.page.Page as Code
 use Rattle.arm.specs.declared.moved.Moved.the-variants.{To}
 use Rattle.motif.specs.Stored.{Stored}
 use Rattle.motif.specs.declared.kept.Kept.{Kept}
-use Rattle.patterns.specs.Numbers.{OfSession, numbersIn}
+use Rattle.pattern_rows.specs.Numbers.{OfSession, numbersIn}
 use Rattle.place.specs.Places.{Hatches, BusyHolds, resting-holds, PlaceHolds, outside-holds, inside-holds}
 use Rattle.place.specs.declared.place.Busy.{Busy}
 use Rattle.place.specs.declared.place.Busy.the-variants.{Resting}

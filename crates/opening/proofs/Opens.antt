@@ -15,7 +15,7 @@ use Rattle.scope.specs.Judge.{caseOf, judgedFrom}
 use Rattle.scope.specs.Verdict.{every}
 use Rattle.buffer.specs.Over.{over}
 use Rattle.buffer.specs.Listed.{recordsFor}
-use Rattle.patterns.specs.Numbers.{OfSession, numbersIn}
+use Rattle.pattern_rows.specs.Numbers.{OfSession, numbersIn}
 use Rattle.state.specs.Standing.{Lent, Stands}
 use Rattle.state.specs.declared.state.State.{State}
 use Rattle.running.specs.Running.{Reaches}

@@ -13,7 +13,7 @@ use Rattle.scope.specs.Session as session
 use Rattle.scope.specs.Judge as scope
 use Rattle.scope.specs.Verdict.{every}
 use Rattle.motif.specs.declared.kept.Kept.{Kept}
-use Rattle.patterns.specs.Numbers.{OfSession, numbersIn}
+use Rattle.pattern_rows.specs.Numbers.{OfSession, numbersIn}
 use Rattle.place.specs.Places.{PlaceHolds}
 use Rattle.place.specs.declared.place.Busy.the-variants.{Resting}
 use Rattle.place.specs.declared.place.Place.{Place}

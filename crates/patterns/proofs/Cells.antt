@@ -3,27 +3,17 @@
 use Prim.Native.Nat.{ℕ, zero, suc, _+_, _*_, _-_, _≤_, _<_, min}
 use mathlib.Core.Logic.{_≢_}
 use mathlib.Core.Path.{_≡_, refl, sym, ap, _∙_}
-use mathlib.Core.Bool.{Bool, true, false, _||_}
+use mathlib.Core.Bool.{Bool, true, false}
 use mathlib.Core.List.{List, [], _∷_}
 use native.Mathlib.Omega.{arith}
 use lib.ListN.{length, getD, set, length-set}
 use lib.Seq.{getD-set-same, getD-set-other}
 use lib.Dec.{leb}
-use borrow.Author.Tests.{le-leb, lt-leb, eq-eqb, ne-eqb}
+use borrow.Author.Tests.{le-leb, lt-leb}
 use Rattle.scope.specs.Choice.{pick, among}
-use Rattle.scope.specs.Judge.{someMissing}
 use Rattle.scope.specs.Session.{defined}
-use Rattle.patterns.specs.Numbers.{numbersTo, numbersIn, noted, selectingIn, Others}
-
--- as many as are asked for
-pub to-length : (t : List ℕ) (p c : ℕ) → length (numbersTo t p c) ≡ c
-unfolding numbersTo
-to-length t p zero = refl
-to-length t p (suc c) = ap suc (to-length t p c)
-
-pub in-length : (t : List ℕ) (row : ℕ) → length (numbersIn t row) ≡ min (getD t (row * 66) 0) 65
-unfolding numbersIn
-in-length t row = to-length t (row * 66) (min (getD t (row * 66) 0) 65)
+use Rattle.pattern_rows.specs.Numbers.{numbersTo, numbersIn, noted, selectingIn, Others}
+use Rattle.pattern_rows.proofs.Cells.{in-length, among-here, among-next}
 
 -- the same cells say the same numbers, also where they stand in two lists
 pub to-same : (s t : List ℕ) (p q c : ℕ) → ((k : ℕ) → k < c → getD s (p + suc k) 0 ≡ getD t (q + suc k) 0) → numbersTo s p c ≡ numbersTo t q c
@@ -165,50 +155,9 @@ own-more t c n t₁ t₂ p q h l e f = let z : 0 + c ≡ c = omega arith in more
 pub own-long : (t : List ℕ) (c n : ℕ) (t₁ t₂ : List ℕ) → t₁ ≡ set t (c + 1) n → t₂ ≡ set t₁ 0 (c + 1) → length t₂ ≡ length t
 own-long t c n t₁ t₂ p q = ap length q ∙ length-set t₁ 0 (c + 1) ∙ ap length p ∙ length-set t (c + 1) n
 
--- the numbers of a row are so many behind its first cell
-pub in-to : (t : List ℕ) (row c : ℕ) → c ≡ length (numbersIn t row) → numbersIn t row ≡ numbersTo t (row * 66) c
-unfolding numbersIn
-in-to t row c e = ap (numbersTo t (row * 66)) (sym (e ∙ in-length t row))
-
-suc-pred : (i : ℕ) → suc i - 1 ≡ i
-suc-pred i = omega arith
-
--- the last one is the number, or it is among those before
-pub among-here : (t : List ℕ) (p i n : ℕ) → 0 < i → getD t (p + i) 0 ≡ n → among (numbersTo t p i) n ≡ true
-unfolding numbersTo among
-among-here t p zero n h e = absurd (omega arith)
-among-here t p (suc i) n h e = rw (eq-eqb n (getD t (p + suc i) 0) (sym e))
-
-pub among-next : (t : List ℕ) (p i n : ℕ) → 0 < i → (getD t (p + i) 0 ≡ n → ⊥) → among (numbersTo t p i) n ≡ among (numbersTo t p (i - 1)) n
-unfolding numbersTo among
-among-next t p zero n h e = absurd (omega arith)
-among-next t p (suc i) n h e = rw (suc-pred i, ne-eqb n (getD t (p + suc i) 0) (λ y. e (sym y)))
-
 -- the same of a list that is one row
 pub own-here : (t : List ℕ) (i n : ℕ) → 0 < i → getD t i 0 ≡ n → among (numbersTo t 0 i) n ≡ true
 own-here t i n h e = let z : 0 + i ≡ i = omega arith in among-here t 0 i n h (rw z e)
 
 pub own-next : (t : List ℕ) (i n : ℕ) → 0 < i → (getD t i 0 ≡ n → ⊥) → among (numbersTo t 0 i) n ≡ among (numbersTo t 0 (i - 1)) n
 own-next t i n h e = let z : 0 + i ≡ i = omega arith in among-next t 0 i n h (rw z e)
-
-pub among-none : (t : List ℕ) (p i n : ℕ) → i ≡ 0 → among (numbersTo t p i) n ≡ false
-unfolding numbersTo among
-among-none t p i n e = rw e
-
--- the last one is not defined, or one of those before
-module _ (ofPage ofSession t : List ℕ) (p : ℕ) where
-  pub missing-here : (i : ℕ) → 0 < i → (among ofPage (getD t (p + i) 0) || among ofSession (getD t (p + i) 0)) ≡ false
-      → someMissing ofPage ofSession (numbersTo t p i) ≡ true
-  unfolding numbersTo someMissing
-  missing-here zero h e = absurd (omega arith)
-  missing-here (suc i) h e = rw e
-
-  pub missing-next : (i : ℕ) → 0 < i → (among ofPage (getD t (p + i) 0) || among ofSession (getD t (p + i) 0)) ≡ true
-      → someMissing ofPage ofSession (numbersTo t p i) ≡ someMissing ofPage ofSession (numbersTo t p (i - 1))
-  unfolding numbersTo someMissing
-  missing-next zero h e = absurd (omega arith)
-  missing-next (suc i) h e = rw (suc-pred i, e)
-
-  pub missing-none : (i : ℕ) → i ≡ 0 → someMissing ofPage ofSession (numbersTo t p i) ≡ false
-  unfolding numbersTo someMissing
-  missing-none i e = rw e

@@ -10,7 +10,7 @@ use lib.ListN.{length, getD, set, length-set}
 use lib.Seq.{getD-set-same, getD-set-other}
 use lib.Dec.{leb, eqb}
 use borrow.Author.Tests.{eqb-true, eqb-false, leb-true, leb-false}
-use Rattle.patterns.specs.Numbers.{numbersIn, selectingIn, Others, OtherRows, Quiet, OfMotif}
+use Rattle.pattern_rows.specs.Numbers.{numbersIn, selectingIn, Others, OtherRows, Quiet, OfMotif}
 use Rattle.patterns.proofs.Cells.{in-same, set-rows}
 
 -- i cells from q of s on stand from p on, where others stood before; all else is as it was

@@ -12,7 +12,7 @@ use Rattle.scope.specs.Choice.{pick, among}
 use Rattle.scope.specs.Session.{defined}
 use Rattle.scope.specs.Judge.{someMissing}
 use Rattle.scope.proofs.Apart.{clash-of}
-use Rattle.patterns.specs.Numbers.{noted, collected}
+use Rattle.pattern_rows.specs.Numbers.{noted, collected}
 
 -- no number stands twice
 data Apart : List ℕ → Type 0 where

@@ -10,7 +10,7 @@ use lib.ListN.{length, set, length-set}
 use lib.Seq.{getD-set-same, getD-set-other}
 use lib.Dec.{eqb}
 use borrow.Author.Tests.{eqb-true, eqb-false}
-use Rattle.patterns.specs.Numbers.{knownIn, OtherRows, SameRows, Quiet}
+use Rattle.pattern_rows.specs.Numbers.{knownIn, OtherRows, SameRows, Quiet}
 use Rattle.patterns.proofs.Cells.{in-same}
 
 -- what is not touched is the same

@@ -9,7 +9,7 @@ use Rattle.scope.specs.Motif.{Own, does, calls, Motif}
 use Rattle.scope.specs.Calls.{unfolded}
 use Rattle.scope.specs.Judge.{someMissing}
 use Rattle.motif.specs.Held.{InRow}
-use Rattle.patterns.specs.Numbers.{OfPage, OfSession, numbersIn, knownIn, collected, Quiet}
+use Rattle.pattern_rows.specs.Numbers.{OfPage, OfSession, numbersIn, knownIn, collected, Quiet}
 
 -- the numbers that the operators of a motif select themselves, the last one first, before these
 unfoldable pub selectsFrom : List Own → List ℕ → List ℕ

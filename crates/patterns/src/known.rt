@@ -3,7 +3,7 @@ ghost use mathlib.Core.Path.{_≡_};
 ghost use mathlib.Core.Bool.{true};
 ghost use mathlib.Core.List.{[]};
 ghost use Prim.Native.Nat.{ℕ, _≤_, _<_};
-ghost use Rattle.patterns.specs.Numbers.{numbersIn, selectingIn, knownIn, OtherRows, SameRows, Unknown};
+ghost use Rattle.pattern_rows.specs.Numbers.{numbersIn, selectingIn, knownIn, OtherRows, SameRows, Unknown};
 use crate::lists::empty;
 use crate::lists::put;
 use names::limits::MOTIFS_MOST;

@@ -3,13 +3,13 @@ ghost use mathlib.Core.Path.{_≡_};
 ghost use Prim.Native.Nat.{_<_};
 ghost use lib.ListN.{length};
 ghost use Rattle.scope.specs.Choice.{among};
-ghost use Rattle.patterns.specs.Numbers.{OfMotif, numbersIn, noted, OtherRows, Unknown, Quiet};
+ghost use Rattle.pattern_rows.specs.Numbers.{OfMotif, numbersIn, noted, OtherRows, Unknown, Quiet};
 use crate::known::forget;
-use crate::lists::NUMBERS_MOST;
 use crate::lists::copy_own;
-use crate::lists::count_of;
 use crate::lists::put;
 use names::limits::MOTIFS_MOST;
+use pattern_rows::NUMBERS_MOST;
+use pattern_rows::count_of;
 
 // How many there are.
 fn count(own: &[u16; 66]) -> usize

@@ -13,7 +13,7 @@ use Rattle.motif.specs.Held.{InRow}
 use Rattle.motif.specs.Stored.{Stored}
 use Rattle.motif.specs.declared.kept.Kept.{Kept}
 use Rattle.motif.proofs.Rowed.{in-below}
-use Rattle.patterns.specs.Numbers.{OfMotif, OfPage, OfSession, numbersIn, selectingIn, Others, OtherRows, Unknown, Quiet}
+use Rattle.pattern_rows.specs.Numbers.{OfMotif, OfPage, OfSession, numbersIn, selectingIn, Others, OtherRows, Unknown, Quiet}
 use Rattle.patterns.specs.Selects.{missingOf, Selects}
 use Rattle.place.specs.Places.{Beside, Hatches, BusyHolds, resting-holds, reading-holds, drawing-holds, PlaceHolds, inside-holds}
 use Rattle.place.specs.declared.place.Busy.{Busy}

@@ -3,7 +3,7 @@
 use Prim.Native.Nat.{ℕ, zero, suc, _*_}
 use mathlib.Core.Path.{_≡_, refl}
 use lib.ListN.{getD, replicate}
-use Rattle.patterns.specs.Numbers.{numbersTo, numbersIn, Quiet}
+use Rattle.pattern_rows.specs.Numbers.{numbersTo, numbersIn, Quiet}
 
 zeros : (n i : ℕ) → _≡_ {A = ℕ} (getD (replicate n 0) i 0) 0
 zeros zero i = refl

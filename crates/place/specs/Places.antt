@@ -17,7 +17,7 @@ use Rattle.key.specs.Keys.{IsName}
 use Rattle.motif.specs.Stored.{Stored, full}
 use Rattle.motif.specs.declared.kept.Kept.{Kept}
 use Rattle.order.specs.Pictures.{pictureAs}
-use Rattle.patterns.specs.Numbers.{OfPage, OfSession, numbersIn, selectingIn, knownIn, Quiet}
+use Rattle.pattern_rows.specs.Numbers.{OfPage, OfSession, numbersIn, selectingIn, knownIn, Quiet}
 use Rattle.patterns.specs.Selects.{missingOf, Selects}
 use Rattle.order.specs.declared.picture.Picture.{Picture}
 use Rattle.place.specs.declared.place.Busy.{Busy}

@@ -20,7 +20,7 @@ use Rattle.scope.specs.Session as scope
 use Rattle.scope.specs.Session.{Session, phaseBusy, phaseOf, pagePatterns, sessionOf}
 use Rattle.scope.specs.Judge.{State, caseOf, someMissing, patternMissing}
 use Rattle.motif.specs.declared.kept.Kept.{Kept}
-use Rattle.patterns.specs.Numbers.{OfPage, OfSession, numbersIn}
+use Rattle.pattern_rows.specs.Numbers.{OfPage, OfSession, numbersIn}
 use Rattle.place.specs.Places.{BusyHolds, drawing-holds, PlaceHolds, inside-holds}
 use Rattle.place.specs.declared.place.Busy.{Busy}
 use Rattle.place.specs.declared.place.Place.{Place}

@@ -14,7 +14,7 @@ ghost use Rattle.scope.specs.Order.{mayCome};
 ghost use Rattle.scope.specs.Session.{phaseOf, sessionOf};
 ghost use Rattle.scope.specs.Judge.{State, Case, caseOf, someMissing, outer};
 ghost use Rattle.page.specs.Views.{selectAs};
-ghost use Rattle.patterns.specs.Numbers.{OfPage, OfSession, numbersIn};
+ghost use Rattle.pattern_rows.specs.Numbers.{OfPage, OfSession, numbersIn};
 ghost use Rattle.reader.specs.Reads.{operatorAs};
 ghost use Rattle.place.specs.Places.{PlaceHolds};
 ghost use Rattle.early.specs.Earlier.{Earlies, Unbroken};
@@ -46,7 +46,7 @@ fn bare_of(patterns: &[u16; 4487], select: Select) -> bool
 {
     match select {
         Select::Nothing => false,
-        Select::Pattern(n) => !patterns::is_defined(patterns, n),
+        Select::Pattern(n) => !pattern_rows::is_defined(patterns, n),
     }
 }
 

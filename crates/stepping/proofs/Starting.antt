@@ -7,7 +7,7 @@ use mathlib.Core.List.{List, []}
 use Rattle.scope.specs.Setting.{Setting}
 use Rattle.scope.specs.Judge.{starting}
 use Rattle.scope.specs.Verdict.{zeros}
-use Rattle.patterns.specs.Numbers.{OfSession, numbersTo, numbersIn}
+use Rattle.pattern_rows.specs.Numbers.{OfSession, numbersTo, numbersIn}
 use Rattle.place.specs.Places.{outside-holds}
 use Rattle.place.proofs.Starting.{quiet-zeros}
 use Rattle.place.specs.declared.place.Place.the-variants.{Outside}

@@ -10,7 +10,7 @@ use Rattle.scope.specs.Motif as scope
 use Rattle.scope.specs.Motif.{Own, Motif, motifStep, judgedInside}
 use Rattle.scope.proofs.Falls.{motif-step}
 use Rattle.order.specs.Pictures.{pictureAs}
-use Rattle.patterns.specs.Numbers.{numbersIn, collected}
+use Rattle.pattern_rows.specs.Numbers.{numbersIn, collected}
 use Rattle.within.specs.Judging.{Follows, Judges, Turns, turns-go, turns-stop, Notes, NotesOn}
 use Rattle.within.specs.declared.inside.Inside.{Inside}
 use Rattle.within.specs.declared.inside.Judged.{Judged}

@@ -9,7 +9,7 @@ ghost use Rattle.setting.specs.Views.{classAs, settingAs};
 ghost use Rattle.scope.specs.Motif as scope;
 ghost use Rattle.scope.specs.Motif.{Own, Motif, judgedInside, motifOf};
 ghost use Rattle.motif.specs.Held.{Keeps};
-ghost use Rattle.patterns.specs.Numbers.{numbersIn, collected};
+ghost use Rattle.pattern_rows.specs.Numbers.{numbersIn, collected};
 ghost use Rattle.patterns.specs.Selects.{selectsIn};
 ghost use Rattle.within.specs.Judging.{Follows, Judges, Notes};
 ghost use Rattle.stream.specs.Lines.{Comes};

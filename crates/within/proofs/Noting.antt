@@ -10,7 +10,7 @@ use Rattle.scope.specs.Attributes.{bytesIn}
 use Rattle.scope.specs.Reading.{Operator}
 use Rattle.scope.specs.Arm.{Act, Select, no-pattern, pattern, wanted, actOf}
 use Rattle.scope.specs.Motif.{Own, does, calls, ownBy}
-use Rattle.patterns.specs.Numbers.{numbersIn, collected}
+use Rattle.pattern_rows.specs.Numbers.{numbersIn, collected}
 use Rattle.patterns.specs.Selects.{selectsFrom, selectsIn}
 use Rattle.within.specs.Judging.{notedBy, Notes}
 

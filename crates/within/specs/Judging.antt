@@ -17,7 +17,7 @@ use Rattle.summary.specs.Balance.{OwnLevel}
 use Rattle.key.specs.Mark.{mark}
 use Rattle.motif.specs.Tables.{callsRow, lacksOne, SumsUp}
 use Rattle.order.specs.Pictures.{pictureAs}
-use Rattle.patterns.specs.Numbers.{numbersIn, noted, collected}
+use Rattle.pattern_rows.specs.Numbers.{numbersIn, noted, collected}
 use Rattle.patterns.specs.Selects.{selectsIn}
 use Rattle.within.specs.declared.inside.Inside.{Inside}
 use Rattle.within.specs.declared.inside.Made.{Made}

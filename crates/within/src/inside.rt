@@ -17,7 +17,7 @@ ghost use Rattle.reader.specs.Reads.{operatorAs};
 ghost use Rattle.motif.specs.Held.{Keeps};
 ghost use Rattle.order.specs.Pictures.{pictureAs, imageIn};
 ghost use Rattle.page.specs.Views.{selectAs};
-ghost use Rattle.patterns.specs.Numbers.{numbersIn};
+ghost use Rattle.pattern_rows.specs.Numbers.{numbersIn};
 ghost use Rattle.within.specs.Judging.{Follows, Turns, Judges, Ahead, Called, afterIn, notedBy, Notes, NotesOn};
 use act::act_of;
 use both::both::Both;

@@ -11,7 +11,7 @@ use Rattle.scope.specs.Motif.{Motif}
 use Rattle.scope.specs.Reach.{calledBy}
 use Rattle.motif.specs.Tables.{Tables}
 use Rattle.motif.proofs.Rowed.{in-below}
-use Rattle.patterns.specs.Numbers.{OfPage, OfSession, numbersIn, Few}
+use Rattle.pattern_rows.specs.Numbers.{OfPage, OfSession, numbersIn, Few}
 use Rattle.patterns.specs.Selects.{Selects}
 use Rattle.calls.specs.Marks.{Shows, unmet}
 use Rattle.calls.proofs.Refusing.{used}

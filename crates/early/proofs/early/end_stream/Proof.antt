@@ -4,7 +4,7 @@ use Prim.Native.Nat.{_+_, _-_}
 use mathlib.Core.Path.{_≡_, refl, _∙_}
 use native.Mathlib.Omega.{arith}
 use Rattle.setting.specs.Views.{settingAs}
-use Rattle.patterns.specs.Numbers.{OfMotif, numbersIn, numbersTo}
+use Rattle.pattern_rows.specs.Numbers.{OfMotif, numbersIn, numbersTo}
 use Rattle.early.proofs.Parts.{part-same, part-short}
 use Rattle.early.proofs.Places.{unchanged}
 use Rattle.early.proofs.Breaking.{end-valid, end-faulty}

@@ -1,7 +1,7 @@
 -- `early::inside_early` meets its contract: case by case of what the session is at.
 -- Assumes nothing.
 use mathlib.Core.Path.{refl}
-use Rattle.patterns.specs.Numbers.{OfMotif}
+use Rattle.pattern_rows.specs.Numbers.{OfMotif}
 use Rattle.patterns.proofs.Copies.{rows-others}
 use Rattle.patterns.proofs.Forgets.{same-self, rows-same}
 use Rattle.early.proofs.Places.{drawn-hatched}

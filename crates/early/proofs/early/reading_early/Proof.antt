@@ -1,7 +1,7 @@
 -- `early::reading_early` meets its contract: ReadStream, else EndStream.
 -- Assumes nothing.
 use mathlib.Core.Path.{refl}
-use Rattle.patterns.specs.Numbers.{OfMotif}
+use Rattle.pattern_rows.specs.Numbers.{OfMotif}
 use Rattle.early.proofs.Places.{unchanged}
 use Rattle.setting.specs.Views.{settingAs}
 use Rattle.early.proofs.Tags.{stream-ends}

@@ -4,7 +4,7 @@ use mathlib.Core.Path.{sym, _∙_}
 use Prim.Native.Nat.{_≤_, _<_}
 use lib.ListN.{length}
 use Rattle.setting.specs.Views.{settingAs}
-use Rattle.patterns.specs.Numbers.{numbersIn}
+use Rattle.pattern_rows.specs.Numbers.{numbersIn}
 use Rattle.early.proofs.Places.{row-numbers}
 use Rattle.early.proofs.Breaking.{pattern-few, pattern-again, pattern-new}
 use borrow.Author.Needs.{needs}

@@ -6,7 +6,7 @@ use mathlib.Core.Bool.{false}
 use lib.ListN.{length}
 use native.Mathlib.Omega.{arith}
 use Rattle.scope.specs.Choice.{among}
-use Rattle.patterns.specs.Numbers.{numbersIn}
+use Rattle.pattern_rows.specs.Numbers.{numbersIn}
 use Rattle.patterns.proofs.Cells.{noted-there, noted-full, others-none, more-noted, more-others, more-selecting}
 use borrow.Author.Needs.{needs}
 use Rattle.patterns.proofs.lists.define.Statement.{statement}

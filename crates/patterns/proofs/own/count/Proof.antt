@@ -3,7 +3,7 @@
 use Prim.Native.Nat.{_<_}
 use mathlib.Core.Path.{sym, _∙_}
 use native.Mathlib.Omega.{arith}
-use Rattle.patterns.proofs.Cells.{in-length}
+use Rattle.pattern_rows.proofs.Cells.{in-length}
 use borrow.Author.Needs.{needs}
 use Rattle.patterns.proofs.own.count.Statement.{statement}
 use Rattle.patterns.proofs.own.count.Tie as tie

@@ -4,8 +4,9 @@ use Prim.Native.Nat.{_<_}
 use mathlib.Core.Path.{_≡_, sym, ap, _∙_}
 use native.Mathlib.Omega.{arith}
 use Rattle.scope.specs.Choice.{among}
-use Rattle.patterns.specs.Numbers.{numbersTo, numbersIn}
-use Rattle.patterns.proofs.Cells.{in-to, own-here, own-next, among-none}
+use Rattle.pattern_rows.specs.Numbers.{numbersTo, numbersIn}
+use Rattle.pattern_rows.proofs.Cells.{in-to, among-none}
+use Rattle.patterns.proofs.Cells.{own-here, own-next}
 use borrow.Author.Needs.{needs}
 use Rattle.patterns.proofs.own.has.Statement.{statement}
 use Rattle.patterns.proofs.own.has.Tie as tie

@@ -9,7 +9,7 @@ use Rattle.reader.specs.Reads.{operatorAs}
 use Rattle.order.specs.Pictures.{imageIn, pictureFor}
 use Rattle.act.proofs.Operators.{act-is}
 use Rattle.order.proofs.Pictures.{picture-is}
-use Rattle.patterns.specs.Numbers.{numbersIn}
+use Rattle.pattern_rows.specs.Numbers.{numbersIn}
 use Rattle.within.specs.Judging.{notedBy}
 use Rattle.within.proofs.Turning.{deed-on}
 use Rattle.within.proofs.Noting.{deed-notes}

@@ -4,11 +4,11 @@ use Prim.Native.Nat.{_*_, _<_}
 use mathlib.Core.Path.{_≡_, sym, ap, _∙_}
 use native.Mathlib.Omega.{arith}
 use Rattle.scope.specs.Choice.{among}
-use Rattle.patterns.specs.Numbers.{numbersTo, numbersIn}
-use Rattle.patterns.proofs.Cells.{in-to, among-here, among-next, among-none}
+use Rattle.pattern_rows.specs.Numbers.{numbersTo, numbersIn}
+use Rattle.pattern_rows.proofs.Cells.{in-to, among-here, among-next, among-none}
 use borrow.Author.Needs.{needs}
-use Rattle.patterns.proofs.lists.has.Statement.{statement}
-use Rattle.patterns.proofs.lists.has.Tie as tie
+use Rattle.pattern_rows.proofs.rows.has.Statement.{statement}
+use Rattle.pattern_rows.proofs.rows.has.Tie as tie
 
 abbrev Inv-loop : tie.InvT-loop
 Inv-loop patterns row n i₀ i = (i < 66) × (among (numbersIn patterns row) n ≡ among (numbersTo patterns (row * 66) i) n)

@@ -3,10 +3,10 @@
 use mathlib.Core.Path.{_≡_, sym, _∙_}
 use mathlib.Core.Bool.{true, false}
 use Rattle.scope.specs.Choice.{among}
-use Rattle.patterns.specs.Numbers.{OfPage, numbersIn}
+use Rattle.pattern_rows.specs.Numbers.{OfPage, numbersIn}
 use borrow.Author.Needs.{needs}
-use Rattle.patterns.proofs.lists.is_defined.Statement.{statement}
-use Rattle.patterns.proofs.lists.is_defined.Tie as tie
+use Rattle.pattern_rows.proofs.rows.is_defined.Statement.{statement}
+use Rattle.pattern_rows.proofs.rows.is_defined.Tie as tie
 
 has-requires : tie.Need-has-requires
 has-requires c κs = search needs

@@ -2,8 +2,8 @@
 -- Assumes nothing.
 use borrow.Author.Tests.{not-false, eqb-true}
 use borrow.Author.Needs.{needs}
-use Rattle.patterns.proofs.lists.selecting.Statement.{statement}
-use Rattle.patterns.proofs.lists.selecting.Tie as tie
+use Rattle.pattern_rows.proofs.rows.selecting.Statement.{statement}
+use Rattle.pattern_rows.proofs.rows.selecting.Tie as tie
 
 element-copy-out-result : tie.Need-element-copy-out-result
 element-copy-out-result c = search needs

@@ -5,11 +5,11 @@ use mathlib.Core.Path.{_≡_, sym, ap, _∙_}
 use native.Mathlib.Omega.{arith}
 use borrow.Author.Tests.{not-true, not-false}
 use Rattle.scope.specs.Judge.{someMissing}
-use Rattle.patterns.specs.Numbers.{OfPage, OfSession, numbersTo, numbersIn}
-use Rattle.patterns.proofs.Cells.{in-to, missing-here, missing-next, missing-none}
+use Rattle.pattern_rows.specs.Numbers.{OfPage, OfSession, numbersTo, numbersIn}
+use Rattle.pattern_rows.proofs.Cells.{in-to, missing-here, missing-next, missing-none}
 use borrow.Author.Needs.{needs}
-use Rattle.patterns.proofs.lists.lacks.Statement.{statement}
-use Rattle.patterns.proofs.lists.lacks.Tie as tie
+use Rattle.pattern_rows.proofs.rows.lacks.Statement.{statement}
+use Rattle.pattern_rows.proofs.rows.lacks.Tie as tie
 
 abbrev Inv-loop : tie.InvT-loop
 Inv-loop patterns row i₀ i =

@@ -3,10 +3,10 @@
 use Prim.Native.Nat.{_<_}
 use mathlib.Core.Path.{sym, _∙_}
 use native.Mathlib.Omega.{arith}
-use Rattle.patterns.proofs.Cells.{in-length}
+use Rattle.pattern_rows.proofs.Cells.{in-length}
 use borrow.Author.Needs.{needs}
-use Rattle.patterns.proofs.lists.count.Statement.{statement}
-use Rattle.patterns.proofs.lists.count.Tie as tie
+use Rattle.pattern_rows.proofs.rows.count.Statement.{statement}
+use Rattle.pattern_rows.proofs.rows.count.Tie as tie
 
 mul-count-of : tie.Need-mul-count-of
 mul-count-of c = search needs
