@@ -12,7 +12,7 @@ use Rattle.scope.specs.Verdict.{every, zeros}
 use Rattle.state.specs.Standing.{Lent}
 use Rattle.running.specs.Running.{Reaches}
 use Rattle.ruling.proofs.Turns.{turned-stop}
-use Rattle.stepping.proofs.Ending.{steps-end}
+use Rattle.advancing.proofs.Ending.{steps-end}
 use Rattle.stepping.proofs.Starting.{stands-first, none-first}
 use borrow.Author.Needs.{needs}
 use Rattle.stepping.proofs.stepping.items_from.Statement.{statement}

@@ -17,10 +17,10 @@ use Rattle.reader.specs.Reads.{readAs}
 use Rattle.reader.specs.declared.reading.Read.{Read as CodeRead}
 use Rattle.state.specs.Standing.{Stands, Lent, endCode}
 use Rattle.ruling.proofs.Turns.{stopped, context-is, step-no, step-ended, steps-read}
-use Rattle.stepping.proofs.Ending.{steps-end}
+use Rattle.advancing.proofs.Ending.{steps-end}
 use borrow.Author.Needs.{needs}
-use Rattle.stepping.proofs.stepping.advance.Statement.{statement}
-use Rattle.stepping.proofs.stepping.advance.Tie as tie
+use Rattle.advancing.proofs.advancing.advance.Statement.{statement}
+use Rattle.advancing.proofs.advancing.advance.Tie as tie
 
 -- where the reading of an operator started
 abbrev begun : tie.After-operator-at → tie.Start
