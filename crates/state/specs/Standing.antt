@@ -61,8 +61,8 @@ StepsOn set job before after st asks r next =
     → Steps set job list₀ after r (next (length list₀) d)
 
 -- the verdict and the list of a job that is judged to its end from there
-abbrev pub Ends : (set : Setting) (job list₀ : List ℕ) → scope.State → Verdict → (list : List ℕ) → Type 0
-Ends set job list₀ d r list =
+abbrev pub JudgedTo : (set : Setting) (job list₀ : List ℕ) → scope.State → Verdict → (list : List ℕ) → Type 0
+JudgedTo set job list₀ d r list =
     (verdictAs r ≡ verdict.told (scope.judgedFrom verdict.every set job (length list₀) d))
     × Listed list₀ (scope.judgedFrom verdict.every set job (length list₀) d .state .past) list
 

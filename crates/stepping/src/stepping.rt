@@ -6,7 +6,7 @@ ghost use lib.ListN.{length};
 ghost use Rattle.setting.specs.Views.{settingAs};
 ghost use Rattle.scope.specs.Judge as scope;
 ghost use Rattle.scope.specs.Verdict as verdict;
-ghost use Rattle.state.specs.Standing.{lent, Stands, Ends, Lasts};
+ghost use Rattle.state.specs.Standing.{lent, Stands, JudgedTo, Lasts};
 use advancing::advance;
 use names::limits::JOB_MOST;
 use names::limits::WORK_LEAST;
@@ -29,7 +29,7 @@ fn with_tables(job: &[u8], set: Setting, work: &mut [u8], list: &mut [u8], from:
     ensures { λ _. ⌜ Lasts (now (work .entry)) (now (list .entry)) (now (work .exit)) (now (list .exit)) ⌝ }
     ensures { λ r. ⌜ ((d : scope.State) (list₀ : List ℕ) → length list₀ ≡ length (now (list .entry))
         → Stands (settingAs set) (now (job .entry)) list₀ (lent (verdict.zeros 704) (verdict.zeros 4487) (now (work .entry)) (now (list .entry))) from d
-        → Ends (settingAs set) (now (job .entry)) list₀ d r (now (list .exit))) ⌝ }
+        → JudgedTo (settingAs set) (now (job .entry)) list₀ d r (now (list .exit))) ⌝ }
 {
     let mut motifs = [0usize; 704];
     let mut patterns = [0u16; 4487];
@@ -61,7 +61,7 @@ fn with_tables(job: &[u8], set: Setting, work: &mut [u8], list: &mut [u8], from:
 fn items_from(job: &[u8], set: Setting, next: usize, work: &mut [u8], list: &mut [u8]) -> Verdict
     requires { ⌜ (length (now job) ≤ 61440) × (16384 ≤ length (now work)) × (next ≤ length (now job)) ⌝ }
     ensures { λ _. ⌜ Lasts (now (work .entry)) (now (list .entry)) (now (work .exit)) (now (list .exit)) ⌝ }
-    ensures { λ r. ⌜ Ends (settingAs set) (now (job .entry)) (now (list .entry)) (scope.starting next) r (now (list .exit)) ⌝ }
+    ensures { λ r. ⌜ JudgedTo (settingAs set) (now (job .entry)) (now (list .entry)) (scope.starting next) r (now (list .exit)) ⌝ }
 {
     let st = open_on(
         job,
@@ -91,7 +91,7 @@ pub fn judge_items(
 ) -> Verdict
     ensures { λ _. ⌜ Lasts (now (work .entry)) (now (list .entry)) (now (work .exit)) (now (list .exit)) ⌝ }
     ensures { λ r. ⌜ (length (now (job .entry)) ≤ 61440 → 16384 ≤ length (now (work .entry)) → next ≤ length (now (job .entry))
-        → Ends (settingAs set) (now (job .entry)) (now (list .entry)) (scope.starting next) r (now (list .exit))) ⌝ }
+        → JudgedTo (settingAs set) (now (job .entry)) (now (list .entry)) (scope.starting next) r (now (list .exit))) ⌝ }
 {
     if JOB_MOST < job.len() {
         return told(1, JOB_MOST, OUTER, 0, 0);
