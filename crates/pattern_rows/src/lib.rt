@@ -8,7 +8,6 @@ pub use rows::ROW;
 pub use rows::SELECTING;
 pub use rows::SESSION;
 pub use rows::count;
-pub use rows::count_of;
 pub use rows::has;
 pub use rows::is_defined;
 pub use rows::lacks;

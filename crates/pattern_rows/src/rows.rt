@@ -1,7 +1,7 @@
 // Lists of numbers, in rows of 66: how many there are, and then the numbers.
 ghost use mathlib.Core.Path.{_≡_};
 ghost use mathlib.Core.Bool.{false, _||_};
-ghost use Prim.Native.Nat.{_<_, min};
+ghost use Prim.Native.Nat.{_+_, _*_, _≤_, _<_, min};
 ghost use lib.ListN.{length};
 ghost use Rattle.scope.specs.Choice.{among};
 ghost use Rattle.scope.specs.Judge.{someMissing};
@@ -23,7 +23,7 @@ pub const OWN: usize = 66;
 pub const SELECTING: usize = 4_422;
 
 // How many numbers a row has whose first cell is this one.
-pub fn count_of(cell: u16) -> usize
+fn count_of(cell: u16) -> usize
     ensures { λ r. ⌜ r ≡ min cell 65 ⌝ }
 {
     let count = cell as usize;
@@ -34,8 +34,8 @@ pub fn count_of(cell: u16) -> usize
 }
 
 // How many numbers a row has.
-pub fn count(patterns: &[u16; 4487], row: usize) -> usize
-    requires { ⌜ row < 67 ⌝ }
+pub fn count(patterns: &[u16], row: usize) -> usize
+    requires { ⌜ (row < 67) × (row * 66 + 66 ≤ length (now patterns)) ⌝ }
     ensures { λ r. ⌜ r ≡ length (numbersIn (now (patterns .entry)) row) ⌝ }
     ensures { λ r. ⌜ r < 66 ⌝ }
 {
@@ -43,8 +43,8 @@ pub fn count(patterns: &[u16; 4487], row: usize) -> usize
 }
 
 // A number is in a row.
-pub fn has(patterns: &[u16; 4487], row: usize, n: u16) -> bool
-    requires { ⌜ row < 67 ⌝ }
+pub fn has(patterns: &[u16], row: usize, n: u16) -> bool
+    requires { ⌜ (row < 67) × (row * 66 + 66 ≤ length (now patterns)) ⌝ }
     ensures { λ r. ⌜ r ≡ among (numbersIn (now (patterns .entry)) row) n ⌝ }
 {
     let mut i = count(patterns, row);

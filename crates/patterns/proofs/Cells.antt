@@ -13,7 +13,7 @@ use borrow.Author.Tests.{le-leb, lt-leb}
 use Rattle.scope.specs.Choice.{pick, among}
 use Rattle.scope.specs.Session.{defined}
 use Rattle.pattern_rows.specs.Numbers.{numbersTo, numbersIn, noted, selectingIn, Others}
-use Rattle.pattern_rows.proofs.Cells.{in-length, among-here, among-next}
+use Rattle.pattern_rows.proofs.Cells.{in-length}
 
 -- the same cells say the same numbers, also where they stand in two lists
 pub to-same : (s t : List ℕ) (p q c : ℕ) → ((k : ℕ) → k < c → getD s (p + suc k) 0 ≡ getD t (q + suc k) 0) → numbersTo s p c ≡ numbersTo t q c
@@ -146,18 +146,3 @@ module _ (t : List ℕ) (row c n : ℕ) (t₁ t₂ : List ℕ) (p : t₁ ≡ set
       let m : c + 1 < 66 = omega arith in
       let o : selectingIn (set t (row * 66 + c + 1) n) ≡ selectingIn t = rw (behind-it row c) at (set-selecting t row (c + 1) n l m) in
       rw (q, p) (first-selecting (set t (row * 66 + c + 1) n) row (c + 1) l ∙ o)
-
--- the same of a list that is one row
-pub own-more : (t : List ℕ) (c n : ℕ) (t₁ t₂ : List ℕ) → t₁ ≡ set t (c + 1) n → t₂ ≡ set t₁ 0 (c + 1) → c < 65 → 66 ≤ length t
-    → c ≡ length (numbersIn t 0) → among (numbersIn t 0) n ≡ false → numbersIn t₂ 0 ≡ noted n (numbersIn t 0)
-own-more t c n t₁ t₂ p q h l e f = let z : 0 + c ≡ c = omega arith in more-noted t 0 c n t₁ t₂ (rw z p) q h l e f
-
-pub own-long : (t : List ℕ) (c n : ℕ) (t₁ t₂ : List ℕ) → t₁ ≡ set t (c + 1) n → t₂ ≡ set t₁ 0 (c + 1) → length t₂ ≡ length t
-own-long t c n t₁ t₂ p q = ap length q ∙ length-set t₁ 0 (c + 1) ∙ ap length p ∙ length-set t (c + 1) n
-
--- the same of a list that is one row
-pub own-here : (t : List ℕ) (i n : ℕ) → 0 < i → getD t i 0 ≡ n → among (numbersTo t 0 i) n ≡ true
-own-here t i n h e = let z : 0 + i ≡ i = omega arith in among-here t 0 i n h (rw z e)
-
-pub own-next : (t : List ℕ) (i n : ℕ) → 0 < i → (getD t i 0 ≡ n → ⊥) → among (numbersTo t 0 i) n ≡ among (numbersTo t 0 (i - 1)) n
-own-next t i n h e = let z : 0 + i ≡ i = omega arith in among-next t 0 i n h (rw z e)

@@ -1,7 +1,7 @@
 // What is written in the rows of numbers: one more, none, or those of the motif that was judged.
 ghost use mathlib.Core.Path.{_≡_};
 ghost use mathlib.Core.List.{[]};
-ghost use Prim.Native.Nat.{_<_};
+ghost use Prim.Native.Nat.{_+_, _*_, _≤_, _<_};
 ghost use lib.ListN.{length, set};
 ghost use Rattle.pattern_rows.specs.Numbers.{OfMotif, numbersIn, noted, selectingIn, Others, OtherRows, Quiet};
 use pattern_rows::NUMBERS_MOST;
@@ -20,8 +20,8 @@ pub(crate) fn put(cells: &mut [u16], at: usize, n: u16)
 }
 
 // One number more in a row, unless it is there.
-pub fn define(patterns: &mut [u16; 4487], row: usize, n: u16)
-    requires { ⌜ row < 67 ⌝ }
+pub fn define(patterns: &mut [u16], row: usize, n: u16)
+    requires { ⌜ (row < 67) × (row * 66 + 66 ≤ length (now patterns)) ⌝ }
     ensures { λ _. ⌜ numbersIn (now (patterns .exit)) row ≡ noted n (numbersIn (now (patterns .entry)) row) ⌝ }
     ensures { λ _. ⌜ Others (now (patterns .entry)) row (now (patterns .exit)) ⌝ }
     ensures { λ _. ⌜ selectingIn (now (patterns .exit)) ≡ selectingIn (now (patterns .entry)) ⌝ }

@@ -14,19 +14,19 @@ mul-count-of c = search needs
 mul-count-of-2 : tie.Need-mul-count-of-2
 mul-count-of-2 c = search needs
 
-element-copy-out-count-of : tie.Need-element-copy-out-count-of
-element-copy-out-count-of c = search needs
+shared-slice-read-count-of : tie.Need-shared-slice-read-count-of
+shared-slice-read-count-of c = search needs
 
 count-of-requires : tie.Need-count-of-requires
 count-of-requires c κs = search needs
 
 returns : tie.Need-returns
 returns c =
-    let a = c .before .before .args in
+    let a = c .before .before .before .args in
     let l : c .count-of .result < 66 = omega (arith, c .count-of .ensures) in
     (c .count-of .ensures ∙ sym (in-length (a .patterns .now) (a .row)), l)
 
 pub count-spec : {M : Type 1} → statement M
 count-spec =
     tie.close
-    (tie.spec mul-count-of mul-count-of-2 element-copy-out-count-of count-of-requires returns)
+    (tie.spec mul-count-of mul-count-of-2 shared-slice-read-count-of count-of-requires returns)

@@ -21,7 +21,7 @@ count-requires c κs = search needs
 
 loop-holds : tie.Need-loop-holds Inv-loop μ-loop
 loop-holds c =
-    let a = c .before .args in
+    let a = c .before .before .args in
     (c .count .ensures .1, ap (λ ns. among ns (a .n)) (in-to (a .patterns .now) (a .row) (c .count .result) (c .count .ensures .0)))
 
 mul-if1 : tie.Need-mul-if1 Inv-loop μ-loop
@@ -33,14 +33,14 @@ add-if1 c = search needs
 mul-if1-2 : tie.Need-mul-if1-2 Inv-loop μ-loop
 mul-if1-2 c = search needs
 
-element-copy-out-if1 : tie.Need-element-copy-out-if1 Inv-loop μ-loop
-element-copy-out-if1 c = search needs
+shared-slice-read-if1 : tie.Need-shared-slice-read-if1 Inv-loop μ-loop
+shared-slice-read-if1 c = search needs
 
 returns : tie.Need-returns Inv-loop μ-loop
 returns c =
     let l = c .before .before .before .loop in
     let h : 0 < l .i = omega (arith, c .before .before .loop-test .taken) in
-    let a = c .before .before .before .before .before .args in
+    let a = c .before .before .before .before .before .before .args in
     sym (l .inv .1 ∙ among-here (a .patterns .now) (a .row * 66) (l .i) (a .n) h (c .if1 .taken))
 
 sub-i : tie.Need-sub-i Inv-loop μ-loop
@@ -53,13 +53,13 @@ loop-again : tie.Need-loop-again Inv-loop μ-loop
 loop-again c =
     let l = c .before .before .before .loop in
     let h : 0 < l .i = omega (arith, c .before .before .loop-test .taken) in
-    let a = c .before .before .before .before .before .args in
+    let a = c .before .before .before .before .before .before .args in
     (omega arith, l .inv .1 ∙ among-next (a .patterns .now) (a .row * 66) (l .i) (a .n) h (c .if1 .left))
 
 returns-2 : tie.Need-returns-2 Inv-loop μ-loop
 returns-2 c =
     let l = c .before .loop in
-    let a = c .before .before .before .args in
+    let a = c .before .before .before .before .args in
     let e : l .i ≡ 0 = omega (arith, c .loop-test .left) in
     sym (l .inv .1 ∙ among-none (a .patterns .now) (a .row * 66) (l .i) (a .n) e)
 
@@ -74,7 +74,7 @@ has-spec =
     mul-if1
     add-if1
     mul-if1-2
-    element-copy-out-if1
+    shared-slice-read-if1
     returns
     sub-i
     loop-less

@@ -13,7 +13,7 @@ has-requires c κs = search needs
 
 returns : tie.Need-returns
 returns c =
-    let a = c .before .before .args in
+    let a = c .before .before .before .args in
     let e : among (numbersIn (a .patterns .now) OfPage) (a .n) ≡ true = sym (c .before .has .ensures) ∙ c .if1 .taken in
     rw e
 
@@ -22,8 +22,8 @@ has-requires-2 c κs = search needs
 
 returns-2 : tie.Need-returns-2
 returns-2 c =
-    let a = c .before .before .before .args in
-    let e : among (numbersIn (a .patterns .now) OfPage) (a .n) ≡ false = sym (c .before .before .has .ensures) ∙ c .before .if1 .left in
+    let a = c .before .before .before .before .before .args in
+    let e : among (numbersIn (a .patterns .now) OfPage) (a .n) ≡ false = sym (c .before .before .before .has .ensures) ∙ c .before .before .if1 .left in
     rw e (c .has2 .ensures)
 
 pub is-defined-spec : {M : Type 1} → statement M

@@ -25,7 +25,7 @@ count-requires c κs = search needs
 
 loop-holds : tie.Need-loop-holds Inv-loop μ-loop
 loop-holds c =
-    let a = c .before .args in
+    let a = c .before .before .args in
     let t = a .patterns .now in
     (c .count .ensures .1, ap (someMissing (numbersIn t OfPage) (numbersIn t OfSession)) (in-to t (a .row) (c .count .result) (c .count .ensures .0)))
 
@@ -48,7 +48,7 @@ returns : tie.Need-returns Inv-loop μ-loop
 returns c =
     let l = c .before .before .before .before .loop in
     let h : 0 < l .i = omega (arith, c .before .before .before .loop-test .taken) in
-    let a = c .before .before .before .before .before .before .args in
+    let a = c .before .before .before .before .before .before .before .args in
     let t = a .patterns .now in
     sym
     (l .inv .1
@@ -65,7 +65,7 @@ loop-again : tie.Need-loop-again Inv-loop μ-loop
 loop-again c =
     let l = c .before .before .before .before .loop in
     let h : 0 < l .i = omega (arith, c .before .before .before .loop-test .taken) in
-    let a = c .before .before .before .before .before .before .args in
+    let a = c .before .before .before .before .before .before .before .args in
     let t = a .patterns .now in (
       omega arith,
       l .inv .1
@@ -76,7 +76,7 @@ loop-again c =
 returns-2 : tie.Need-returns-2 Inv-loop μ-loop
 returns-2 c =
     let l = c .before .loop in
-    let a = c .before .before .before .args in
+    let a = c .before .before .before .before .args in
     let t = a .patterns .now in
     let e : l .i ≡ 0 = omega (arith, c .loop-test .left) in
     sym (l .inv .1 ∙ missing-none (numbersIn t OfPage) (numbersIn t OfSession) t (a .row * 66) (l .i) e)
