@@ -2,8 +2,8 @@
 -- Assumes nothing.
 use borrow.Author.Tests.{eq-eqb, ne-eqb}
 use borrow.Author.Needs.{needs}
-use Rattle.attributes.proofs.attributes.long_at.Statement.{statement}
-use Rattle.attributes.proofs.attributes.long_at.Tie as tie
+use Rattle.reals.proofs.reading.long_at.Statement.{statement}
+use Rattle.reals.proofs.reading.long_at.Tie as tie
 
 number-at-requires : tie.Need-number-at-requires
 number-at-requires c κs = search needs

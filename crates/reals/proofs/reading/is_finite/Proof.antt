@@ -2,8 +2,8 @@
 -- Assumes nothing.
 use mathlib.Core.Path.{refl}
 use Rattle.scope.specs.Attributes.{finite}
-use Rattle.attributes.proofs.attributes.is_finite.Statement.{statement}
-use Rattle.attributes.proofs.attributes.is_finite.Tie as tie
+use Rattle.reals.proofs.reading.is_finite.Statement.{statement}
+use Rattle.reals.proofs.reading.is_finite.Tie as tie
 
 returns : tie.Need-returns
 unfolding finite

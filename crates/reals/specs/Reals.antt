@@ -6,8 +6,8 @@ use mathlib.Core.Path.{_≡_}
 use lib.Dec.{T}
 use lib.Ieee.{binary32, toBits, isNan}
 use Rattle.scope.specs.Attributes.{Two, wholes, reals, finite}
-use Rattle.attributes.specs.declared.attributes.Numbers.{Numbers}
-use Rattle.attributes.specs.declared.attributes.Numbers.the-variants.{Whole, Real, Neither}
+use Rattle.reals.specs.declared.reading.Numbers.{Numbers}
+use Rattle.reals.specs.declared.reading.Numbers.the-variants.{Whole, Real, Neither}
 
 -- the code's answer to two numbers: whole ones are the same; a real has the bits that stood there; no real is made of bits that are infinite or no number
 pub data Reads : Numbers → Two → Type 0 where

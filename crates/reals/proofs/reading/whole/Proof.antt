@@ -1,10 +1,10 @@
 -- `whole`: an arm for each answer.
 -- Assumes nothing.
 use lib.Dec.{lit<}
-use Rattle.attributes.proofs.Halves.{whole-whole, whole-real, whole-neither}
+use Rattle.reals.proofs.Halves.{whole-whole, whole-real, whole-neither}
 use borrow.Author.Needs.{needs}
-use Rattle.attributes.proofs.attributes.whole.Statement.{statement}
-use Rattle.attributes.proofs.attributes.whole.Tie as tie
+use Rattle.reals.proofs.reading.whole.Statement.{statement}
+use Rattle.reals.proofs.reading.whole.Tie as tie
 
 enum-known-numbers : tie.Need-enum-known-numbers
 enum-known-numbers c = search needs

@@ -1,10 +1,10 @@
--- `attributes::attributes::first_of` meets its contract: a number of one byte or of two.
+-- `reals::reading::first_of` meets its contract: a number of one byte or of two.
 -- Assumes nothing.
 use borrow.Author.Tests.{eq-eqb, ne-eqb}
 use native.Mathlib.Omega.{arith}
 use borrow.Author.Needs.{needs}
-use Rattle.attributes.proofs.attributes.first_of.Statement.{statement}
-use Rattle.attributes.proofs.attributes.first_of.Tie as tie
+use Rattle.reals.proofs.reading.first_of.Statement.{statement}
+use Rattle.reals.proofs.reading.first_of.Tie as tie
 
 number-at-requires : tie.Need-number-at-requires
 number-at-requires c κs = search needs

@@ -9,8 +9,8 @@ use borrow.Author.Tests.{lt-ltb}
 use lib.Ieee.{Float, binary32, nanBits, toBits, ofBits, isNan}
 use lib.Ieee.Bits.{toBits-ofBits, nanBits-is}
 use Rattle.scope.specs.Attributes.{Two, wholes, finite, above, wholeIn, pointIn, sizesIn}
-use Rattle.attributes.specs.Reals.{Reads, reads-whole, reads-real, reads-neither}
-use Rattle.attributes.specs.declared.attributes.Numbers.the-variants.{Whole, Real, Neither}
+use Rattle.reals.specs.Reals.{Reads, reads-whole, reads-real, reads-neither}
+use Rattle.reals.specs.declared.reading.Numbers.the-variants.{Whole, Real, Neither}
 
 no-nan : (e z : Bool) → not e ≡ true → T (not (e && z))
 no-nan true z h = absurd (false≢true h)

@@ -2,10 +2,10 @@
 -- Assumes nothing.
 use borrow.Author.Tests.{eq-eqb, ne-eqb}
 use Rattle.scope.specs.Attributes.{twoAt}
-use Rattle.attributes.specs.Reals.{reads-whole}
+use Rattle.reals.specs.Reals.{reads-whole}
 use borrow.Author.Needs.{needs}
-use Rattle.attributes.proofs.attributes.numbers_at.Statement.{statement}
-use Rattle.attributes.proofs.attributes.numbers_at.Tie as tie
+use Rattle.reals.proofs.reading.numbers_at.Statement.{statement}
+use Rattle.reals.proofs.reading.numbers_at.Tie as tie
 
 number-at-requires : tie.Need-number-at-requires
 number-at-requires c κs = search needs

@@ -7,8 +7,8 @@ use lib.ListN.{length}
 use Rattle.number.specs.Widths.{bytesOf}
 use Rattle.number.proofs.Digits.{past}
 use borrow.Author.Needs.{needs}
-use Rattle.attributes.proofs.attributes.behind.Statement.{statement}
-use Rattle.attributes.proofs.attributes.behind.Tie as tie
+use Rattle.reals.proofs.reading.behind.Statement.{statement}
+use Rattle.reals.proofs.reading.behind.Tie as tie
 
 returns : tie.Need-returns
 returns c =

@@ -6,11 +6,11 @@ use mathlib.Core.Bool.{true, false, _&&_}
 use native.Mathlib.Omega.{arith}
 use borrow.Author.Tests.{not-true, not-false}
 use Rattle.scope.specs.Attributes.{finite}
-use Rattle.attributes.specs.Reals.{reads-real, reads-neither}
-use Rattle.attributes.proofs.Halves.{not-nan-bits, not-nan, bits-back}
+use Rattle.reals.specs.Reals.{reads-real, reads-neither}
+use Rattle.reals.proofs.Halves.{not-nan-bits, not-nan, bits-back}
 use borrow.Author.Needs.{needs}
-use Rattle.attributes.proofs.attributes.reals_of.Statement.{statement}
-use Rattle.attributes.proofs.attributes.reals_of.Tie as tie
+use Rattle.reals.proofs.reading.reals_of.Statement.{statement}
+use Rattle.reals.proofs.reading.reals_of.Tie as tie
 
 is-finite-requires : tie.Need-is-finite-requires
 is-finite-requires c κs = search needs
