@@ -3,9 +3,9 @@
 use borrow.Author.Needs.{needs}
 use mathlib.Core.Path.{sym}
 use native.Mathlib.Omega.{arith}
-use Rattle.buffer.proofs.Listed.{room-many, room-none, room-left}
-use Rattle.buffer.proofs.listing.has_room.Statement.{statement}
-use Rattle.buffer.proofs.listing.has_room.Tie as tie
+use Rattle.listed.proofs.Listed.{room-many, room-none, room-left}
+use Rattle.listed.proofs.listing.has_room.Statement.{statement}
+use Rattle.listed.proofs.listing.has_room.Tie as tie
 
 returns : tie.Need-returns
 returns c =

@@ -16,9 +16,9 @@ use Rattle.scope.specs.Item.{Attribute}
 use Rattle.scope.specs.Reading.{Operator}
 use Rattle.scope.specs.Verdict.{four, attributeRecord, operatorRecord, attributeRecords, recordsBefore}
 use Rattle.items.specs.Rows.{Sized, rowAt, rowsFrom, rowsOf}
 use Rattle.buffer.specs.Over.{over, joinedAt}
 use Rattle.buffer.proofs.Parts.{over-next}
-use Rattle.buffer.specs.Listed.{BytesIn, bytes-more, lowOf, lows, roomFor, sixteen, recordsFor}
+use Rattle.listed.specs.Listed.{BytesIn, bytes-more, lowOf, lows, roomFor, sixteen, recordsFor}
 
 pub length-attributeRecord : (a : Attribute) → length (attributeRecord a) ≡ 16
 unfolding attributeRecord four

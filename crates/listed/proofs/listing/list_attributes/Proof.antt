@@ -7,12 +7,12 @@ use native.Mathlib.Omega.{arith}
 use lib.ListN.{length}
 use Rattle.scope.specs.Verdict.{attributeRecords}
 use Rattle.items.specs.Rows.{rowsFrom, rowsOf}
 use Rattle.buffer.specs.Over.{over}
-use Rattle.buffer.specs.Listed.{lows}
+use Rattle.listed.specs.Listed.{lows}
 use Rattle.buffer.proofs.Parts.{over-nil}
-use Rattle.buffer.proofs.Listed.{attribute-more}
-use Rattle.buffer.proofs.listing.list_attributes.Statement.{statement}
-use Rattle.buffer.proofs.listing.list_attributes.Tie as tie
+use Rattle.listed.proofs.Listed.{attribute-more}
+use Rattle.listed.proofs.listing.list_attributes.Statement.{statement}
+use Rattle.listed.proofs.listing.list_attributes.Tie as tie
 
 abbrev Inv-loop : tie.InvT-loop
 Inv-loop list₀ records attrs n i₀ list i =

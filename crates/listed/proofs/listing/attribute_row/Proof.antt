@@ -1,9 +1,9 @@
 -- `attribute_row`: the five numbers of row i.
 -- Assumes nothing.
 use borrow.Author.Needs.{needs}
-use Rattle.buffer.proofs.Listed.{attribute-sixteen}
-use Rattle.buffer.proofs.listing.attribute_row.Statement.{statement}
-use Rattle.buffer.proofs.listing.attribute_row.Tie as tie
+use Rattle.listed.proofs.Listed.{attribute-sixteen}
+use Rattle.listed.proofs.listing.attribute_row.Statement.{statement}
+use Rattle.listed.proofs.listing.attribute_row.Tie as tie
 
 mul-number : tie.Need-mul-number
 mul-number c = search needs

@@ -8,11 +8,11 @@ use Prim.Native.Nat.{suc, _+_, _*_, _≤_}
 use native.Mathlib.Omega.{arith}
 use lib.ListN.{length}
 use Rattle.items.specs.Rows.{rowsOf}
 use Rattle.buffer.specs.Over.{over}
-use Rattle.buffer.specs.Listed.{lows, roomFor, recordsFor}
-use Rattle.buffer.proofs.Listed.{room-is, operator-listed, listed-whole}
-use Rattle.buffer.proofs.listing.list_operator.Statement.{statement}
-use Rattle.buffer.proofs.listing.list_operator.Tie as tie
+use Rattle.listed.specs.Listed.{lows, roomFor, recordsFor}
+use Rattle.listed.proofs.Listed.{room-is, operator-listed, listed-whole}
+use Rattle.listed.proofs.listing.list_operator.Statement.{statement}
+use Rattle.listed.proofs.listing.list_operator.Tie as tie
 
 -- past the test there is room
 room : (c : tie.Else1)

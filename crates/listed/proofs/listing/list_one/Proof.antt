@@ -5,10 +5,10 @@ use mathlib.Core.Path.{sym, refl, _∙_}
 use Prim.Native.Nat.{_+_, _*_, _≤_}
 use native.Mathlib.Omega.{arith}
 use lib.ListN.{length}
-use Rattle.buffer.proofs.Listed.{room-few, room-is, one-listed}
+use Rattle.listed.proofs.Listed.{room-few, room-is, one-listed}
 use borrow.Author.Needs.{needs}
-use Rattle.buffer.proofs.listing.list_one.Statement.{statement}
-use Rattle.buffer.proofs.listing.list_one.Tie as tie
+use Rattle.listed.proofs.listing.list_one.Statement.{statement}
+use Rattle.listed.proofs.listing.list_one.Tie as tie
 
 -- past the test there is room
 room : (c : tie.Else1)

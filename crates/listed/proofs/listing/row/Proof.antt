@@ -3,9 +3,9 @@
 use borrow.Author.Needs.{needs}
 use mathlib.Core.Path.{refl}
 use Rattle.scope.specs.Verdict.{four}
-use Rattle.buffer.specs.Listed.{sixteen}
-use Rattle.buffer.proofs.listing.row.Statement.{statement}
-use Rattle.buffer.proofs.listing.row.Tie as tie
+use Rattle.listed.specs.Listed.{sixteen}
+use Rattle.listed.proofs.listing.row.Statement.{statement}
+use Rattle.listed.proofs.listing.row.Tie as tie
 
 cast-t9 : tie.Need-cast-t9
 cast-t9 c = search needs

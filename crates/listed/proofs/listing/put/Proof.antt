@@ -2,9 +2,9 @@
 -- Assumes nothing.
 use borrow.Author.Needs.{needs}
 use native.Mathlib.Omega.{arith}
 use Rattle.buffer.proofs.Parts.{part-back}
-use Rattle.buffer.proofs.listing.put.Statement.{statement}
-use Rattle.buffer.proofs.listing.put.Tie as tie
+use Rattle.listed.proofs.listing.put.Statement.{statement}
+use Rattle.listed.proofs.listing.put.Tie as tie
 
 slice-aggregate-copy : tie.Need-slice-aggregate-copy
 slice-aggregate-copy c = search needs

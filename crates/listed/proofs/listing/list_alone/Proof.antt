@@ -7,10 +7,10 @@ use Prim.Native.Nat.{_+_, _*_}
 use native.Mathlib.Omega.{arith}
 use lib.ListN.{length}
 use Rattle.scope.specs.Verdict.{attributeRecords}
 use Rattle.buffer.specs.Over.{over}
-use Rattle.buffer.specs.Listed.{recordsFor}
-use Rattle.buffer.proofs.listing.list_alone.Statement.{statement}
-use Rattle.buffer.proofs.listing.list_alone.Tie as tie
+use Rattle.listed.specs.Listed.{recordsFor}
+use Rattle.listed.proofs.listing.list_alone.Statement.{statement}
+use Rattle.listed.proofs.listing.list_alone.Tie as tie
 
 returns : tie.Need-returns
 returns c =

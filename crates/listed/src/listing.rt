@@ -6,9 +6,9 @@ ghost use lib.Dec.{leb};
 ghost use lib.ListN.{length};
 ghost use Rattle.scope.specs.Verdict.{attributeRecord, attributeRecords};
 ghost use Rattle.items.specs.Rows.{Sized, rowAt, rowsOf};
 ghost use Rattle.buffer.specs.Over.{over, joinedAt};
-ghost use Rattle.buffer.specs.Listed.{BytesIn, lowOf, lows, roomFor, sixteen, recordsFor};
-use crate::copying::copy;
+ghost use Rattle.listed.specs.Listed.{BytesIn, lowOf, lows, roomFor, sixteen, recordsFor};
+use buffer::copy;
 
 // A record: four bytes, then three numbers of four bytes, low byte first.
 fn row(a: u8, b: u8, c: u8, d: u8, x: usize, y: usize, z: usize) -> [u8; 16]
