@@ -1,11 +1,8 @@
-// The two lent buffers: the work buffer is zeroed and gets the blocks of motifs, the list gets its records.
+// Writes to a lent buffer: bytes are copied to the front of a part, blocks are joined to those held, the work buffer is zeroed.
 mod copying;
 mod joining;
-mod listing;
 mod zeroing;
 
+pub use copying::copy;
 pub use joining::join;
-pub use listing::list_alone;
-pub use listing::list_one;
-pub use listing::list_operator;
 pub use zeroing::zero;

@@ -14,7 +14,7 @@ use Rattle.scope.specs.Judge as scope
 use Rattle.scope.specs.Judge.{caseOf, judgedFrom}
 use Rattle.scope.specs.Verdict.{every}
 use Rattle.buffer.specs.Over.{over}
-use Rattle.buffer.specs.Listed.{recordsFor}
+use Rattle.listed.specs.Listed.{recordsFor}
 use Rattle.pattern_rows.specs.Numbers.{OfSession, numbersIn}
 use Rattle.state.specs.Standing.{Lent, Stands}
 use Rattle.state.specs.declared.state.State.{State}

@@ -96,7 +96,7 @@ fn pass(list: &mut [u8], attrs: &[usize; 80], st: State, o: Operator) -> State
     if !is_edge(o.tag) {
         return st;
     }
-    if !buffer::list_operator(
+    if !listed::list_operator(
         list,
         st.records,
         attrs,

@@ -54,7 +54,7 @@ fn go_on(
     let place = st.place;
     let o = allowed.o;
     let passed = allowed.passed;
-    if !buffer::list_operator(
+    if !listed::list_operator(
         list,
         st.records,
         attrs,

@@ -13,7 +13,7 @@ use Rattle.scope.specs.Attributes.{Fault, fine, bad, has, typeTaken, inRange, a
 use Rattle.scope.specs.Reading.{Context, Operator, Read}
 use Rattle.scope.proofs.Taken.{Taken}
 use Rattle.rules.proofs.Under.{Under, under-none, under-more, numbers-under}
-use Rattle.buffer.specs.Listed.{BytesIn, bytes-none, bytes-more}
+use Rattle.listed.specs.Listed.{BytesIn, bytes-none, bytes-more}
 
 abbrev IsTrue : Bool → Type 0
 IsTrue true = Unit {0}

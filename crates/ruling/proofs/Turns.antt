@@ -30,8 +30,8 @@ use Rattle.scope.proofs.Ends.{GoodRead, read-good}
 use Rattle.scope.proofs.Taken.{Taken, read-taken}
 use Rattle.scope.proofs.Falls.{judged-step}
 use Rattle.buffer.specs.Over.{over}
-use Rattle.buffer.specs.Listed.{BytesIn, recordsFor}
-use Rattle.buffer.proofs.Listed.{listed-more, recordsBefore-more, length-recordsFor}
+use Rattle.listed.specs.Listed.{BytesIn, recordsFor}
+use Rattle.listed.proofs.Listed.{listed-more, recordsBefore-more, length-recordsFor}
 use Rattle.place.specs.Places.{PlaceHolds}
 use Rattle.state.specs.Views.{verdictAs}
 use Rattle.state.specs.Standing.{Listed, Lent, Stands, Steps, steps-go, steps-stop, Comes, endCode}

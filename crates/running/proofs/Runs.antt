@@ -27,7 +27,7 @@ use Rattle.arm.specs.declared.moved.Moved.the-variants.{To}
 use Rattle.end_point.specs.EndPoint.{lineOf, Line}
 use Rattle.end_point.proofs.EndPoint.{read-line, line-drawn}
 use Rattle.buffer.specs.Over.{over}
-use Rattle.buffer.specs.Listed.{recordsFor}
+use Rattle.listed.specs.Listed.{recordsFor}
 use Rattle.motif.specs.Stored.{Stored}
 use Rattle.motif.specs.declared.kept.Kept.{Kept}
 use Rattle.order.specs.declared.picture.Picture.the-variants.{Nothing}

@@ -79,7 +79,7 @@ fn pass_alone(job: &[u8], list: &mut [u8], from: Run, at: usize) -> Pass
     match page.past(tag) {
         Passed::No => Pass::No,
         Passed::To(next) => {
-            if !buffer::list_alone(list, records, tag, at) {
+            if !listed::list_alone(list, records, tag, at) {
                 return Pass::No;
             }
             Pass::To(Run {
@@ -111,7 +111,7 @@ fn pass_line(job: &[u8], high: bool, list: &mut [u8], from: Run, at: usize) -> P
             return Pass::No;
         }
     };
-    if !buffer::list_one(
+    if !listed::list_one(
         list,
         records,
         END_POINT,

@@ -9,10 +9,10 @@ ghost use Rattle.scope.specs.Table.{M2};
 ghost use Rattle.scope.specs.Attributes.{Two, above, pointIn, sizesIn, firstOf, typeTaken, inRange};
 ghost use Rattle.table.specs.Lines.{takesAs};
 ghost use Rattle.values.specs.Views.{attributeAs};
-ghost use Rattle.attributes.specs.Reals.{Reads, Made};
-use attributes::Numbers;
-use attributes::numbers_at;
-use attributes::whole;
+ghost use Rattle.reals.specs.Reals.{Reads, Made};
+use reals::Numbers;
+use reals::numbers_at;
+use reals::whole;
 use table::Kind;
 
 // An attribute as the lent array has it.

@@ -9,7 +9,7 @@ use lib.ListN.{length}
 use Rattle.scope.specs.Judge.{contextOf}
 use Rattle.scope.specs.Verdict.{every}
 use Rattle.items.proofs.Rows.{length-rows}
-use Rattle.buffer.proofs.Listed.{room-is}
+use Rattle.listed.proofs.Listed.{room-is}
 use Rattle.reader.specs.Reads.{operatorAs}
 use Rattle.ruling.proofs.Turns.{read-bytes}
 use Rattle.opening.proofs.Opens.{opens-none, opens-still, one-more}

@@ -1,6 +1,6 @@
 -- `are_sizes`: an arm for each answer; what was read as a real is a number, so its bits can be asked for.
 -- Assumes nothing.
-use Rattle.attributes.proofs.Halves.{sizes-whole, sizes-real, sizes-neither}
+use Rattle.reals.proofs.Halves.{sizes-whole, sizes-real, sizes-neither}
 use borrow.Author.Needs.{needs}
 use Rattle.values.proofs.value.are_sizes.Statement.{statement}
 use Rattle.values.proofs.value.are_sizes.Tie as tie

@@ -1,7 +1,7 @@
 -- `is_above`: bits that are not zero are above 0, and the sign bit is the highest.
 -- Assumes nothing.
 use Rattle.scope.specs.Attributes.{above}
-use Rattle.attributes.proofs.Halves.{not-zero}
+use Rattle.reals.proofs.Halves.{not-zero}
 use borrow.Author.Needs.{needs}
 use Rattle.values.proofs.value.is_above.Statement.{statement}
 use Rattle.values.proofs.value.is_above.Tie as tie

@@ -1,6 +1,6 @@
 -- `is_point`: an arm for each answer.
 -- Assumes nothing.
-use Rattle.attributes.proofs.Halves.{point-whole, point-real, point-neither}
+use Rattle.reals.proofs.Halves.{point-whole, point-real, point-neither}
 use borrow.Author.Needs.{needs}
 use Rattle.values.proofs.value.is_point.Statement.{statement}
 use Rattle.values.proofs.value.is_point.Tie as tie
