@@ -23,7 +23,7 @@ count-requires c κs = search needs
 returns : tie.Need-returns
 returns c =
     let n = c .before in
-    let w = n .before in
+    let w = n .before .before in
     let h = w .before in
     let a = h .before .before .args in
     λ t p x d z e. let l : length (numbersIn (a .patterns .now) (w .row-of .result)) < 32 = rw (← n .count .ensures .0) (c .if1 .taken) in
@@ -35,8 +35,8 @@ has-requires c κs = search needs
 
 returns-2 : tie.Need-returns-2
 returns-2 c =
-    let n = c .before .before .before in
-    let w = n .before in
+    let n = c .before .before .before .before in
+    let w = n .before .before in
     let h = w .before in
     let a = h .before .before .args in
     λ t p x d z e. pattern-again (settingAs (a .set)) t p (a .job .now) (a .attrs .now) x (a .o) e (h .hatch-of .ensures z)
@@ -44,9 +44,9 @@ returns-2 c =
 
 returns-3 : tie.Need-returns-3
 returns-3 c =
-    let f = c .before .before in
+    let f = c .before .before .before in
     let n = f .before in
-    let w = n .before in
+    let w = n .before .before in
     let h = w .before in
     let a = h .before .before .args in
     λ t p x d z e. let l : 32 ≤ length (numbersIn (a .patterns .now) (w .row-of .result)) = rw (← n .count .ensures .0) (f .if1 .left) in
