@@ -1,6 +1,4 @@
 // The line of a job.
-use crate::called::of_call;
-use crate::roster::lines;
 use asked::Asked;
 use listing::gather;
 use state::Verdict;
@@ -75,7 +73,7 @@ fn is_call(job: &[u8], v: Verdict) -> bool {
 
 fn called(job: &[u8], list: &[u8], v: Verdict, gray: bool) {
     let mut store = rooms::work();
-    of_call(
+    inner::of_call(
         job,
         list,
         v.records as usize,
@@ -113,7 +111,7 @@ fn refused(job: &[u8], list: &[u8], v: Verdict, gray: bool) {
 // The operators and motifs, and the refused operator, marked.
 fn listed_lines(job: &[u8], list: &[u8], v: Verdict, gray: bool) {
     let mut store = rooms::work();
-    lines(job, list, v.records as usize, gray, &mut store);
+    roster::lines(job, list, v.records as usize, gray, &mut store);
     if v.code == 0 {
         return;
     }

@@ -5,8 +5,8 @@ use mathlib.Core.Path.{_≡_}
 use lib.ListN.{length}
 use native.Mathlib.Omega.{arith}
 use borrow.Author.Needs.{needs}
-use Rattle.explain.proofs.roster.lines.Statement.{statement}
-use Rattle.explain.proofs.roster.lines.Tie as tie
+use Rattle.roster.proofs.shown.lines.Statement.{statement}
+use Rattle.roster.proofs.shown.lines.Tie as tie
 
 abbrev Inv-loop : tie.InvT-loop
 Inv-loop job list records gray store₀ set motifs₀ attrs₀ st₀ walk₀ depth₀ i₀ store motifs attrs st walk depth i =
