@@ -8,18 +8,9 @@ use mathlib.Core.List.{List, [], _∷_}
 use lib.Dec.{eqb}
 use borrow.Author.Tests.{ne-eqb}
 use Rattle.scope.specs.Choice.{pick, among}
-use Rattle.scope.specs.Header.{one, two}
+use Rattle.scope.specs.Header.{Class, one, two}
 use Rattle.scope.specs.Table as scope
-use Rattle.scope.specs.Names.{BeginPage, ReadImage, ReadRastPattern, SetDefaultGS, Orientation, MediaSize, MediaType, PadBytesMultiple, BlockByteLength}
-use Rattle.table.specs.Lines.{orNothing, rulesIn, ruleOf}
-use Rattle.table.proofs.Keys.{Apart, apart-out}
-
--- the operators of which class 2;1 has a line of its own, and the attributes of which it has a rule of its own: the keys of the arms, the last one first
-abbrev ownLines : List ℕ
-ownLines = SetDefaultGS ∷ ReadRastPattern ∷ ReadImage ∷ BeginPage ∷ []
-
-abbrev ownRules : List ℕ
-ownRules = BlockByteLength ∷ PadBytesMultiple ∷ MediaType ∷ MediaSize ∷ Orientation ∷ []
+use Rattle.table.specs.Lines.{ownLines, ownRules, ownLine, ownRule, orNothing, rulesIn, ruleOf}
 
 -- the lines of other operators
 unfoldable linesBut : List ℕ → List scope.Row → List scope.Row
@@ -61,14 +52,30 @@ rules-same : rulesBut ownRules (rulesIn (scope.table two)) ≡ rulesBut ownRules
 unfolding scope.table scope.tableOne scope.tableTwo rulesIn rulesBut among
 rules-same = refl
 
-pub same-line : (tag : ℕ) → Apart tag ownLines → scope.lineIn scope.tableTwo tag ≡ scope.lineIn scope.tableOne tag
-same-line tag apart =
-    let h = apart-out tag ownLines apart in
-    line-but tag ownLines h scope.tableTwo ∙ ap (λ l. scope.lineIn l tag) lines-same ∙ sym (line-but tag ownLines h scope.tableOne)
+same-line : (tag : ℕ) → among ownLines tag ≡ false → scope.lineIn scope.tableTwo tag ≡ scope.lineIn scope.tableOne tag
+same-line tag h = line-but tag ownLines h scope.tableTwo ∙ ap (λ l. scope.lineIn l tag) lines-same ∙ sym (line-but tag ownLines h scope.tableOne)
 
-pub same-rule : (n : ℕ) → Apart n ownRules → ruleOf two n ≡ ruleOf one n
+same-rule : (n : ℕ) → among ownRules n ≡ false → ruleOf two n ≡ ruleOf one n
 unfolding ruleOf
-same-rule n apart =
-    let h = apart-out n ownRules apart in
+same-rule n h =
     ap (orNothing n)
     (rule-but n ownRules h (rulesIn (scope.table two)) ∙ ap (λ l. scope.ruleIn l n) rules-same ∙ sym (rule-but n ownRules h (rulesIn (scope.table one))))
+
+-- an operator without a line of its own has that of 1;1, and one with such a line is of 2;1
+pub line-shared : (class : Class) (tag : ℕ) → ownLine class tag ≡ false → scope.lineIn (scope.table class) tag ≡ scope.lineIn scope.tableOne tag
+unfolding scope.table
+line-shared one tag h = refl
+line-shared two tag h = same-line tag h
+
+pub line-own : (class : Class) (tag : ℕ) → ownLine class tag ≡ true → (among ownLines tag ≡ true) × (scope.lineIn (scope.table class) tag ≡ scope.lineIn scope.tableTwo tag)
+unfolding scope.table
+line-own one tag h = absurd (true≢false (sym h))
+line-own two tag h = (h, refl)
+
+pub rule-shared : (class : Class) (n : ℕ) → ownRule class n ≡ false → ruleOf class n ≡ ruleOf one n
+rule-shared one n h = refl
+rule-shared two n h = same-rule n h
+
+pub rule-own : (class : Class) (n : ℕ) → ownRule class n ≡ true → (among ownRules n ≡ true) × (ruleOf class n ≡ ruleOf two n)
+rule-own one n h = absurd (true≢false (sym h))
+rule-own two n h = (h, refl)

@@ -25,7 +25,7 @@ unfoldable pub opsIn : List scope.Row → List ℕ
 opsIn [] = []
 opsIn (r ∷ rs) = r .op ∷ opsIn rs
 
-pub apart-out : (n : ℕ) (ks : List ℕ) → Apart n ks → among ks n ≡ false
+apart-out : (n : ℕ) (ks : List ℕ) → Apart n ks → among ks n ≡ false
 unfolding among
 apart-out n [] h = refl
 apart-out n (k ∷ ks) h = rw (ne-eqb n k (h .1), among) (apart-out n ks (h .0))

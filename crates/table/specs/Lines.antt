@@ -5,8 +5,9 @@ use mathlib.Core.List.{List, [], _∷_, _++_}
 use mathlib.Core.Bool.{Bool, true, false}
 use lib.ListN.{length, replicate}
 use lib.Dec.{eqb}
-use Rattle.scope.specs.Choice.{pick}
-use Rattle.scope.specs.Header.{Class, one}
+use Rattle.scope.specs.Choice.{pick, among}
+use Rattle.scope.specs.Header.{Class, one, two}
+use Rattle.scope.specs.Names.{BeginPage, ReadImage, ReadRastPattern, SetDefaultGS, Orientation, MediaSize, MediaType, PadBytesMultiple, BlockByteLength}
 use Rattle.scope.specs.Table as scope
 use Rattle.table.specs.declared.table.Form.{Form}
 use Rattle.table.specs.declared.table.Form.the-variants.{Each, One, Line, Unknown}
@@ -14,6 +15,21 @@ use Rattle.table.specs.declared.table.Row.{Row}
 use Rattle.table.specs.declared.table.Kind.{Kind}
 use Rattle.table.specs.declared.table.Kind.the-variants.{E, N, P, B, A, D, M, M2, L, I}
 use Rattle.table.specs.declared.table.Rule.{Rule}
+
+-- the operators of which class 2;1 has a line of its own, and the attributes of which it has a rule of its own
+abbrev pub ownLines : List ℕ
+ownLines = BeginPage ∷ ReadImage ∷ ReadRastPattern ∷ SetDefaultGS ∷ []
+
+abbrev pub ownRules : List ℕ
+ownRules = Orientation ∷ MediaSize ∷ MediaType ∷ PadBytesMultiple ∷ BlockByteLength ∷ []
+
+abbrev pub ownLine : Class → (tag : ℕ) → Bool
+ownLine one tag = false
+ownLine two tag = among ownLines tag
+
+abbrev pub ownRule : Class → (number : ℕ) → Bool
+ownRule one n = false
+ownRule two n = among ownRules n
 
 -- the table has such a line
 abbrev pub isLine : scope.Line → Bool

@@ -5,7 +5,8 @@ ghost use mathlib.Core.List.{_∷_, []};
 ghost use Rattle.scope.specs.Header.{one, two};
 ghost use Rattle.scope.specs.Table.{tableOne, tableTwo, table, lineIn};
 ghost use Rattle.setting.specs.Views.{classAs};
-ghost use Rattle.table.specs.Lines.{isKnown, rowWith, briefAs, briefOf, takesOf, ruleOf};
+ghost use Rattle.scope.specs.Choice.{among};
+ghost use Rattle.table.specs.Lines.{ownLines, ownRules, ownLine, ownRule, isKnown, rowWith, briefAs, briefOf, takesOf, ruleOf};
 ghost use Rattle.table.specs.declared.table.Form.the-variants.{Each, One, Line, Unknown};
 use names::attributes::SOURCE_HEIGHT as HEIGHT;
 use names::attributes::SOURCE_WIDTH as WIDTH;
@@ -192,9 +193,9 @@ fn row_of_one(tag: u8) -> Row
     }
 }
 
-// The same in class 2;1: it has lines of its own, all others are as in 1;1.
-fn row_of_two(tag: u8) -> Row
-    ensures { λ r. ⌜ briefAs r ≡ briefOf (lineIn tableTwo tag) ⌝ }
+// The lines that are its own.
+fn own_row(tag: u8) -> Row
+    ensures { λ r. ⌜ (among ownLines tag ≡ true → briefAs r ≡ briefOf (lineIn tableTwo tag)) ⌝ }
 {
     match tag {
         BEGIN_PAGE => may_four(ORIENTATION, MEDIA_SIZE, MEDIA_SOURCE, MEDIA_TYPE),
@@ -218,19 +219,34 @@ fn row_of_two(tag: u8) -> Row
             NO,
             NO,
         ),
-        SET_DEFAULT_GS => nothing(),
-        _ => row_of_one(tag),
+        _ => nothing(),
     }
 }
 
-// What attributes an operator takes in a class.
+// The operator's line is one of class 2;1 alone.
+fn is_own_line(class: Class, tag: u8) -> bool
+    ensures { λ r. ⌜ r ≡ ownLine (classAs class) tag ⌝ }
+{
+    match class {
+        Class::One => false,
+        Class::Two => match tag {
+            BEGIN_PAGE => true,
+            READ_IMAGE => true,
+            READ_RAST_PATTERN => true,
+            SET_DEFAULT_GS => true,
+            _ => false,
+        },
+    }
+}
+
+// What attributes an operator takes in a class: in 2;1 by its own lines, all others as in 1;1.
 pub fn row_of(class: Class, tag: u8) -> Row
     ensures { λ r. ⌜ briefAs r ≡ briefOf (lineIn (table (classAs class)) tag) ⌝ }
 {
-    match class {
-        Class::One => row_of_one(tag),
-        Class::Two => row_of_two(tag),
+    if is_own_line(class, tag) {
+        return own_row(tag);
     }
+    row_of_one(tag)
 }
 
 fn takes(kind: Kind, low: usize, high: usize) -> Rule
@@ -282,17 +298,33 @@ fn rule_of_one(number: u8) -> Rule
     }
 }
 
-// The same in class 2;1: it has values of its own, all others are as in 1;1.
-fn rule_of_two(number: u8) -> Rule
-    ensures { λ r. ⌜ takesOf r ≡ ruleOf two number .takes ⌝ }
+// The values that are its own.
+fn own_rule(number: u8) -> Rule
+    ensures { λ r. ⌜ (among ownRules number ≡ true → takesOf r ≡ ruleOf two number .takes) ⌝ }
 {
     match number {
         ORIENTATION => takes(Kind::E, 0, 3),
         MEDIA_SIZE => takes(Kind::M2, 0, 0),
         MEDIA_TYPE => takes(Kind::A, 0, 1024),
         PAD_BYTES_MULTIPLE => takes(Kind::E, 1, 255),
-        BLOCK_BYTE_LENGTH => takes(Kind::L, 0, 0),
-        _ => rule_of_one(number),
+        _ => takes(Kind::L, 0, 0),
+    }
+}
+
+// The attribute's values are those of class 2;1 alone.
+fn is_own_rule(class: Class, number: u8) -> bool
+    ensures { λ r. ⌜ r ≡ ownRule (classAs class) number ⌝ }
+{
+    match class {
+        Class::One => false,
+        Class::Two => match number {
+            ORIENTATION => true,
+            MEDIA_SIZE => true,
+            MEDIA_TYPE => true,
+            PAD_BYTES_MULTIPLE => true,
+            BLOCK_BYTE_LENGTH => true,
+            _ => false,
+        },
     }
 }
 
@@ -300,10 +332,10 @@ fn rule_of_two(number: u8) -> Rule
 pub fn rule_of(class: Class, number: u8) -> Rule
     ensures { λ r. ⌜ takesOf r ≡ ruleOf (classAs class) number .takes ⌝ }
 {
-    match class {
-        Class::One => rule_of_one(number),
-        Class::Two => rule_of_two(number),
+    if is_own_rule(class, number) {
+        return own_rule(number);
     }
+    rule_of_one(number)
 }
 
 // The form of a line that the table has.

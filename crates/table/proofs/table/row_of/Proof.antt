@@ -1,30 +1,31 @@
--- `row_of`: by the class.
+-- `row_of`: a line of its own, or that of 1;1.
 -- Assumes nothing.
-use Rattle.scope.specs.Table.{table}
+use mathlib.Core.Path.{sym, _∙_}
+use Rattle.setting.specs.Views.{classAs}
+use Rattle.table.proofs.Classes.{line-shared, line-own}
 use borrow.Author.Needs.{needs}
 use Rattle.table.proofs.table.row_of.Statement.{statement}
 use Rattle.table.proofs.table.row_of.Tie as tie
 
-enum-told : tie.Need-enum-told
-enum-told c = search needs
+is-own-line-requires : tie.Need-is-own-line-requires
+is-own-line-requires c κs = search needs
 
-enum-told-2 : tie.Need-enum-told-2
-enum-told-2 c = search needs
+own-row-requires : tie.Need-own-row-requires
+own-row-requires c κs = search needs
+
+returns : tie.Need-returns
+returns c =
+    let a = c .before .before .before .args in
+    let k = line-own (classAs (a .class)) (a .tag) (sym (c .before .before .is-own-line .ensures) ∙ c .before .if1 .taken) in
+    rw (k .1) (c .own-row .ensures (k .0))
 
 row-of-one-requires : tie.Need-row-of-one-requires
 row-of-one-requires c κs = search needs
 
-row-of-two-requires : tie.Need-row-of-two-requires
-row-of-two-requires c κs = search needs
-
-returns : tie.Need-returns
-unfolding table
-returns c = rw (c .before .enum-told .given .1) (c .row-of-one .ensures)
-
 returns-2 : tie.Need-returns-2
-unfolding table
-returns-2 c = rw (c .before .enum-told2 .given .1) (c .row-of-two .ensures)
+returns-2 c = let a = c .before .before .before .args in rw (line-shared (classAs (a .class)) (a .tag) (sym (c .before .before .is-own-line .ensures) ∙ c .before .if1 .left)) (c .row-of-one .ensures)
 
 pub row-of-spec : {M : Type 1} → statement M
 row-of-spec =
-    tie.close (tie.spec enum-told row-of-one-requires enum-told-2 row-of-two-requires returns returns-2)
+    tie.close
+    (tie.spec is-own-line-requires own-row-requires returns row-of-one-requires returns-2)
