@@ -1,4 +1,4 @@
-// One operator of a job read and performed, or the end of the job.
+// A job from where it stands on, operator by operator, to its end.
 mod advancing;
 
-pub use advancing::advance;
+pub use advancing::with_tables;

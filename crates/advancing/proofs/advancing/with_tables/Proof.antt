@@ -13,8 +13,8 @@ use Rattle.scope.specs.Verdict.{every, zeros}
 use Rattle.state.specs.Standing.{Stands}
 use Rattle.ruling.proofs.Turns.{turned-go, turned-stop}
 use borrow.Author.Needs.{needs}
-use Rattle.stepping.proofs.stepping.with_tables.Statement.{statement}
-use Rattle.stepping.proofs.stepping.with_tables.Tie as tie
+use Rattle.advancing.proofs.advancing.with_tables.Statement.{statement}
+use Rattle.advancing.proofs.advancing.with_tables.Tie as tie
 
 abbrev Inv-loop : tie.InvT-loop
 Inv-loop job set work₀ list₀ motifs₀ patterns₀ attrs₀ st₀ work list motifs patterns attrs st =
