@@ -3,6 +3,9 @@ use crate::likeness::are_alike;
 use crate::likeness::are_same;
 use listing::field;
 use listing::field_four;
+use names::attributes::STREAM_NAME;
+use names::operators::BEGIN_SESSION;
+use names::operators::BEGIN_STREAM;
 
 // A motif of the name in this session, one in an earlier session, one of a like name in this session, by its record, or none.
 pub enum Other {
@@ -33,13 +36,13 @@ fn is_defined(list: &[u8], i: usize) -> bool {
     if 100_000 < i {
         return false;
     }
-    if field(list, i, 1) != 139 {
+    if field(list, i, 1) != STREAM_NAME {
         return false;
     }
     if field(list, i, 0) != 1 {
         return false;
     }
-    field(list, i + 1, 1) == 0x5b
+    field(list, i + 1, 1) == BEGIN_STREAM
 }
 
 // Record i is BeginSession.
@@ -47,7 +50,7 @@ fn is_session(list: &[u8], i: usize) -> bool {
     if field(list, i, 0) != 2 {
         return false;
     }
-    field(list, i, 1) == 0x41
+    field(list, i, 1) == BEGIN_SESSION
 }
 
 // What record i makes of what was found before: a session that begins leaves no like name.

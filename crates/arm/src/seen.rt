@@ -14,6 +14,7 @@ ghost use Rattle.summary.specs.Sums.{Sums};
 ghost use Rattle.arm.specs.Rows.{endsAt, Kept};
 use counts::add;
 use counts::higher;
+use names::limits::PERFORMED_MOST;
 use page::page::Act;
 use page::page::Page;
 use page::page::Space;
@@ -80,7 +81,7 @@ impl Seen {
         ensures { λ r. ⌜ Holds r (from (pageAs page) performed) ⌝ }
     {
         let mut count: u32 = 1_000_001;
-        if performed <= 1_000_000 {
+        if performed <= PERFORMED_MOST {
             count = performed;
         }
         Seen {

@@ -5,11 +5,12 @@ use keeping::MANY;
 use motif::MISSING;
 use motif::ROW;
 use names::attributes::PATTERN_SELECT_ID;
+use names::limits::MOTIFS_MOST;
 use trail::COUNT;
 
 // The operator of a motif that a walk has come to selects a pattern that is not defined at a place of the job.
 fn is_bare(job: &[u8], to: usize, s: &[u8], attrs: &[usize; 80], st: &[usize; 16]) -> bool {
-    let high = number::byte_at(s, 0) == 0x28;
+    let high = trail::is_high(s);
     if !attributes::has(attrs, st[COUNT], PATTERN_SELECT_ID) {
         return false;
     }
@@ -25,7 +26,7 @@ fn through(
     attrs: &mut [usize; 80],
     st: &mut [usize; 16],
 ) -> usize {
-    let high = number::byte_at(s, 0) == 0x28;
+    let high = trail::is_high(s);
     let mut at = trail::begin(s);
     let mut turns = s.len();
     while 0 < turns {
@@ -66,7 +67,7 @@ fn inside(
 
 // The mark of a row, 1 or 0.
 fn note(motifs: &mut [usize; 704], k: usize, found: usize) {
-    if 63 < k {
+    if MOTIFS_MOST <= k {
         return;
     }
     motifs[k * ROW + MISSING] = found;

@@ -1,5 +1,6 @@
 // A ring of motifs, told by their names.
 use held::name_of;
+use names::limits::MOTIFS_MOST;
 use text::say;
 
 // Lines of cures for a ring of motifs, and for one that calls itself.
@@ -12,7 +13,7 @@ const RING_MOST: usize = 32;
 
 // The row that a motif of a ring calls.
 fn next_of(next: &[usize; 64], k: usize) -> usize {
-    if 63 < k {
+    if MOTIFS_MOST <= k {
         return rings::NOBODY;
     }
     next[k]

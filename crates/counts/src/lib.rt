@@ -1,13 +1,14 @@
 // Numbers that are kept up to a limit: past it, only that they are past it.
 ghost use mathlib.Core.Path.{_≡_};
 ghost use Prim.Native.Nat.{ℕ, _+_, _<_, min, max};
+use names::limits::PERFORMED_MOST;
 
 // A sum of counts; past 1,000,000 it is 1,000,001.
 pub fn add(n: u32, m: u32) -> u32
     ensures { λ r. ⌜ ((x y : ℕ) → n ≡ min x 1_000_001 → m ≡ min y 1_000_001 → r ≡ min (x + y) 1_000_001) ⌝ }
 {
-    if n <= 1_000_000 {
-        if m <= 1_000_000 - n {
+    if n <= PERFORMED_MOST {
+        if m <= PERFORMED_MOST - n {
             return n + m;
         }
     }

@@ -3,15 +3,16 @@ use names::attributes::BLOCK_HEIGHT;
 use names::attributes::NUMBER_OF_POINTS;
 use names::attributes::POINT_TYPE;
 use names::attributes::STREAM_DATA_LENGTH;
+use names::operators::READ_STREAM;
 use number::Width;
 use number::byte_at;
 use number::number_at;
 use trail::COUNT;
 use trail::DEPTH;
 use trail::PLACE;
-use trail::TAG;
 use trail::WIDTH;
 use trail::on;
+use trail::tag_of;
 
 // Where the item behind the operator's tag stands.
 fn item(s: &[u8], st: &[usize; 16]) -> usize {
@@ -55,14 +56,6 @@ fn points(kind: u32, many: usize) -> usize {
     times(many, 4)
 }
 
-// ReadImage and ReadRastPattern read rows.
-fn reads_rows(tag: usize) -> bool {
-    if tag == 0xb1 {
-        return true;
-    }
-    tag == 0xb4
-}
-
 // Of rows: BlockHeight of them, each filled up.
 fn rows(s: &[u8], high: bool, attrs: &[usize; 80], st: &[usize; 16]) -> usize {
     let n = st[COUNT];
@@ -79,10 +72,11 @@ fn rows(s: &[u8], high: bool, attrs: &[usize; 80], st: &[usize; 16]) -> usize {
 // The length that the operator asks for.
 pub fn asked(s: &[u8], high: bool, attrs: &[usize; 80], st: &[usize; 16]) -> usize {
     let n = st[COUNT];
-    if st[TAG] == 0x5c {
+    let tag = tag_of(st);
+    if tag == READ_STREAM {
         return attributes::value_in(s, high, attrs, n, STREAM_DATA_LENGTH) as usize;
     }
-    if reads_rows(st[TAG]) {
+    if due::reads_rows(tag) {
         return rows(s, high, attrs, st);
     }
     let kind = attributes::value_in(s, high, attrs, n, POINT_TYPE);

@@ -2,10 +2,11 @@
 use arm::seen::Seen;
 use down::performed;
 use keeping::keep;
+use names::operators::BEGIN_PAGE;
 use page::page::Page;
 use page::page::blank;
 use setting::Setting;
-use trail::TAG;
+use trail::tag_of;
 
 // The page after an operator of the job.
 fn after(
@@ -16,7 +17,7 @@ fn after(
     st: &mut [usize; 16],
     page: Page,
 ) -> Page {
-    if st[TAG] == 0x43 {
+    if tag_of(st) == BEGIN_PAGE {
         return blank(set.gray);
     }
     let seen = performed(job, set, motifs, attrs, st, Seen::from(page, 0));

@@ -4,20 +4,20 @@ use keeping::MANY;
 use motif::ROW;
 use motif::SUM;
 use motif::Where;
+use names::limits::MOTIFS_MOST;
+use names::operators::EXEC_STREAM;
 use setting::Setting;
 use trail::COUNT;
-use trail::TAG;
+use trail::tag_of;
 
 // The row of the motif that the operator calls, among the numbers of a walk; NONE if it calls none that is held.
 pub const CALLED: usize = 13;
 
 pub const NONE: usize = 64;
 
-pub const EXEC_STREAM: usize = 0x5e;
-
 // The row of the motif that an operator of s calls.
 fn row_in(s: &[u8], motifs: &[usize; 704], attrs: &[usize; 80], st: &[usize; 16]) -> usize {
-    if st[TAG] != EXEC_STREAM {
+    if tag_of(st) != EXEC_STREAM {
         return NONE;
     }
     let name = key::name_in(s, attrs, st[COUNT]);
@@ -31,7 +31,7 @@ fn row_in(s: &[u8], motifs: &[usize; 704], attrs: &[usize; 80], st: &[usize; 16]
 
 // What is seen after an operator that is no call.
 fn step(s: &[u8], set: Setting, attrs: &[usize; 80], st: &[usize; 16], seen: Seen) -> Seen {
-    let tag = (st[TAG] % 256) as u8;
+    let tag = tag_of(st);
     let reads = data::is_told(s, st);
     seen.step(act::act_of(s, set.high, set.gray, tag, reads, attrs, st[COUNT]))
 }
@@ -52,7 +52,7 @@ pub fn performed(
 ) -> Seen {
     note_called(s, motifs, attrs, st);
     let k = st[CALLED];
-    if k < 64 {
+    if k < MOTIFS_MOST {
         return seen.call(summary::unpacked(motifs[k * ROW + SUM]));
     }
     step(s, set, attrs, st, seen)

@@ -1,6 +1,5 @@
 // Down from motif to motif, to the first operator that breaks the rule of a code.
 use crate::call::CALLED;
-use crate::call::EXEC_STREAM;
 use crate::call::NONE;
 use crate::call::performed;
 use arm::seen::Seen;
@@ -9,16 +8,20 @@ use keeping::MANY;
 use motif::LENGTH;
 use motif::ROW;
 use motif::START;
+use names::limits::MOTIFS_MOST;
+use names::limits::NESTING_MOST;
+use names::limits::SAVED_MOST;
+use names::operators::EXEC_STREAM;
 use page::page::Page;
 use setting::Setting;
-use trail::TAG;
+use trail::tag_of;
 
 // The code of the rule, among the numbers of a walk.
 pub const CODE: usize = 15;
 
 // The operator that a walk has come to calls a name that is not held.
 fn is_lost(st: &[usize; 16]) -> bool {
-    if st[TAG] != EXEC_STREAM {
+    if tag_of(st) != EXEC_STREAM {
         return false;
     }
     st[CALLED] == NONE
@@ -29,7 +32,7 @@ fn is_broken(code: usize, st: &[usize; 16], seen: Seen) -> bool {
     match code {
         17 => seen.source,
         21 => is_lost(st),
-        23 => 24 < seen.most,
+        23 => SAVED_MOST < seen.most,
         24 => seen.lost,
         _ => seen.wrong,
     }
@@ -40,7 +43,7 @@ fn in_motif(s: &[u8], set: Setting) -> Setting {
     let class = set.class;
     Setting {
         class,
-        high: number::byte_at(s, 0) == 0x28,
+        high: trail::is_high(s),
         gray: set.gray,
     }
 }
@@ -76,7 +79,7 @@ fn through(
 
 // The bytes of the motif of a row.
 pub fn bytes_of(motifs: &[usize; 704], k: usize) -> Part {
-    if 63 < k {
+    if MOTIFS_MOST <= k {
         return Part { first: 0, count: 0 };
     }
     Part {
@@ -117,7 +120,7 @@ pub fn down(
 ) -> usize {
     let mut page = start;
     let mut k = st[CALLED];
-    let mut turns: usize = 32;
+    let mut turns = NESTING_MOST;
     while 0 < turns {
         turns -= 1;
         page = inside(set, store, motifs, page, attrs, st);

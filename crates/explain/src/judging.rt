@@ -1,6 +1,7 @@
 // The line of a job.
 use asked::Asked;
 use listing::gather;
+use names::operators::EXEC_STREAM;
 use state::Verdict;
 use text::say;
 
@@ -65,7 +66,7 @@ fn is_inner(code: u32) -> bool {
 
 // A call is refused by what it comes to.
 fn is_call(job: &[u8], v: Verdict) -> bool {
-    if number::byte_at(job, v.position as usize) != 0x5e {
+    if number::byte_at(job, v.position as usize) != EXEC_STREAM {
         return false;
     }
     is_inner(v.code)

@@ -64,7 +64,7 @@ fn pattern_in(s: &[u8], high: bool, attrs: &[usize; 80], n: usize) -> u32 {
 
 // The facts of the operator that a walk has found, and of the value at a place before it.
 pub fn facts_in(s: &[u8], at: usize, attrs: &[usize; 80], st: &[usize; 16]) -> Facts {
-    let high = byte_at(s, 0) == 0x28;
+    let high = trail::is_high(s);
     let n = st[COUNT];
     let class = trail::class_in(s);
     let tag = (st[TAG] % 256) as u8;

@@ -1,5 +1,8 @@
 // A fault of a job or of a motif: its cause and its cure.
 use facts::Facts;
+use names::attributes::BLOCK_BYTE_LENGTH;
+use names::attributes::MEDIA_TYPE;
+use names::attributes::PAD_BYTES_MULTIPLE;
 use setting::Class;
 use text::number;
 use text::say;
@@ -13,12 +16,15 @@ const ATTRIBUTE_OF_TWO: usize = 71;
 // An attribute of class 2;1 stands in a job of class 1;1.
 fn is_of_two(class: Class, number: usize) -> bool {
     match class {
-        Class::One => match number {
-            39 => true,
-            110 => true,
-            111 => true,
-            _ => false,
-        },
+        Class::One => {
+            if number == MEDIA_TYPE as usize {
+                return true;
+            }
+            if number == PAD_BYTES_MULTIPLE as usize {
+                return true;
+            }
+            number == BLOCK_BYTE_LENGTH as usize
+        }
         Class::Two => false,
     }
 }

@@ -1,10 +1,16 @@
 // Whether a pattern is defined at a place of a job, and if not, with what it ended.
 use names::attributes::PATTERN_DEFINE_ID;
 use names::attributes::PATTERN_PERSISTENCE;
+use names::operators::BEGIN_RAST_PATTERN;
+use names::operators::END_PAGE;
+use names::operators::END_RAST_PATTERN;
+use names::operators::END_SESSION;
 use trail::COUNT;
 use trail::TAG;
 use trail::begin;
+use trail::is_high;
 use trail::pass;
+use trail::tag_of;
 
 // It is defined, for the page or for the session; it was, for the page before, for an earlier page, or in an earlier session; or it never was.
 pub enum Until {
@@ -80,17 +86,17 @@ fn note(
     st: &[usize; 16],
     h: &mut [usize; 4],
 ) {
-    match st[TAG] {
-        0x42 => {
+    match tag_of(st) {
+        END_SESSION => {
             h[PAST] = past_session(h[IN_SESSION], h[PAST]);
             h[IN_SESSION] = 0;
         }
-        0x44 => {
+        END_PAGE => {
             h[PAST] = past_page(h[ON_PAGE], h[PAST]);
             h[ON_PAGE] = 0;
         }
-        0xb3 => h[BEGUN] = begun(s, high, number, attrs, st[COUNT]),
-        0xb5 => define(h),
+        BEGIN_RAST_PATTERN => h[BEGUN] = begun(s, high, number, attrs, st[COUNT]),
+        END_RAST_PATTERN => define(h),
         _ => {}
     }
 }
@@ -113,7 +119,7 @@ fn told(h: &[usize; 4]) -> Until {
 
 // How matters stand with the pattern of a number before the operator at a place of the job.
 pub fn hatched(job: &[u8], to: usize, number: u32) -> Until {
-    let high = number::byte_at(job, 0) == 0x28;
+    let high = is_high(job);
     let mut attrs = [0usize; 80];
     let mut st = [0usize; 16];
     let mut h = [0usize; 4];

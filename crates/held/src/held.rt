@@ -9,7 +9,7 @@ use text::say;
 
 // The operators that a motif has itself.
 fn operators(s: &[u8]) -> usize {
-    let high = number::byte_at(s, 0) == 0x28;
+    let high = trail::is_high(s);
     let mut attrs = [0usize; 80];
     let mut st = [0usize; 16];
     let mut many: usize = 0;
@@ -44,7 +44,7 @@ fn small(n: usize) -> u32 {
 
 // The line of the motif of a row: its name, its number, and how many bytes and operators it has.
 fn line(store: &[u8], motifs: &[usize; 704], k: usize) {
-    if 63 < k {
+    if MOTIFS_MOST <= k {
         return;
     }
     let bytes = motifs[k * ROW + LENGTH];
@@ -62,7 +62,7 @@ fn line(store: &[u8], motifs: &[usize; 704], k: usize) {
 
 // The row that stands at a place of the order of names.
 fn row_at(motifs: &[usize; 704], place: usize) -> usize {
-    if 63 < place {
+    if MOTIFS_MOST <= place {
         return 0;
     }
     motifs[ORDER + place] % MOTIFS_MOST

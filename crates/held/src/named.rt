@@ -1,5 +1,6 @@
 // The names of held motifs, from their table.
 use motif::ROW;
+use names::limits::MOTIFS_MOST;
 
 // Eight letters of a name, of which these are the number and how many stand behind the one that is wanted.
 fn letter(eight: usize, behind: usize) -> u8 {
@@ -40,7 +41,7 @@ fn name(first: usize, next: usize, many: usize) {
 
 // Says the name of the motif of a row.
 pub fn name_of(motifs: &[usize; 704], k: usize) {
-    if 63 < k {
+    if MOTIFS_MOST <= k {
         return;
     }
     name(motifs[k * ROW], motifs[k * ROW + 1], motifs[k * ROW + 2]);

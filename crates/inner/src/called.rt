@@ -5,6 +5,7 @@ use breach::of_lacking;
 use breach::of_ring;
 use down::Breach;
 use fault::of_job;
+use names::limits::MOTIFS_MOST;
 
 // Of a call that comes to an operator of a motif, of which these are the bytes.
 fn of_inner(
@@ -39,7 +40,7 @@ pub fn of_call(
     let mut attrs = [0usize; 80];
     let mut st = [0usize; 16];
     let b = descent::breach_in(job, code, at, gray, store, &mut motifs, &mut attrs, &mut st);
-    if 63 < b.motif {
+    if MOTIFS_MOST <= b.motif {
         of_job(job, list, records, code, at);
         return;
     }

@@ -1,10 +1,15 @@
 // The motifs that a session holds: their table, and their bytes in the store, one behind the other, with those of the one that is being read behind them.
 use attributes::Part;
 use motif::Kept;
+use names::operators::BEGIN_SESSION;
+use names::operators::BEGIN_STREAM;
+use names::operators::END_STREAM;
+use names::operators::READ_STREAM;
 use setting::Setting;
 use trail::BEHIND;
 use trail::COUNT;
-use trail::TAG;
+use trail::is_high;
+use trail::tag_of;
 use within::Judged;
 
 // How many are held, among the numbers of a walk.
@@ -47,7 +52,7 @@ fn joined_after(
     joined: usize,
 ) -> usize {
     let end = st[BEHIND];
-    let count = data::told(job, number::byte_at(job, 0) == 0x28, st) as usize;
+    let count = data::told(job, is_high(job), st) as usize;
     if job.len() < end {
         return joined;
     }
@@ -137,11 +142,11 @@ fn after(
     st: &[usize; 16],
     now: Keeping,
 ) -> Keeping {
-    match st[TAG] {
-        0x41 => none(),
-        0x5b => begin_stream(job, attrs, st, now.kept),
-        0x5c => read_stream(job, store, st, now),
-        0x5d => end_stream(job, set, store, motifs, now),
+    match tag_of(st) {
+        BEGIN_SESSION => none(),
+        BEGIN_STREAM => begin_stream(job, attrs, st, now.kept),
+        READ_STREAM => read_stream(job, store, st, now),
+        END_STREAM => end_stream(job, set, store, motifs, now),
         _ => now,
     }
 }

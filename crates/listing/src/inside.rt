@@ -3,6 +3,9 @@ ghost use mathlib.Core.Path.{_≡_};
 ghost use lib.ListN.{length};
 use crate::records::field;
 use crate::records::field_four;
+use names::attributes::STREAM_NAME;
+use names::operators::BEGIN_STREAM;
+use names::operators::READ_STREAM;
 use phrase::after;
 
 // A block of a motif is joined to the bytes before it; the answer is how many bytes that makes.
@@ -23,8 +26,8 @@ fn onward(job: &[u8], list: &[u8], i: usize, motif: &mut [u8], used: usize) -> u
         return used;
     }
     match field(list, i, 1) {
-        0x5b => 0,
-        0x5c => block(
+        BEGIN_STREAM => 0,
+        READ_STREAM => block(
             job,
             field_four(list, i, 12) as usize,
             field_four(list, i, 8) as usize,
@@ -53,7 +56,11 @@ fn named(list: &[u8], i: usize, so_far: usize) -> usize {
     if field(list, i, 0) != 1 {
         return so_far;
     }
-    if field(list, i, 1) == 139 { i } else { so_far }
+    if field(list, i, 1) == STREAM_NAME {
+        i
+    } else {
+        so_far
+    }
 }
 
 // Says the motif's name: the last StreamName of the list, since nothing but ReadStream comes behind it.

@@ -1,6 +1,14 @@
 // The operators of a job with their attributes, a line each, indented by session, page and motif definition.
 use crate::records::field;
 use crate::records::field_four;
+use names::attributes::COMMENT_DATA;
+use names::attributes::STREAM_NAME;
+use names::operators::BEGIN_PAGE;
+use names::operators::BEGIN_SESSION;
+use names::operators::BEGIN_STREAM;
+use names::operators::END_PAGE;
+use names::operators::END_SESSION;
+use names::operators::END_STREAM;
 use phrase::value;
 use text::say;
 
@@ -18,9 +26,9 @@ fn depth_at(tag: u8, depth: u32) -> u32 {
         return 0;
     }
     match tag {
-        0x42 => depth - 1,
-        0x44 => depth - 1,
-        0x5d => depth - 1,
+        END_SESSION => depth - 1,
+        END_PAGE => depth - 1,
+        END_STREAM => depth - 1,
         _ => depth,
     }
 }
@@ -31,19 +39,19 @@ fn depth_behind(tag: u8, depth: u32) -> u32 {
         return depth;
     }
     match tag {
-        0x41 => depth + 1,
-        0x43 => depth + 1,
-        0x5b => depth + 1,
+        BEGIN_SESSION => depth + 1,
+        BEGIN_PAGE => depth + 1,
+        BEGIN_STREAM => depth + 1,
         _ => depth,
     }
 }
 
 // StreamName and CommentData are said as text.
 fn is_text(n: u8) -> bool {
-    if n == 139 {
+    if n == STREAM_NAME {
         return true;
     }
-    n == 129
+    n == COMMENT_DATA
 }
 
 // The attribute of record j.

@@ -5,6 +5,7 @@ use crate::toward::toward;
 use motif::MISSING;
 use motif::ROW;
 use motif::in_use;
+use names::limits::MOTIFS_MOST;
 
 // No row.
 pub const NOBODY: usize = 64;
@@ -25,7 +26,7 @@ fn between(steps: &[usize; 64], from: usize, to: usize) -> usize
     if from == to {
         return 0;
     }
-    if 63 < from {
+    if MOTIFS_MOST <= from {
         return FAR;
     }
     within(steps[from])
@@ -52,7 +53,7 @@ fn one(mark: usize) -> usize
 fn added(motifs: &[usize; 704], steps: &[usize; 64], row: usize, kind: Kind) -> usize
     ensures { λ r. ⌜ r ≤ 1000 ⌝ }
 {
-    if 63 < row {
+    if MOTIFS_MOST <= row {
         return FAR;
     }
     match kind {

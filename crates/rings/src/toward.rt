@@ -3,13 +3,14 @@ use key::has_mark;
 use motif::CALLS;
 use motif::ROW;
 use motif::in_use;
+use names::limits::MOTIFS_MOST;
 
 // As many calls as count: one for each motif that may run at a time.
 pub const CALLS_MOST: usize = 32;
 
 // The motif of row x calls that of row y.
 fn calls(motifs: &[usize; 704], x: usize, y: usize) -> bool {
-    if 63 < x {
+    if MOTIFS_MOST <= x {
         return false;
     }
     has_mark(motifs[x * ROW + CALLS], y)
@@ -30,7 +31,7 @@ fn leads(
     if t <= 1 {
         return y == goal;
     }
-    if 63 < y {
+    if MOTIFS_MOST <= y {
         return false;
     }
     steps[y] == t - 1
@@ -66,7 +67,7 @@ fn mark(
     next: &mut [usize; 64],
     steps: &mut [usize; 64],
 ) {
-    if 63 < x {
+    if MOTIFS_MOST <= x {
         return;
     }
     if steps[x] != 0 {

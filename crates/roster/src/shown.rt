@@ -4,12 +4,13 @@ use keeping::Keeping;
 use keeping::MANY;
 use keeping::keep;
 use listing::field;
+use names::operators::END_SESSION;
 use setting::Setting;
-use trail::TAG;
+use trail::tag_of;
 
 // Behind EndSession the motifs that the session held.
 fn behind(store: &[u8], motifs: &[usize; 704], st: &[usize; 16]) {
-    if st[TAG] == 0x42 {
+    if tag_of(st) == END_SESSION {
         motifs_held(store, motifs, st[MANY]);
     }
 }

@@ -1,4 +1,8 @@
 // What the table asks of an operator's attributes, in words.
+use names::operators::READ_IMAGE;
+use names::operators::READ_RAST_PATTERN;
+use names::operators::SET_BRUSH_SOURCE;
+use names::operators::SET_PEN_SOURCE;
 use phrase::attribute;
 use phrase::operator;
 use setting::Class;
@@ -104,10 +108,10 @@ fn rows_of(class: Class) {
 // Says what an operator with a choice of attributes may have in a class.
 pub fn choice(class: Class, tag: u8) {
     match tag {
-        0x63 => say(b"give one of RGBColor, GrayLevel, NullBrush and PatternSelectID"),
-        0x79 => say(b"give one of RGBColor, GrayLevel and NullPen"),
-        0xb1 => rows_of(class),
-        0xb4 => rows_of(class),
+        SET_BRUSH_SOURCE => say(b"give one of RGBColor, GrayLevel, NullBrush and PatternSelectID"),
+        SET_PEN_SOURCE => say(b"give one of RGBColor, GrayLevel and NullPen"),
+        READ_IMAGE => rows_of(class),
+        READ_RAST_PATTERN => rows_of(class),
         _ => say(b"give EndPoint alone, or NumberOfPoints and PointType"),
     }
 }

@@ -3,6 +3,22 @@ use names::attributes::BLOCK_HEIGHT;
 use names::attributes::COLOR_DEPTH;
 use names::attributes::SOURCE_HEIGHT;
 use names::attributes::SOURCE_WIDTH;
+use names::operators::BEGIN_IMAGE;
+use names::operators::BEGIN_PAGE;
+use names::operators::BEGIN_RAST_PATTERN;
+use names::operators::BEGIN_SESSION;
+use names::operators::BEGIN_STREAM;
+use names::operators::CLOSE_DATA_SOURCE;
+use names::operators::END_IMAGE;
+use names::operators::END_PAGE;
+use names::operators::END_RAST_PATTERN;
+use names::operators::END_SESSION;
+use names::operators::END_STREAM;
+use names::operators::OPEN_DATA_SOURCE;
+use names::operators::POP_GS;
+use names::operators::PUSH_GS;
+use names::operators::READ_IMAGE;
+use names::operators::READ_RAST_PATTERN;
 
 // Between sessions, in a session, in a motif's definition, in a page, in an image, in a pattern.
 pub const PHASE: usize = 0;
@@ -67,28 +83,28 @@ fn less(n: usize) -> usize {
 // What an operator changes.
 pub fn step(s: &[u8], high: bool, tag: u8, attrs: &[usize; 80], n: usize, st: &mut [usize; 16]) {
     match tag {
-        0x41 => st[PHASE] = SESSION,
-        0x42 => st[PHASE] = BETWEEN,
-        0x43 => st[PHASE] = PAGE,
-        0x44 => st[PHASE] = SESSION,
-        0x48 => st[OPENED] = 1,
-        0x49 => st[OPENED] = 0,
-        0x5b => st[PHASE] = STREAM,
-        0x5d => st[PHASE] = SESSION,
-        0x60 => st[SAVED] = less(st[SAVED]),
-        0x61 => st[SAVED] = more(st[SAVED], 1),
-        0xb0 => {
+        BEGIN_SESSION => st[PHASE] = SESSION,
+        END_SESSION => st[PHASE] = BETWEEN,
+        BEGIN_PAGE => st[PHASE] = PAGE,
+        END_PAGE => st[PHASE] = SESSION,
+        OPEN_DATA_SOURCE => st[OPENED] = 1,
+        CLOSE_DATA_SOURCE => st[OPENED] = 0,
+        BEGIN_STREAM => st[PHASE] = STREAM,
+        END_STREAM => st[PHASE] = SESSION,
+        POP_GS => st[SAVED] = less(st[SAVED]),
+        PUSH_GS => st[SAVED] = more(st[SAVED], 1),
+        BEGIN_IMAGE => {
             begin_rows(s, high, attrs, n, st);
             st[PHASE] = IMAGE;
         }
-        0xb1 => st[ROWS] = more(st[ROWS], value(s, high, attrs, n, BLOCK_HEIGHT)),
-        0xb2 => st[PHASE] = PAGE,
-        0xb3 => {
+        READ_IMAGE => st[ROWS] = more(st[ROWS], value(s, high, attrs, n, BLOCK_HEIGHT)),
+        END_IMAGE => st[PHASE] = PAGE,
+        BEGIN_RAST_PATTERN => {
             begin_rows(s, high, attrs, n, st);
             st[PHASE] = PATTERN;
         }
-        0xb4 => st[ROWS] = more(st[ROWS], value(s, high, attrs, n, BLOCK_HEIGHT)),
-        0xb5 => st[PHASE] = PAGE,
+        READ_RAST_PATTERN => st[ROWS] = more(st[ROWS], value(s, high, attrs, n, BLOCK_HEIGHT)),
+        END_RAST_PATTERN => st[PHASE] = PAGE,
         _ => {}
     }
 }

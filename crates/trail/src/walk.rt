@@ -23,6 +23,16 @@ pub const PLACE: usize = 11;
 // The place behind it and its data.
 pub const BEHIND: usize = 12;
 
+// The tag of the operator that a walk has come to; of none 0.
+pub fn tag_of(st: &[usize; 16]) -> u8 {
+    (st[TAG] % 256) as u8
+}
+
+// Numbers stand with their high byte first.
+pub fn is_high(s: &[u8]) -> bool {
+    byte_at(s, 0) == 0x28
+}
+
 // The place k bytes on, within what a job has.
 pub fn on(at: usize, k: usize) -> usize {
     if 1_000_000 < at {
@@ -143,7 +153,7 @@ pub fn setting_in(job: &[u8], gray: bool) -> Setting {
     let class = class_in(job);
     Setting {
         class,
-        high: byte_at(job, 0) == 0x28,
+        high: is_high(job),
         gray,
     }
 }

@@ -1,8 +1,11 @@
 // The search for a name behind the last operator of a job's list.
 use listing::field_four;
+use names::operators::BEGIN_STREAM;
+use names::operators::END_SESSION;
 use trail::COUNT;
 use trail::PLACE;
-use trail::TAG;
+use trail::is_high;
+use trail::tag_of;
 
 // A motif of the name is defined later, at a place, in this session or in another; or nowhere.
 pub enum Later {
@@ -22,7 +25,7 @@ fn end_of(list: &[u8], i: usize) -> usize {
 
 // The operator that a walk has come to defines a motif of the name.
 fn is_defined(job: &[u8], name: &[u8], attrs: &[usize; 80], st: &[usize; 16]) -> bool {
-    if st[TAG] != 0x5b {
+    if tag_of(st) != BEGIN_STREAM {
         return false;
     }
     let part = key::name_in(job, attrs, st[COUNT]);
@@ -46,13 +49,13 @@ fn found(over: bool, place: usize) -> Later {
 }
 
 // Whether the session is over behind an operator.
-fn is_over(over: bool, tag: usize) -> bool {
-    if tag == 0x42 { true } else { over }
+fn is_over(over: bool, tag: u8) -> bool {
+    if tag == END_SESSION { true } else { over }
 }
 
 // From a place on.
 fn from(job: &[u8], start: usize, name: &[u8]) -> Later {
-    let high = number::byte_at(job, 0) == 0x28;
+    let high = is_high(job);
     let mut attrs = [0usize; 80];
     let mut st = [0usize; 16];
     let mut over = false;
@@ -67,7 +70,7 @@ fn from(job: &[u8], start: usize, name: &[u8]) -> Later {
         if is_defined(job, name, &attrs, &st) {
             return found(over, st[PLACE]);
         }
-        over = is_over(over, st[TAG]);
+        over = is_over(over, tag_of(&st));
         at = next;
     }
     Later::Nowhere

@@ -1,6 +1,20 @@
 // Which sentence says why: the line of the code itself, or a line further down that says more.
 use hatched::Until;
 use hatched::hatched;
+use names::operators::BEGIN_IMAGE;
+use names::operators::BEGIN_SESSION;
+use names::operators::CLOSE_DATA_SOURCE;
+use names::operators::END_IMAGE;
+use names::operators::END_PAGE;
+use names::operators::END_RAST_PATTERN;
+use names::operators::END_SESSION;
+use names::operators::END_STREAM;
+use names::operators::OPEN_DATA_SOURCE;
+use names::operators::POP_GS;
+use names::operators::READ_IMAGE;
+use names::operators::READ_RAST_PATTERN;
+use names::operators::READ_STREAM;
+use names::operators::SET_DEFAULT_GS;
 use trail::BETWEEN;
 use trail::IMAGE;
 use trail::MOTIF;
@@ -12,6 +26,7 @@ use trail::SESSION;
 use trail::START;
 use trail::STREAM;
 use trail::TAG;
+use trail::tag_of;
 
 const NO_SESSION: usize = 37;
 
@@ -101,14 +116,14 @@ const MAY_COME: usize = 87;
 const MAY_COME_IN_A_MOTIF: usize = 93;
 
 // Of 10 in a session.
-fn session_line(tag: usize) -> usize {
+fn session_line(tag: u8) -> usize {
     match tag {
-        0x41 => IN_A_SESSION,
-        0x42 => STILL_OPEN,
-        0x48 => OPEN_TWICE,
-        0x49 => CLOSE_TWICE,
-        0x5c => NO_STREAM,
-        0x5d => NO_STREAM,
+        BEGIN_SESSION => IN_A_SESSION,
+        END_SESSION => STILL_OPEN,
+        OPEN_DATA_SOURCE => OPEN_TWICE,
+        CLOSE_DATA_SOURCE => CLOSE_TWICE,
+        READ_STREAM => NO_STREAM,
+        END_STREAM => NO_STREAM,
         _ => NO_PAGE,
     }
 }
@@ -123,40 +138,40 @@ fn pattern_line(motif: usize) -> usize {
 }
 
 // Of 10 in an image.
-fn image_line(tag: usize) -> usize {
+fn image_line(tag: u8) -> usize {
     match tag {
-        0xb2 => ROWS_MISSING,
-        0xb4 => NOT_OF_AN_IMAGE,
-        0xb5 => NOT_OF_AN_IMAGE,
+        END_IMAGE => ROWS_MISSING,
+        READ_RAST_PATTERN => NOT_OF_AN_IMAGE,
+        END_RAST_PATTERN => NOT_OF_AN_IMAGE,
         _ => IN_AN_IMAGE,
     }
 }
 
 // Of 10 in a pattern.
-fn in_pattern_line(tag: usize) -> usize {
+fn in_pattern_line(tag: u8) -> usize {
     match tag {
-        0xb1 => NOT_OF_A_PATTERN,
-        0xb2 => NOT_OF_A_PATTERN,
-        0xb5 => PATTERN_ROWS_MISSING,
+        READ_IMAGE => NOT_OF_A_PATTERN,
+        END_IMAGE => NOT_OF_A_PATTERN,
+        END_RAST_PATTERN => PATTERN_ROWS_MISSING,
         _ => IN_A_PATTERN,
     }
 }
 
 // Of 10 in a page, or in a motif.
-fn page_line(tag: usize, motif: usize) -> usize {
-    if tag == 0x60 {
+fn page_line(tag: u8, motif: usize) -> usize {
+    if tag == POP_GS {
         return NOTHING_SAVED;
     }
-    if 0xb2 < tag {
+    if END_IMAGE < tag {
         return pattern_line(motif);
     }
-    if 0xb0 < tag {
+    if BEGIN_IMAGE < tag {
         return NO_IMAGE;
     }
     if motif == 1 {
         return IN_A_MOTIF;
     }
-    if tag == 0x44 {
+    if tag == END_PAGE {
         return STILL_SAVED;
     }
     IN_A_PAGE
@@ -164,7 +179,7 @@ fn page_line(tag: usize, motif: usize) -> usize {
 
 // Of 10.
 fn order_line(st: &[usize; 16]) -> usize {
-    let tag = st[TAG];
+    let tag = tag_of(st);
     let phase = st[PHASE];
     if phase == BETWEEN {
         return NO_SESSION_YET;
@@ -218,8 +233,8 @@ fn open_line(s: &[u8], st: &[usize; 16]) -> usize {
 }
 
 // Of 17.
-fn source_line(tag: usize) -> usize {
-    if tag == 0x5c { READ_CLOSED } else { 17 }
+fn source_line(tag: u8) -> usize {
+    if tag == READ_STREAM { READ_CLOSED } else { 17 }
 }
 
 // Of 18.
@@ -237,17 +252,21 @@ fn class_line(motif: usize) -> usize {
 }
 
 // Of 9.
-fn unknown_line(tag: usize) -> usize {
-    if tag == 0x57 { OPERATOR_OF_TWO } else { 9 }
+fn unknown_line(tag: u8) -> usize {
+    if tag == SET_DEFAULT_GS {
+        OPERATOR_OF_TWO
+    } else {
+        9
+    }
 }
 
 // The line of a code; those from 30 on are none of a code's own.
 pub fn line_of(code: u32, s: &[u8], st: &[usize; 16]) -> usize {
     match code {
         4 => class_line(st[MOTIF]),
-        9 => unknown_line(st[TAG]),
+        9 => unknown_line(tag_of(st)),
         10 => order_line(st),
-        17 => source_line(st[TAG]),
+        17 => source_line(tag_of(st)),
         18 => data_line(s, st),
         27 => open_line(s, st),
         32 => RING,
