@@ -10,8 +10,8 @@ Inv-loop s high attrs₀ st₀ many₀ at₀ turns₀ attrs st many at turns = U
 abbrev μ-loop : tie.MeasureT-loop
 μ-loop s high attrs₀ st₀ many₀ at₀ turns₀ attrs st many at turns = turns
 
-byte-at-requires : tie.Need-byte-at-requires Inv-loop μ-loop
-byte-at-requires c κs = search needs
+is-high-requires : tie.Need-is-high-requires Inv-loop μ-loop
+is-high-requires c κs = search needs
 
 begin-requires : tie.Need-begin-requires Inv-loop μ-loop
 begin-requires c κs = search needs
@@ -46,7 +46,7 @@ operators-spec =
     (tie.spec
     Inv-loop
     μ-loop
-    byte-at-requires
+    is-high-requires
     begin-requires
     loop-holds
     sub-turns

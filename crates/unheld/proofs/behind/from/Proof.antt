@@ -10,8 +10,8 @@ Inv-loop job start name high attrs₀ st₀ over₀ at₀ turns₀ attrs st over
 abbrev μ-loop : tie.MeasureT-loop
 μ-loop job start name high attrs₀ st₀ over₀ at₀ turns₀ attrs st over at turns = turns
 
-byte-at-requires : tie.Need-byte-at-requires Inv-loop μ-loop
-byte-at-requires c κs = search needs
+is-high-requires : tie.Need-is-high-requires Inv-loop μ-loop
+is-high-requires c κs = search needs
 
 loop-holds : tie.Need-loop-holds Inv-loop μ-loop
 loop-holds c = search needs
@@ -37,8 +37,8 @@ found-requires c κs = search needs
 returns-2 : tie.Need-returns-2 Inv-loop μ-loop
 returns-2 c = search needs
 
-array-read-is-over : tie.Need-array-read-is-over Inv-loop μ-loop
-array-read-is-over c = search needs
+tag-of-requires : tie.Need-tag-of-requires Inv-loop μ-loop
+tag-of-requires c κs = search needs
 
 is-over-requires : tie.Need-is-over-requires Inv-loop μ-loop
 is-over-requires c κs = search needs
@@ -58,7 +58,7 @@ from-spec =
     (tie.spec
     Inv-loop
     μ-loop
-    byte-at-requires
+    is-high-requires
     loop-holds
     sub-turns
     pass-requires
@@ -67,7 +67,7 @@ from-spec =
     array-read-found
     found-requires
     returns-2
-    array-read-is-over
+    tag-of-requires
     is-over-requires
     loop-less
     loop-again
