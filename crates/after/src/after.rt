@@ -110,7 +110,7 @@ fn drawn_on(
 }
 
 // What the rules let pass: what the operator goes on with, and the page after it.
-#[derive(Drop)]
+#[derive(Clone, Copy)]
 pub struct Passed {
     pub early: Early,
     pub page: Page,

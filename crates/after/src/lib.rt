@@ -1,4 +1,5 @@
 // Where a job stands after an operator that no rule refuses.
+#![tactic(auto)]
 mod after;
 mod hatching;
 

@@ -1,4 +1,5 @@
 // Names of motifs that a job has defined, by its records, next to a name that is looked for.
+#![tactic(auto)]
 mod likeness;
 mod search;
 

@@ -5,7 +5,7 @@ use names::attributes::STREAM_NAME;
 use names::operators::{BEGIN_SESSION, BEGIN_STREAM};
 
 // A motif of the name in this session, one in an earlier session, one of a like name in this session, by its record, or none.
-#[derive(Drop)]
+#[derive(Clone, Copy)]
 pub enum Other {
     Here,
     Earlier,

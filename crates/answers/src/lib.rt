@@ -1,4 +1,5 @@
 // Answers as lines of numbers, as verdict and vectors print them, checksums of the buffers, and how vectors reads a job among many.
+#![tactic(auto)]
 mod line;
 mod reading;
 mod sums;

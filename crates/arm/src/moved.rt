@@ -13,7 +13,7 @@ use page::page::{Act, Page};
 use summary::Summary;
 
 // The page after it and the number performed, or the code of the refusal.
-#[derive(Drop)]
+#[derive(Clone, Copy)]
 pub enum Moved {
     To(Page, u32),
     No(u32),

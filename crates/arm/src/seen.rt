@@ -16,7 +16,7 @@ use summary::{Ending, Summary};
 
 // The page; the operators performed (past 1,000,000 always 1,000,001); the most states saved right after a PushGS (past 24 always 25); whether an open source
 // was needed, a cursor needed and not set, a colour space needed and another set. The patterns that were selected are not kept here.
-#[derive(Drop)]
+#[derive(Clone, Copy)]
 pub struct Seen {
     pub page: Page,
     pub count: u32,

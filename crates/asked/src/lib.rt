@@ -1,8 +1,9 @@
 // What the words of the command ask for: `list` for the operators of each job behind it, `rgb` for pages that start in RGB.
+#![tactic(auto)]
 use text::say;
 
 // The operators too, and pages that start in gray, or else in RGB.
-#[derive(Drop)]
+#[derive(Clone, Copy)]
 pub struct Asked {
     pub listed: bool,
     pub gray: bool,
@@ -17,7 +18,7 @@ pub fn nothing() -> Asked {
 }
 
 // An argument: one of the two words, or a name.
-#[derive(Drop)]
+#[derive(Clone, Copy)]
 enum Word {
     List,
     Rgb,

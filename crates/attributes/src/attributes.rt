@@ -7,7 +7,7 @@ ghost use Rattle.attributes.specs.Places.{place_of};
 use reals::{long_at, numbers_at, whole};
 
 // A part of the bytes: where it starts, and how long it is.
-#[derive(Drop)]
+#[derive(Clone, Copy)]
 pub struct Part {
     pub first: usize,
     pub count: usize,

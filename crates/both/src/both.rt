@@ -14,7 +14,7 @@ use counts::capped;
 use page::page::{Act, Page};
 use summary::{Ending, Summary};
 
-#[derive(Drop)]
+#[derive(Clone, Copy)]
 pub struct Both {
     pub a: Seen,
     pub b: Seen,

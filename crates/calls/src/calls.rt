@@ -12,7 +12,7 @@ use crate::why::why_not;
 use motif::{LEVEL, ROW, SUM, Where, find};
 
 // Its motif's summary, and whether a pattern that is selected there is not defined; or a code: 21, 32 or 22.
-#[derive(Drop)]
+#[derive(Clone, Copy)]
 pub enum Called {
     Sum(usize, bool),
     No(u32),

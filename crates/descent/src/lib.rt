@@ -1,4 +1,5 @@
 // From a refused call down through the motifs to the operator that breaks the rule of its code.
+#![tactic(auto)]
 mod before;
 mod breach;
 

@@ -13,7 +13,7 @@ use names::attributes::{
 use names::operators::{LINE_PATH, LINE_REL_PATH, READ_IMAGE, READ_RAST_PATTERN, READ_STREAM};
 
 // An image that is being read, or a pattern.
-#[derive(Drop)]
+#[derive(Clone, Copy)]
 pub struct Image {
     pub width: u16,
     pub depth: u16,
@@ -22,7 +22,7 @@ pub struct Image {
 }
 
 // So many bytes, or none if the operator reads none.
-#[derive(Drop)]
+#[derive(Clone, Copy)]
 pub enum Due {
     Reads(usize),
     Nothing,

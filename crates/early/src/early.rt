@@ -35,7 +35,7 @@ pub const OUTER: usize = 4_294_967_295;
 
 // None of these rules is broken (of a call with its motif's summary, and whether a pattern that is selected there is not defined; of EndStream with what is noted
 // of the motif); or a code and an inner position.
-#[derive(Drop)]
+#[derive(Clone, Copy)]
 pub enum Early {
     Fine,
     Call(usize, bool),

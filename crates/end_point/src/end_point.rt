@@ -9,7 +9,7 @@ use names::attributes::END_POINT;
 use names::operators::{LINE_PATH, LINE_REL_PATH};
 
 // Where such a line ends: its operator stands there; or there is none.
-#[derive(Drop)]
+#[derive(Clone, Copy)]
 pub enum LineEnd {
     At(usize),
     No,

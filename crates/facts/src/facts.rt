@@ -8,7 +8,7 @@ use trail::{COUNT, HEIGHT, ROWS, SAVED, TAG};
 // The place and its byte; of the value there its attribute's number, count of numbers and place of the first; the class, the operator's tag, the
 // attribute that it lacks, the data that it asks for and that is told; the name that it gives; the pattern that it selects or defines, and whether that
 // is for the session; states saved, rows read and all rows.
-#[derive(Drop)]
+#[derive(Clone, Copy)]
 pub struct Facts {
     pub at: u32,
     pub byte: u8,

@@ -1,4 +1,5 @@
 // A fault of a job or of a motif: its cause and its cure.
+#![tactic(auto)]
 use facts::Facts;
 use names::attributes::{BLOCK_BYTE_LENGTH, MEDIA_TYPE, PAD_BYTES_MULTIPLE};
 use setting::Class;

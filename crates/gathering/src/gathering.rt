@@ -19,7 +19,7 @@ use reader::Operator;
 use setting::Setting;
 
 // A motif that is being read, in a session with this source and these motifs: place and length of its name in the job, and how many bytes are joined.
-#[derive(Drop)]
+#[derive(Clone, Copy)]
 pub struct Stream {
     pub opened: bool,
     pub kept: Kept,

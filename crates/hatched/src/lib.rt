@@ -1,10 +1,11 @@
 // Whether a pattern is defined at a place of a job, and if not, with what it ended.
+#![tactic(auto)]
 use names::attributes::{PATTERN_DEFINE_ID, PATTERN_PERSISTENCE};
 use names::operators::{BEGIN_RAST_PATTERN, END_PAGE, END_RAST_PATTERN, END_SESSION};
 use trail::{COUNT, TAG, begin, is_high, pass, tag_of};
 
 // It is defined, for the page or for the session; it was, for the page before, for an earlier page, or in an earlier session; or it never was.
-#[derive(Drop)]
+#[derive(Clone, Copy)]
 pub enum Until {
     Now,
     PageBefore,

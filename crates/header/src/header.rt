@@ -9,14 +9,14 @@ use setting::Class;
 use white::between;
 
 // The class, high byte first or not, and where the items begin; or a refusal, a code and a place.
-#[derive(Drop)]
+#[derive(Clone, Copy)]
 pub enum Header {
     Is(Class, bool, usize),
     No(u32, usize),
 }
 
 // A header ends before a place, or a place is the first that no header can have so.
-#[derive(Drop)]
+#[derive(Clone, Copy)]
 enum Form {
     Ends(usize),
     Breaks(usize),

@@ -10,7 +10,7 @@ use number::{Width, byte_at, bytes_of, number_at};
 use white::after_white;
 
 // The place after a pair that was read; a refusal; or the bytes end while the value waits.
-#[derive(Drop)]
+#[derive(Clone, Copy)]
 pub enum Pair {
     Next(usize),
     No(u32, usize),

@@ -8,7 +8,7 @@ use crate::pair::{Pair, pair_at};
 use white::{after_white, between};
 
 // An operator's tag, how many attributes it has and its place; the end of the bytes with nothing waiting; or a refusal.
-#[derive(Drop)]
+#[derive(Clone, Copy)]
 pub enum Scan {
     Tagged(u8, u32, usize),
     Ended,

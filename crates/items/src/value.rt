@@ -8,7 +8,7 @@ use number::{Width, bytes_of, number_at};
 use white::between;
 
 // What a value's tag starts: so many numbers, an array; or it is no value's tag.
-#[derive(Drop)]
+#[derive(Clone, Copy)]
 enum Kind {
     Plain(u32),
     Array,
@@ -16,7 +16,7 @@ enum Kind {
 }
 
 // How many numbers a value has and the place of the first; or a refusal, a code and a place.
-#[derive(Drop)]
+#[derive(Clone, Copy)]
 pub enum Value {
     From(u32, usize),
     No(u32, usize),

@@ -10,7 +10,7 @@ use within::Judged;
 pub const MANY: usize = 14;
 
 // What is held; of the motif that is being read its name in the job, and how many bytes of it are there.
-#[derive(Drop)]
+#[derive(Clone, Copy)]
 pub struct Keeping {
     pub kept: Kept,
     pub name: Part,

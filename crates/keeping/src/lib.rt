@@ -1,4 +1,5 @@
 // The motifs held on the way through a job.
+#![tactic(auto)]
 mod held;
 
 pub use held::{Keeping, MANY, keep, none};

@@ -6,7 +6,7 @@ ghost use Rattle.key.specs.Views.{key_as};
 use number::byte_at;
 
 // A name: its first eight bytes, its next eight, its length.
-#[derive(Drop)]
+#[derive(Clone, Copy)]
 pub struct Key {
     pub first: usize,
     pub next: usize,

@@ -1,4 +1,5 @@
 // Names of motifs: the name that an operator gives, a name as three numbers; and 64 marks as one number.
+#![tactic(auto)]
 mod key;
 mod marks;
 mod part;

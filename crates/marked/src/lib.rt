@@ -1,4 +1,5 @@
 // The refused operator as a line of the list, marked.
+#![tactic(auto)]
 use text::say;
 
 // Says where the refusal is, if it is not at the operator's own place.

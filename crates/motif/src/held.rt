@@ -33,7 +33,7 @@ pub const MISSING: usize = 8;
 pub const ORDER: usize = 640;
 
 // The row of a held motif, or none.
-#[derive(Drop)]
+#[derive(Clone, Copy)]
 pub enum Where {
     At(usize),
     Nowhere,

@@ -1,4 +1,5 @@
 // What may come where, and the image or pattern that is open.
+#![tactic(auto)]
 mod order;
 mod picture;
 

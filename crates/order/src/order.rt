@@ -13,7 +13,7 @@ use names::operators::{
 };
 
 // Where an operator stands; in a page and in a motif with so many states saved.
-#[derive(Drop)]
+#[derive(Clone, Copy)]
 pub enum Phase {
     BetweenSessions,
     InSession,

@@ -16,14 +16,14 @@ use names::operators::{BEGIN_IMAGE, BEGIN_RAST_PATTERN, END_IMAGE, END_RAST_PATT
 const SESSIONS: u32 = 65_536;
 
 // A pattern that is defined: for the session or for the page, and its number.
-#[derive(Drop)]
+#[derive(Clone, Copy)]
 pub struct Hatch {
     pub session: bool,
     pub number: u16,
 }
 
 // An image that is open, a pattern that is being defined, as one number, or none.
-#[derive(Drop)]
+#[derive(Clone, Copy)]
 pub enum Picture {
     Nothing,
     Being(Image),

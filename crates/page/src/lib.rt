@@ -1,2 +1,3 @@
 // The page: its state, what an operator needs of it and does to it.
+#![tactic(auto)]
 pub mod page;

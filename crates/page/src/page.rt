@@ -11,14 +11,14 @@ use names::limits::SAVED_MOST;
 use names::operators::{CLOSE_SUB_PATH, NEW_PATH, PAINT_PATH, POP_GS, PUSH_GS};
 
 // What becomes of the cursor, or of the colour space.
-#[derive(Drop)]
+#[derive(Clone, Copy)]
 pub enum Mark {
     Keep,
     To(bool),
 }
 
 // What an operator does: PushGS, PopGS, or cursor (true is set) and colour space (true is gray) put or kept.
-#[derive(Drop)]
+#[derive(Clone, Copy)]
 pub enum Effect {
     Push,
     Pop,
@@ -26,7 +26,7 @@ pub enum Effect {
 }
 
 // The colour space that an operator needs.
-#[derive(Drop)]
+#[derive(Clone, Copy)]
 pub enum Space {
     Any,
     Gray,
@@ -34,14 +34,14 @@ pub enum Space {
 }
 
 // The pattern that an operator selects, by its number; or none.
-#[derive(Drop)]
+#[derive(Clone, Copy)]
 pub enum Select {
     Nothing,
     Pattern(u16),
 }
 
 // What an operator needs, and then does.
-#[derive(Drop)]
+#[derive(Clone, Copy)]
 pub struct Act {
     pub source: bool,
     pub cursor: bool,
@@ -51,7 +51,7 @@ pub struct Act {
 }
 
 // Cursor set or not, colour space gray or RGB, and the saved states: how many, and two bits for each, the last one saved lowest.
-#[derive(Drop)]
+#[derive(Clone, Copy)]
 pub struct Page {
     pub cursor: bool,
     pub gray: bool,
@@ -60,7 +60,7 @@ pub struct Page {
 }
 
 // The page after an operator that is its tag alone; or another operator, or one that a rule of the page refuses.
-#[derive(Drop)]
+#[derive(Clone, Copy)]
 pub enum Passed {
     To(Page),
     No,

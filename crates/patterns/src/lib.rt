@@ -1,4 +1,5 @@
 // Numbers of patterns as they are written in their rows: those that are defined, and those that motifs select.
+#![tactic(auto)]
 mod known;
 mod lists;
 mod own;

@@ -16,7 +16,7 @@ use setting::Setting;
 use state::{OUTER, State, Step, stop};
 
 // An operator that the rules let pass: it, what they leave of it, and how many are performed then.
-#[derive(Drop)]
+#[derive(Clone, Copy)]
 struct Allowed {
     o: Operator,
     passed: Passed,

@@ -1,4 +1,5 @@
 // What stands in a job, in words: operators, attributes, types and values.
+#![tactic(auto)]
 mod called;
 mod kinds;
 mod values;

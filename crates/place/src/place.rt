@@ -14,7 +14,7 @@ use order::{Phase, Picture};
 use page::page::Page;
 
 // In a session: at rest, reading a motif (place and length of its name in the job, bytes joined so far), or in a page, perhaps with an image or a pattern open.
-#[derive(Drop)]
+#[derive(Clone, Copy)]
 pub enum Busy {
     Resting,
     Reading(usize, usize, usize),
@@ -22,7 +22,7 @@ pub enum Busy {
 }
 
 // Outside a session, after one or before the first; or inside one: source open or not, what it keeps of its motifs, what it is at.
-#[derive(Drop)]
+#[derive(Clone, Copy)]
 pub enum Place {
     Outside(bool),
     Inside(bool, Kept, Busy),

@@ -7,7 +7,7 @@ ghost use Rattle.reader.specs.Reads.{found_as, Placed};
 use number::Width;
 
 // The place of the first data byte, or a code and a place.
-#[derive(Drop)]
+#[derive(Clone, Copy)]
 pub enum Found {
     At(usize),
     No(u32, usize),

@@ -18,7 +18,7 @@ use rules::Fault;
 use setting::Setting;
 
 // What reading has to know: the setting, the phase, whether the source is open, and whether 17 is judged.
-#[derive(Drop)]
+#[derive(Clone, Copy)]
 pub struct Context {
     pub set: Setting,
     pub phase: Phase,
@@ -27,7 +27,7 @@ pub struct Context {
 }
 
 // An operator: its tag and the tag's place, the number of its attributes, whether it reads data, the data (0 and 0 if it reads none), the place after it.
-#[derive(Drop)]
+#[derive(Clone, Copy)]
 pub struct Operator {
     pub tag: u8,
     pub at: usize,
@@ -39,7 +39,7 @@ pub struct Operator {
 }
 
 // An operator, the end of the bytes, or a code and a place.
-#[derive(Drop)]
+#[derive(Clone, Copy)]
 pub enum Read {
     Operator(Operator),
     Ended,

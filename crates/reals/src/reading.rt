@@ -9,7 +9,7 @@ ghost use Rattle.reals.specs.Reals.{Reads, Made};
 use number::Width;
 
 // The numbers of a value as they are read: two whole ones; two reals; or two reals of which one is infinite or no number.
-#[derive(Drop)]
+#[derive(Clone, Copy)]
 pub enum Numbers {
     Whole(u32, u32),
     Real(f32, f32),

@@ -12,7 +12,7 @@ pub const NOBODY: usize = 64;
 const FAR: usize = 99;
 
 // What is looked for: a motif of a ring, or one that names a motif not held.
-#[derive(Drop)]
+#[derive(Clone, Copy)]
 enum Kind {
     Ring,
     Lacks,

@@ -21,7 +21,7 @@ fn at_end(store: &[u8], motifs: &[usize; 704], st: &[usize; 16], depth: u32) {
 }
 
 // How far a walk has come through the job, and the motifs held there.
-#[derive(Drop)]
+#[derive(Clone, Copy)]
 struct Walk {
     at: usize,
     held: Keeping,

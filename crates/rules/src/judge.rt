@@ -19,7 +19,7 @@ use table::{Form, NO, Row, rule_of};
 use values::{Attribute, in_range, type_taken};
 
 // A fault has a code and a place.
-#[derive(Drop)]
+#[derive(Clone, Copy)]
 pub enum Fault {
     Fine,
     Bad(u32, usize),

@@ -1,4 +1,5 @@
 // Runs of operators that are their tag alone and of lines by their end point.
+#![tactic(auto)]
 mod running;
 
 pub use running::run_on;

@@ -18,7 +18,7 @@ use state::State;
 use white::is_white;
 
 // Where a run stands.
-#[derive(Drop)]
+#[derive(Clone, Copy)]
 pub struct Run {
     pub at: usize,
     pub page: Page,
@@ -27,7 +27,7 @@ pub struct Run {
 }
 
 // One operator more, or the run ends.
-#[derive(Drop)]
+#[derive(Clone, Copy)]
 pub enum Pass {
     To(Run),
     No,

@@ -169,7 +169,10 @@ module _ (set : Setting) (s : List ℕ) (room : ℕ) where
 
   last-outside : {a b : State} (o : Operator) → Runs every set s room a (o ∷ []) b → o.tag ≡ 0x42 → (b.place ≡ outside true) × (b.at ≡ suc o.at)
   unfolding after case_of
-  last-outside o (then {a = a} p here) e = (end-outside every set s room a o p e, ends-behind (context_of every set a.place) s a.at o p.reads e)
+  last-outside {a = a'} {b = b} o (then {a = a} p r) e = by b r
+    where
+      by : (b : State) → Runs every set s room (next set s a o) [] b → (b.place ≡ outside true) × (b.at ≡ suc o.at)
+      by b here = (end-outside every set s room a o p e, ends-behind (context_of every set a.place) s a.at o p.reads e)
 
   pub session-performed : {a b : State} (w : WholeSession) → Runs every set s room a (operators w) b → Performed a b w
   session-performed {a} {b} w (then p r) =

@@ -70,7 +70,7 @@ focus {at} [] {x} {y} {rest} (more {g = g} {a = one} s t (more {g = h} {gs = gs}
           more sa ta (more sb tb (subst (λ n. Fits n gs rest later) e k));
     }
 focus {at} (z ∷ before) {x} {y} {rest} (more {g = g} {gs = gs} {a = a} s t k) =
-    let f = focus before k in
+    let f = focus {at = at + length g + length z} before k in
     let l : length (g ++ (z ++ f.front)) ≡ length g + length z + length f.front = let m = length-append g (z ++ f.front) in let n = length-append z f.front in omega arith in
     let i = f.start_one in
     let j = f.stop_one in

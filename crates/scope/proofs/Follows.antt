@@ -12,7 +12,7 @@ use Rattle.scope.specs.Attributes.{bytes_in}
 use Rattle.scope.specs.Order.{may_come, drawn, in_stream, in_page, in_image, in_pattern}
 use Rattle.scope.specs.Reading.{Operator}
 use Rattle.scope.specs.Arm.{Page}
-use Rattle.scope.specs.Motif.{Picture, Judged, valid, motif_of}
+use Rattle.scope.specs.Motif.{Picture, Judged, valid, faulty, motif_of}
 use Rattle.scope.specs.Setting.{Setting}
 use Rattle.scope.specs.Session.{Busy, resting, reading, drawing, Session, Place, outside, inside, session_of, phase_of, phase_busy, phase_drawing, page_of, joined_of, row_for, kept_as, session_after, place_after}
 use Rattle.scope.specs.Judge.{State, case_of, after, judged_at}
@@ -58,6 +58,7 @@ module _ (set : Setting) (s : List ℕ) (o : Operator) (p : Page) where
     where
       ended : (m : Judged) → motif_of set j ≡ m → Valid m
           → Follows set Doing.resting (learnt n j (known_of x.held)) (inside (record { held = kept_as n j m x.held; opened = x.opened; patterns = x.patterns; busy = resting }))
+      ended (faulty code inner) g h = elim h [ ]
       ended (valid ops) g h = record { doing = refl; known = kept-known n j ops k; sound = kept-sound n j ops g k }
 
   by-resting : (x : Session) → Sound set x.held → (a b c d : Bool)

@@ -85,6 +85,7 @@ module _ (s : List ℕ) where
 
     kept-after : (n j : List ℕ) (held : List Motif) → o.tag ≡ 0x5d → AllDefined set s since held → Collects s n j since → (w : Judged) → motif_of set j ≡ w → Valid w
         → AllDefined set s (o ∷ since) (kept_as n j w held)
+    kept-after n j held e k c (Judged.faulty code inner) f h = elim h [ ]
     kept-after n j held e k c (Judged.valid ops) f h = kept-defined set s o since n j ops e c f k
 
     read-after : (n j : List ℕ) (x : Session) → (eqb o.tag 0x5c || eqb o.tag 0x5d) ≡ true → Valid (judged_at set j o.tag) → AllDefined set s since x.held

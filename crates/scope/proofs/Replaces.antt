@@ -12,7 +12,7 @@ use Rattle.scope.specs.Choice.{pick, same}
 use Rattle.scope.specs.Setting.{Setting}
 use Rattle.scope.specs.Reading.{Operator}
 use Rattle.scope.specs.Arm.{Page}
-use Rattle.scope.specs.Motif.{Own, Motif, Held, held_as, is_held, bytes_held, Judged, valid, motif_of}
+use Rattle.scope.specs.Motif.{Own, Motif, Held, held_as, is_held, bytes_held, Judged, valid, faulty, motif_of}
 use Rattle.scope.specs.Session.{reading, Session, Place, inside, outside, session_of, joined_of, replaced, kept_as, session_after, place_after}
 use Rattle.scope.specs.Judge.{judged_at, case_of, after}
 use Rattle.scope.specs.Runs.{case_at}
@@ -105,6 +105,7 @@ module _ (n j : List ℕ) (ops : List Own) where
 
 module _ (set : Setting) (s : List ℕ) (o : Operator) (p : Page) (n j : List ℕ) (e : o.tag ≡ 0x5d) where
   ended : (x : Session) → (w : Judged) → motif_of set j ≡ w → Valid w → Replaced n j x.held (kept_as n j (motif_of set j) x.held)
+  ended x (faulty code inner) f h = elim h [ ]
   ended x (valid ops) f h = subst⁻¹ (λ w. Replaced n j x.held (kept_as n j w x.held)) f (kept-replaced n j ops x.held)
 
   at-reading : (x : Session) → Valid (judged_at set j o.tag)

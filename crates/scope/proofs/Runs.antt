@@ -71,8 +71,8 @@ module _ (given : ℕ → Bool) (set : Setting) (s : List ℕ) (room : ℕ) wher
     pub second : Runs given set s room mid ps c
 
   pub runs-split : {a c : State} (os ps : List Operator) → Runs given set s room a (os ++ ps) c → Halves a c os ps
-  runs-split {a} [] ps r = record { mid = a; first = here; second = r }
-  runs-split (o ∷ os) ps (then p r) = let h = runs-split os ps r in record { mid = h.mid; first = then p h.first; second = h.second }
+  runs-split {a = a} {c = c} [] ps r = record { mid = a; first = here; second = r }
+  runs-split {a = a} {c = c} (o ∷ os) ps (then p r) = let h = runs-split {a = next set s a o} {c = c} os ps r in record { mid = h.mid; first = then p h.first; second = h.second }
 
   pub runs_past : {a b : State} {os : List Operator} → Runs given set s room a os b → b.past ≡ onto os a.past
   unfolding onto after case_of

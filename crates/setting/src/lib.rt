@@ -1,4 +1,5 @@
 // What a job is read with.
+#![tactic(auto)]
 mod setting;
 
 pub use setting::{Class, Setting};

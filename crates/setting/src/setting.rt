@@ -1,14 +1,14 @@
 // What is settled before the first item of a job, and goes wherever a byte is read.
 
 // The protocol's class: 1;1 or 2;1.
-#[derive(Drop)]
+#[derive(Clone, Copy)]
 pub enum Class {
     One,
     Two,
 }
 
 // The class and whether the high byte comes first, by the header; and whether pages start in gray, as the caller asks.
-#[derive(Drop)]
+#[derive(Clone, Copy)]
 pub struct Setting {
     pub class: Class,
     pub high: bool,

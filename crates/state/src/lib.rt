@@ -1,4 +1,5 @@
 // Where the judging of a job stands, and the verdict it ends with.
+#![tactic(auto)]
 mod ending;
 mod state;
 mod verdict;

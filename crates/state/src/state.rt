@@ -3,7 +3,7 @@ use crate::verdict::Verdict;
 use place::Place;
 
 // Where the judging of a job stands.
-#[derive(Drop)]
+#[derive(Clone, Copy)]
 pub struct State {
     pub at: usize,
     pub place: Place,
@@ -12,7 +12,7 @@ pub struct State {
 }
 
 // The judging goes on, or ends with a verdict.
-#[derive(Drop)]
+#[derive(Clone, Copy)]
 pub enum Step {
     Go(State),
     Stop(Verdict),

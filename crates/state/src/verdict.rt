@@ -7,7 +7,7 @@ pub const OUTER: u32 = 4_294_967_295;
 
 // A code, a position, an inner position, the number of records, and the number of operators performed before it ended.
 #[repr(C)]
-#[derive(Drop)]
+#[derive(Clone, Copy)]
 pub struct Verdict {
     pub code: u32,
     pub position: u32,

@@ -6,7 +6,7 @@ use end_point::LineEnd;
 use names::operators::{CLOSE_SUB_PATH, PAINT_PATH};
 
 // Where a run has come to, of how many operators, and whether a line is among them.
-#[derive(Drop)]
+#[derive(Clone, Copy)]
 pub struct Run {
     pub at: usize,
     pub count: usize,
@@ -14,7 +14,7 @@ pub struct Run {
 }
 
 // One operator more, or the run ends.
-#[derive(Drop)]
+#[derive(Clone, Copy)]
 pub enum Pass {
     To(Run),
     No,

@@ -4,7 +4,7 @@ ghost use Rattle.scope.specs.Arm.{Stroke};
 ghost use Rattle.summary.specs.Sums.{bit_of, ending_bits, ending_of, Sums, SumsAs};
 
 // Cursor and colour space after the row, and whether a cursor was needed and not set, or a colour space and another was set.
-#[derive(Drop)]
+#[derive(Clone, Copy)]
 pub struct Ending {
     pub cursor: bool,
     pub gray: bool,
@@ -14,7 +14,7 @@ pub struct Ending {
 
 // How many operators (past 1,000,000 always 1,000,001), the most states saved at a time (past 24 always 25), whether an open source is needed, and the
 // endings from a set cursor and gray (a) and from no cursor and RGB (b).
-#[derive(Drop)]
+#[derive(Clone, Copy)]
 pub struct Summary {
     pub count: u32,
     pub most: u32,

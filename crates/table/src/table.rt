@@ -13,7 +13,7 @@ use setting::Class;
 
 // How an operator's attributes belong together: each by itself, of which the first so many must be there; exactly one
 // of them; or the first alone or both others.
-#[derive(Drop)]
+#[derive(Clone, Copy)]
 pub enum Form {
     Each(usize),
     One,
@@ -22,7 +22,7 @@ pub enum Form {
 }
 
 // An operator's line: how its attributes belong together, and their numbers.
-#[derive(Drop)]
+#[derive(Clone, Copy)]
 pub struct Row {
     pub form: Form,
     pub numbers: [u8; 8],
@@ -33,7 +33,7 @@ pub const NO: u8 = 0;
 
 // The values that an attribute takes: E a ubyte, N a ubyte or uint16, P a point, B a box, A an array of ubytes,
 // D two uint16 or reals, M and M2 MediaSize in 1;1 and in 2;1, L a ubyte, uint16 or uint32, I a sint16.
-#[derive(Drop)]
+#[derive(Clone, Copy)]
 pub enum Kind {
     E,
     N,
@@ -48,7 +48,7 @@ pub enum Kind {
 }
 
 // An attribute's values, the lowest and the highest.
-#[derive(Drop)]
+#[derive(Clone, Copy)]
 pub struct Rule {
     pub kind: Kind,
     pub low: usize,

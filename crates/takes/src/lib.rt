@@ -1,4 +1,5 @@
 // What the table asks of an operator's attributes, in words.
+#![tactic(auto)]
 use names::operators::{READ_IMAGE, READ_RAST_PATTERN, SET_BRUSH_SOURCE, SET_PEN_SOURCE};
 use phrase::{attribute, operator};
 use setting::Class;

@@ -1,15 +1,16 @@
 // How many files pass, are refused, or could not be read.
+#![tactic(auto)]
 use text::{number, say};
 
 // What became of a file.
-#[derive(Drop)]
+#[derive(Clone, Copy)]
 pub enum Outcome {
     Passed,
     Refused,
     Unread,
 }
 
-#[derive(Drop)]
+#[derive(Clone, Copy)]
 pub struct Tally {
     pub passed: u32,
     pub refused: u32,

@@ -1,4 +1,5 @@
 // Words, numbers, reals, lines of a text and names, on standard output or another descriptor.
+#![tactic(auto)]
 mod lines;
 mod named;
 mod out;

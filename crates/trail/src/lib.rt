@@ -1,4 +1,5 @@
 // The way through a job or a motif to a refused operator: where it begins, its attributes, and how matters stand before it.
+#![tactic(auto)]
 mod step;
 mod walk;
 

@@ -4,7 +4,7 @@ use names::operators::{BEGIN_STREAM, END_SESSION};
 use trail::{COUNT, PLACE, is_high, tag_of};
 
 // A motif of the name is defined later, at a place, in this session or in another; or nowhere.
-#[derive(Drop)]
+#[derive(Clone, Copy)]
 pub enum Later {
     Here(usize),
     Elsewhere(usize),

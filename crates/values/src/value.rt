@@ -13,7 +13,7 @@ use reals::{Numbers, numbers_at, whole};
 use table::Kind;
 
 // An attribute as the lent array has it.
-#[derive(Drop)]
+#[derive(Clone, Copy)]
 pub struct Attribute {
     pub number: usize,
     pub tag: usize,

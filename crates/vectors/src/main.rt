@@ -2,6 +2,7 @@
 //
 // A job is the lengths of the job, of the work buffer and of the list and the start asked for (0 gray, else RGB), four bytes each with the low byte first, then the
 // job.
+#![tactic(auto)]
 use answers::{checksum, fill, number, seven};
 
 // Judges the first n bytes of the job with as many bytes of the buffers as asked for; code 99 if there are not so many.

@@ -1,4 +1,5 @@
 // Judges the job on standard input, whose pages start in gray, and prints code, position, inner, records and performed.
+#![tactic(auto)]
 
 // The five numbers on one line.
 fn print(v: state::Verdict) {

@@ -28,7 +28,7 @@ use summary::EMPTY;
 
 // What is noted of a valid motif: its summary, where a call performs besides what the table sums up for its name; a mark for each row that it calls; and whether it
 // names a motif that is not held.
-#[derive(Drop)]
+#[derive(Clone, Copy)]
 pub struct Made {
     pub sum: usize,
     pub calls: usize,
@@ -36,14 +36,14 @@ pub struct Made {
 }
 
 // A valid motif, with what is noted of it; or a code and a place inside it.
-#[derive(Drop)]
+#[derive(Clone, Copy)]
 pub enum Judged {
     Valid(Made),
     Faulty(u32, usize),
 }
 
 // Where the judging of a motif stands.
-#[derive(Drop)]
+#[derive(Clone, Copy)]
 pub struct Inside {
     pub at: usize,
     pub saved: usize,
@@ -54,7 +54,7 @@ pub struct Inside {
 }
 
 // The judging goes on, or has ended.
-#[derive(Drop)]
+#[derive(Clone, Copy)]
 pub enum Turn {
     Go(Inside),
     Stop(Judged),

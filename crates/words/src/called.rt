@@ -6,7 +6,7 @@ use names::attributes::*;
 use names::operators::*;
 
 // An operator of a table.
-#[derive(Drop)]
+#[derive(Clone, Copy)]
 pub enum OperatorName {
     BeginSession,
     EndSession,
@@ -44,7 +44,7 @@ pub enum OperatorName {
 }
 
 // An attribute of a table.
-#[derive(Drop)]
+#[derive(Clone, Copy)]
 pub enum AttributeName {
     ColorSpace,
     NullBrush,

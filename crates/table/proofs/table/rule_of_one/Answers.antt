@@ -1,0 +1,15 @@
+-- `rule_of_one`: each line of the code has the values that the table gives this attribute, by computing; a number that no line has takes nothing.
+-- Assumes nothing.
+-- the keys of the arms, the last one first
+use Prim.Native.Nat.{ℕ}
+use mathlib.Core.Path.{refl}
+use mathlib.Core.List.{List, [], ◌∷◌}
+use Rattle.scope.specs.Choice.{among}
+use Rattle.scope.specs.Table.{table_one, table, rule_in}
+use Rattle.table.specs.Lines.{numbers_in, rules_in, rule_of}
+use Rattle.table.proofs.Keys.{within, no-rule}
+use borrow.Author.Rules.{rules}
+use Rattle.table.proofs.table.rule_of_one.Goals as goal
+
+keys : List ℕ
+keys = 143 ∷ 140 ∷ 139 ∷ 137 ∷ 136 ∷ 134 ∷ 130 ∷ 129 ∷ 109 ∷ 108 ∷ 107 ∷ 105 ∷ 104 ∷ 103 ∷ 101 ∷ 100 ∷ 99 ∷ 98 ∷ 80 ∷ 77 ∷ 76 ∷ 75 ∷ 69 ∷ 66 ∷ 49 ∷ 40 ∷ 38 ∷ 37 ∷ 11 ∷ 9 ∷ 8 ∷ 5 ∷ 4 ∷ 3 ∷ []
