@@ -1,0 +1,15 @@
+-- `numbers_at`: two reals, or two whole numbers, by the tag.
+-- Assumes nothing.
+use borrow.Author.Tests.{eq-eqb, ne_eqb}
+use Rattle.scope.specs.Attributes.{two_at}
+use Rattle.reals.specs.Reals.{reads_whole}
+use borrow.Author.Rules.{rules}
+use Rattle.reals.proofs.reading.numbers_at.Goals as goal
+
+pub returns-then-tag-eq213 : goal.returns-then-tag-eq213
+unfolding two_at
+returns-then-tag-eq213 c = record { reads = rw (eq-eqb _ _ c.if-tag-eq213.true, ← c.number_at-x.ensures.value, ← c.behind-y.ensures) c.reals_of.ensures.reads; made = c.reals_of.ensures.made }
+
+pub returns : goal.returns
+unfolding two_at
+returns c = record { reads = rw (ne_eqb _ _ c.if-tag-eq213.false, ← c.first_of-x.ensures.value, ← c.behind-y-2.ensures) reads_whole; made = c.first_of-x.ensures.upper_bound }
