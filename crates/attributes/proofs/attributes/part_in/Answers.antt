@@ -1,0 +1,19 @@
+-- `attributes::attributes::part_in` meets its contract: by the place of the first.
+-- Assumes nothing.
+use mathlib.Core.Path.{◌∙◌}
+use borrow.Author.Tests.{lt-ltb, le-ltb}
+use Rattle.items.specs.Rows.{row_at}
+use Rattle.attributes.proofs.Rowed.{bytes-at}
+use borrow.Author.Rules.{rules}
+use Rattle.attributes.proofs.attributes.part_in.Goals as goal
+
+pub returns-then-i-lt16 : goal.returns-then-i-lt16
+unfolding row_at
+returns-then-i-lt16 c = let a = c.args in
+    λ z s. bytes-at a.number a.attrs.now a.n c.place_of-i.result z.few (c.place_of-i.ensures.value z) s
+    ∙ rw (lt-ltb _ _ c.if-i-lt16.true)
+
+pub returns : goal.returns
+returns c = let a = c.args in
+    λ z s. bytes-at a.number a.attrs.now a.n c.place_of-i.result z.few (c.place_of-i.ensures.value z) s
+    ∙ rw (le-ltb _ _ c.if-i-lt16.false)

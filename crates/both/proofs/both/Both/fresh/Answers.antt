@@ -1,0 +1,9 @@
+-- `Both::fresh` meets its contract.
+-- Assumes nothing.
+use Rattle.scope.specs.Arm.{walk}
+use borrow.Author.Rules.{rules}
+use Rattle.both.proofs.both.Both.fresh.Goals as goal
+
+pub returns : goal.returns
+unfolding walk
+returns c = record { a = c.at_start-a.ensures; b = c.at_start-b.ensures }

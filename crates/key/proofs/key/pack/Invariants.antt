@@ -1,0 +1,16 @@
+-- `pack` meets its contract: the loop goes byte by byte, and each byte is one digit more.
+use Prim.Native.Nat.{◌^◌, ◌≤◌, ◌<◌, ◌-◌}
+use mathlib.Core.Path.{◌≡◌, refl}
+use native.Mathlib.Omega.{arith}
+use native.Mathlib.Numerals.{add-one}
+use native.Mathlib.Nat.{pow-zero, pow-suc}
+use Rattle.key.proofs.Packs.{pow_seven}
+use Rattle.key.specs.Keys.{packed}
+use borrow.Author.Rules.{rules}
+use Rattle.key.proofs.key.pack.Given as goal
+
+abbrev pub invariant-loop-i : goal.invariant-loop-i
+invariant-loop-i l = (l.i ≤ 8) × (l.v ≡ packed l.s l.from l.i) × (l.v < 256 ^ l.i)
+
+abbrev pub decreases-loop-i : goal.decreases-loop-i
+decreases-loop-i l = 8 - l.i
