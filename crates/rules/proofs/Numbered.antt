@@ -100,12 +100,14 @@ pub all-by : (l : List Attribute) (k : ℕ) (rules : List scope.Rule) → Led k 
 unfolding all_there all_in numbers_in
 all-by l zero [] led_none = refl
 all-by l zero (r ∷ rs) (led_may e es) = rw e (all-by l zero rs es)
+all-by l (suc k) [] led = elim led [ ]
 all-by l (suc k) (r ∷ rs) (led_must e es) = rw (e, all-by l k rs es) (not-lacking (has r.number l) (all_in l (take k (numbers_in rs))))
 
 -- a line has as many numbers as must be there
 pub led-long : (k : ℕ) (rules : List scope.Rule) → Led k rules → k ≤ length (numbers_in rules)
 unfolding numbers_in
 led-long zero rules led = omega arith
+led-long (suc k) [] led = elim led [ ]
 led-long (suc k) (r ∷ rs) (led_must e es) =
     let h : k ≤ length (numbers_in rs) = led-long k rs es in
     omega arith

@@ -19,26 +19,26 @@ loop-i-init c = (omega arith, omega arith, λ z. zero-add _)
 pub returns-then-k-eq-NO : goal.returns-then-k-eq-NO
 unfolding many_in
 returns-then-k-eq-NO c = let a = c.args in
-    let f : length a.t1 ≡ 8 = search rules in
+    let f : length a.numbers ≡ 8 = search rules in
     λ z. sym (sym (c.loop-i.invariant.2 z)
-    ∙ ap (λ l. c.loop-i.many + many_in (rows_of a.attrs.now a.n) l) (numbers-no a.t1 c.loop-i.i (omega arith) c.if-k-eq-NO.true) ∙ add-zero c.loop-i.many)
+    ∙ ap (λ l. c.loop-i.many + many_in (rows_of a.attrs.now a.n) l) (numbers-no a.numbers c.loop-i.i (omega arith) c.if-k-eq-NO.true) ∙ add-zero c.loop-i.many)
 
 pub loop-i-preserved : goal.loop-i-preserved
 loop-i-preserved c = let a = c.args in
     let l = rows_of a.attrs.now a.n in
     let w = c.wide in
-    let f : length a.t1 ≡ 8 = search rules in (
+    let f : length a.numbers ≡ 8 = search rules in (
       omega arith,
       omega arith,
-      λ z. many-on c.loop-i.many c.one_if-many.result (pick c.is_given.result 1 0) (many_in l (up_to_no (drop c.loop-i.i a.t1)))
-          (many_in l (up_to_no (drop (c.loop-i.i + 1) a.t1))) (many_in l (up_to_no a.t1)) (c.loop-i.invariant.2 z)
-          (many-step a.t1 c.loop-i.i w.result (omega arith) c.if-k-eq-NO.false w.ensures l c.is_given.result (c.is_given.ensures z))
+      λ z. many-on c.loop-i.many c.one_if-many.result (pick c.is_given.result 1 0) (many_in l (up_to_no (drop c.loop-i.i a.numbers)))
+          (many_in l (up_to_no (drop (c.loop-i.i + 1) a.numbers))) (many_in l (up_to_no a.numbers)) (c.loop-i.invariant.2 z)
+          (many-step a.numbers c.loop-i.i w.result (omega arith) c.if-k-eq-NO.false w.ensures l c.is_given.result (c.is_given.ensures z))
           c.one_if-many.ensures.value,
     )
 
 pub returns : goal.returns
 unfolding many_in
 returns c = let a = c.args in
-    let f : length a.t1 ≡ 8 = search rules in
+    let f : length a.numbers ≡ 8 = search rules in
     λ z. sym (sym (c.loop-i.invariant.2 z)
-    ∙ ap (λ l. c.loop-i.many + many_in (rows_of a.attrs.now a.n) l) (numbers-end a.t1 c.loop-i.i (omega arith)) ∙ add-zero c.loop-i.many)
+    ∙ ap (λ l. c.loop-i.many + many_in (rows_of a.attrs.now a.n) l) (numbers-end a.numbers c.loop-i.i (omega arith)) ∙ add-zero c.loop-i.many)

@@ -15,29 +15,29 @@ use Rattle.rules.proofs.line.listed.Goals as goal
 pub returns-then-k-eq-NO : goal.returns-then-k-eq-NO
 unfolding among
 returns-then-k-eq-NO c = let a = c.args in
-    let f : length a.t1 ≡ 8 = search rules in
-    let p : among (up_to_no a.t1) a.number ≡ false = sym c.loop-i.invariant.1 ∙ ap (λ l. among l a.number) (numbers-no a.t1 c.loop-i.i (omega arith) c.if-k-eq-NO.true) in
+    let f : length a.numbers ≡ 8 = search rules in
+    let p : among (up_to_no a.numbers) a.number ≡ false = sym c.loop-i.invariant.1 ∙ ap (λ l. among l a.number) (numbers-no a.numbers c.loop-i.i (omega arith) c.if-k-eq-NO.true) in
     rw p
 
 pub returns-then-wide-number : goal.returns-then-wide-number
 returns-then-wide-number c = let a = c.args in
-    let f : length a.t1 ≡ 8 = search rules in
-    let p : among (up_to_no a.t1) a.number ≡ true = sym c.loop-i.invariant.1
-    ∙ among-step a.t1 c.loop-i.i c.wide.result (omega arith) c.if-k-eq-NO.false c.wide.ensures a.number
+    let f : length a.numbers ≡ 8 = search rules in
+    let p : among (up_to_no a.numbers) a.number ≡ true = sym c.loop-i.invariant.1
+    ∙ among-step a.numbers c.loop-i.i c.wide.result (omega arith) c.if-k-eq-NO.false c.wide.ensures a.number
     ∙ rw (eq-eqb _ _ c.if-wide-number.true) in
     rw p (sym c.wide.ensures ∙ c.if-wide-number.true)
 
 pub loop-i-preserved : goal.loop-i-preserved
 loop-i-preserved c = let a = c.args in
-    let f : length a.t1 ≡ 8 = search rules in (
+    let f : length a.numbers ≡ 8 = search rules in (
       omega arith,
-      sym (among-step a.t1 c.loop-i.i c.wide.result (omega arith) c.if-k-eq-NO.false c.wide.ensures a.number
+      sym (among-step a.numbers c.loop-i.i c.wide.result (omega arith) c.if-k-eq-NO.false c.wide.ensures a.number
           ∙ rw (ne_eqb _ _ c.if-wide-number.false)) ∙ c.loop-i.invariant.1,
     )
 
 pub returns : goal.returns
 unfolding among
 returns c = let a = c.args in
-    let f : length a.t1 ≡ 8 = search rules in
-    let p : among (up_to_no a.t1) a.number ≡ false = sym c.loop-i.invariant.1 ∙ ap (λ l. among l a.number) (numbers-end a.t1 c.loop-i.i (omega arith)) in
+    let f : length a.numbers ≡ 8 = search rules in
+    let p : among (up_to_no a.numbers) a.number ≡ false = sym c.loop-i.invariant.1 ∙ ap (λ l. among l a.number) (numbers-end a.numbers c.loop-i.i (omega arith)) in
     rw p

@@ -1,0 +1,14 @@
+-- `lacking`: the marks below i are made.
+use Prim.Native.Nat.{◌≤◌, ◌-◌}
+use mathlib.Core.Path.{◌≡◌, refl}
+use native.Mathlib.Omega.{arith}
+use borrow.Author.Rules.{rules}
+use Rattle.calls.specs.Marks.{Adds, lacks}
+use Rattle.calls.proofs.Marking.{adds_none, adds_more}
+use Rattle.calls.proofs.why.lacking.Given as goal
+
+abbrev pub invariant-loop-i : goal.invariant-loop-i
+invariant-loop-i l = (l.i ≤ l.n) × Adds 0 (lacks l.motifs) l.i l.out
+
+abbrev pub decreases-loop-i : goal.decreases-loop-i
+decreases-loop-i l = l.n - l.i

@@ -1,0 +1,7 @@
+-- `with_rows` meets its contract.
+-- Assumes nothing.
+use borrow.Author.Rules.{rules}
+use Rattle.order.proofs.picture.with_rows.Goals as goal
+
+pub returns : goal.returns
+returns c = λ h. rw (c.rows_after.ensures h)

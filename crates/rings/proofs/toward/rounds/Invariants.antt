@@ -1,0 +1,10 @@
+-- There are 32 rounds; each turn brings the end one nearer.
+use Prim.Native.Nat.{◌≤◌, ◌-◌}
+use borrow.Author.Rules.{rules}
+use Rattle.rings.proofs.toward.rounds.Given as goal
+
+abbrev pub invariant-loop-t : goal.invariant-loop-t
+invariant-loop-t l = l.t ≤ 33
+
+abbrev pub decreases-loop-t : goal.decreases-loop-t
+decreases-loop-t l = 33 - l.t

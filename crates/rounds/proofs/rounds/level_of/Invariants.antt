@@ -1,0 +1,25 @@
+-- `level_of`: up to this round the motif has no level; the first that it gets stays.
+use Prim.Native.Nat.{suc, ◌+◌, ◌-◌, ◌≤◌, ◌<◌}
+use mathlib.Core.Path.{◌≡◌, refl, sym, ap, ◌∙◌}
+use mathlib.Core.Bool.{false}
+use mathlib.Core.List.{List}
+use native.Mathlib.Omega.{arith}
+use lib.Dec.{eqb}
+use borrow.Author.Tests.{ne_eqb}
+use Rattle.scope.specs.Motif.{Motif}
+use Rattle.motif.specs.Search.{few}
+use Rattle.motif.specs.Held.{Keeps, InRow, level_in}
+use Rattle.motif.specs.Tables.{calls_row, Noted, level_of}
+use Rattle.rounds.specs.Rounds.{next_of, LevelsBut}
+use Rattle.rounds.proofs.Rounded.{next-alone, level-stays}
+use borrow.Author.Rules.{rules}
+use Rattle.rounds.proofs.rounds.level_of.Given as goal
+
+abbrev pub invariant-loop-t : goal.invariant-loop-t
+invariant-loop-t l = (0 < l.t)
+    × (l.t ≤ 33)
+    × ((ms : List Motif) (m : Motif) → Keeps l.motifs l.held ms → Noted l.motifs l.held ms → InRow ms l.i m → level_in l.motifs l.i ≡ 0 → LevelsBut l.motifs ms l.i
+    → calls_row ms m.ops l.i ≡ false → level_of ms (l.t - 1) m.name ≡ 0)
+
+abbrev pub decreases-loop-t : goal.decreases-loop-t
+decreases-loop-t l = 33 - l.t
