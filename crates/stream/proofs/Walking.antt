@@ -68,9 +68,11 @@ pub record Stands (t : List ℕ) (ms : List Motif) (set : Setting) (s : List ℕ
 module _ (t : List ℕ) (ms : List Motif) (set : Setting) (s : List ℕ) (end : scope.Judged) where
   goes : (first was own : List ℕ) (i : Inside) (ops : List Own) (n : Next scope.Inside scope.Judged) → Turns t ms (Go i) n → onward (judged_inside set s) n ≡ end
       → (numbers_in first 0 ≡ [] → Notes was ops) → NotesOn was own ops n → Stands t ms set s end first own i
+  goes first was own i ops (stop _) x5 e p q = elim x5 [ ]
   goes first was own i ops (go w) (turns_go f) e p q = record { stands = w; follows = f; judged = e; notes = λ z. q (p z) }
 
   stops : (j : Judged) (n : Next scope.Inside scope.Judged) → Turns t ms (Stop j) n → onward (judged_inside set s) n ≡ end → Judges t ms j end
+  stops j (go _) x3 e = elim x3 [ ]
   stops j (stop r) (turns_stop h) e = subst (λ x. Judges t ms j x) e h
 
   pub turned-go : (first was own : List ℕ) (i : Inside) (w : scope.Inside) → judged_inside set s w ≡ end → Turns t ms (Go i) (motif_step set s w)
@@ -84,6 +86,7 @@ module _ (t : List ℕ) (ms : List Motif) (set : Setting) (s : List ℕ) (end : 
 module _ (t : List ℕ) (ms : List Motif) (set : Setting) (s : List ℕ) (was own : List ℕ) (j : Judged) (ops : List Own) where
   stop-notes : (before : List Own) (n : Next scope.Inside scope.Judged) → Turns t ms (Stop j) n → onward (judged_inside set s) n ≡ scope.valid ops
       → Notes was before → NotesOn was own before n → Notes own ops
+  stop-notes before (go _) x5 e p q = elim x5 [ ]
   stop-notes before (stop r) (turns_stop h) e p q = subst (λ x. NotesOn was own before (stop x)) e q p
 
   pub turned-notes : (w : scope.Inside) → judged_inside set s w ≡ scope.valid ops → Turns t ms (Stop j) (motif_step set s w) → Notes was w.ops

@@ -343,13 +343,13 @@ pub returns-then-not-rows_fit : goal.returns-then-not-rows_fit
 returns-then-not-rows_fit c = record { attrs_len_unchanged = c.scan_at.ensures.attrs_len_unchanged; attrs_after = (λ z. sym (by_rows (goal.at.returns-then-not-rows_fit c).After-rows_fit false (not-true _ c.if-not-rows_fit.true-raw) z)); within = tt }
 
 pub overflow_add-result : goal.overflow_add-result
-overflow_add-result c = omega (arith, (inside (goal.at.overflow_add-result c).In-Tagged).1, c.good.1.0.0)
+overflow_add-result c = omega (arith, (inside (goal.at.overflow_add-result c).In-Tagged).1)
 
 pub data_at-requires : goal.data_at-requires
 data_at-requires c = (inside (goal.at.data_at-requires c).In-Tagged).1
 
 pub overflow_add-result-in-At : goal.overflow_add-result-in-At
-overflow_add-result-in-At c = omega (arith, (found (goal.at.overflow_add-result-in-At c).In-At).1, c.good.1.0.0)
+overflow_add-result-in-At c = omega (arith, (found (goal.at.overflow_add-result-in-At c).In-At).1)
 
 pub returns-in-Ended : goal.returns-in-Ended
 unfolding scanned

@@ -1,0 +1,10 @@
+-- `adding::adding::write_row` meets its contract: nine stores, one behind the other.
+-- Assumes nothing.
+use Rattle.adding.proofs.NewName.{row_written}
+use borrow.Author.Rules.{rules}
+use Rattle.adding.proofs.adding.write_row.Goals as goal
+
+pub returns : goal.returns
+returns c = let a = c.args in
+    let q = c.key_of-key.result in
+    rw (← c.key_of-key.ensures) (row_written a.motifs.now a.i q.first q.next q.long a.start a.long c.bit-missing.result a.made c.bit-missing.ensures)

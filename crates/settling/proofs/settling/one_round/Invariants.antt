@@ -1,0 +1,22 @@
+-- `one_round`: the motifs before i have had their turn.
+use Prim.Native.Nat.{ℕ, suc, ◌-◌, ◌≤◌, ◌<◌}
+use mathlib.Core.Path.{◌≡◌, refl, ap, ◌∙◌}
+use mathlib.Core.List.{List}
+use native.Mathlib.Omega.{arith}
+use lib.ListN.{length}
+use Rattle.setting.specs.Views.{setting_as}
+use Rattle.scope.specs.Motif.{Motif}
+use Rattle.motif.specs.Search.{few}
+use Rattle.rounds.specs.Rounds.{next_of}
+use Rattle.settling.specs.Making.{InStore, Rounded, Turned}
+use Rattle.settling.proofs.Turning.{turned-length, turned_none, turned_more, turned-all}
+use borrow.Author.Rules.{rules}
+use Rattle.settling.proofs.settling.one_round.Given as goal
+
+abbrev pub invariant-loop-i : goal.invariant-loop-i
+invariant-loop-i l = (l.i ≤ l.held)
+    × (length l.motifs ≡ length l.initial.motifs)
+    × ((ms : List Motif) (d : ℕ) → l.t ≡ suc d → d < 32 → InStore (setting_as l.set) l.work ms → Rounded l.initial.motifs l.held ms d → Turned l.motifs l.held ms d l.i)
+
+abbrev pub decreases-loop-i : goal.decreases-loop-i
+decreases-loop-i l = l.held - l.i

@@ -1,0 +1,22 @@
+-- `remake`: after t - 1 rounds.
+use Prim.Native.Nat.{suc, ◌+◌, ◌-◌, ◌≤◌, ◌<◌}
+use mathlib.Core.Path.{◌≡◌, refl, ◌∙◌}
+use mathlib.Core.List.{List}
+use native.Mathlib.Omega.{arith}
+use lib.ListN.{length}
+use Rattle.setting.specs.Views.{setting_as}
+use Rattle.scope.specs.Motif.{Motif}
+use Rattle.settling.specs.Making.{InStore, Rounded}
+use Rattle.settling.proofs.Noting.{noted-all}
+use Rattle.settling.proofs.Turning.{made}
+use borrow.Author.Rules.{rules}
+use Rattle.settling.proofs.settling.remake.Given as goal
+
+abbrev pub invariant-loop-t : goal.invariant-loop-t
+invariant-loop-t l = (0 < l.t)
+    × (l.t ≤ 33)
+    × (length l.motifs ≡ length l.initial.motifs)
+    × ((ms : List Motif) → InStore (setting_as l.set) l.work ms → Rounded l.initial.motifs l.n ms 0 → Rounded l.motifs l.n ms (l.t - 1))
+
+abbrev pub decreases-loop-t : goal.decreases-loop-t
+decreases-loop-t l = 33 - l.t
