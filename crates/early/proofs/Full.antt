@@ -1,7 +1,7 @@
 -- Where none of the rules of motifs is broken the others decide; and whether there is a row for one motif more.
 -- Assumes nothing.
 use Prim.Native.Nat.{ℕ, ◌≤◌, ◌<◌}
-use mathlib.Core.Path.{◌≡◌, refl, ◌∙◌}
+use mathlib.Core.Path.{◌≡◌, refl, ap, ◌∙◌}
 use mathlib.Core.Bool.{Bool, true, false, ◌&&◌, ◌||◌}
 use mathlib.Core.List.{List}
 use lib.ListN.{length}
@@ -9,18 +9,25 @@ use lib.Dec.{leb}
 use borrow.Author.Tests.{le-leb, lt-leb}
 use Rattle.scope.specs.Motif as scope_motif
 use Rattle.scope.specs.Motif.{Motif, held_as, is_held}
-use Rattle.scope.specs.Calls.{met}
-use Rattle.scope.specs.Judge.{Case, Rule, first_broken, name_missing, calls_itself, too_deep, early}
+use Rattle.scope.specs.Choice.{pick}
+use Rattle.scope.specs.Calls.{Met, met, nothing}
+use Rattle.scope.specs.Judge.{Case, Rule, Refusal, refused, outer, first_broken, name_missing, calls_itself, too_deep, early}
 use Rattle.motif.specs.Stored.{full}
 use Rattle.scope.specs.Verdict.{every}
 use Rattle.early.specs.Earlier.{Passes, before, Unbroken, Earlies, early_fine, early_call, early_held, early_no}
 use Rattle.early.specs.declared.early.Early.TheVariants.{Held}
 use Rattle.early.specs.declared.early.Early.{Early}
 
+-- where a call meets nothing, the three rules of calls are not broken
+quiet : (c : Case) → c.met ≡ nothing → (r : Refusal)
+    → pick (name_missing c) (refused 21 outer) (pick (calls_itself c) (refused 32 outer) (pick (too_deep c) (refused 22 outer) r)) ≡ r
+unfolding name_missing calls_itself too_deep
+quiet c e r = ap (λ (m : Met). pick m.missing (refused 21 outer) (pick m.again (refused 32 outer) (pick m.deep (refused 22 outer) r))) e
+
 -- where none of these rules is broken, the first broken is the first of the others
 pub unbroken_first : {c : Case} → Unbroken c → (rest : List Rule) → first_broken every c (before rest) ≡ first_broken every c rest
 unfolding first_broken early name_missing calls_itself too_deep
-unbroken_first u rest = rw (u.room, u.place) (u.sound _ ∙ rw u.met)
+unbroken_first {c = c} u rest = rw (u.room, u.place) (u.sound _ ∙ quiet c u.met _)
 
 -- what passes is not broken
 pub passes-unbroken : {t p : List ℕ} {c : Case} {e : Early} → Earlies t p c e → Passes e → Unbroken c

@@ -12,16 +12,16 @@ use borrow.Author.Rules.{rules}
 use Rattle.holding.proofs.holding.hold.Goals as goal
 
 pub returns-then-not-fits : goal.returns-then-not-fits
-returns-then-not-fits c = let f = c.fits2 in
-    record { work_len_unchanged = refl; work_unchanged = refl; motifs_len_unchanged = refl; stored = λ ms ops bytes s h k j b n g v q. clash-of (sym (f.ensures.1 h k) ∙ not-true f.result c.if-not-fits.true-raw) }
+returns-then-not-fits c = let f = c.fits in
+    record { work_len_unchanged = refl; work_unchanged = refl; motifs_len_unchanged = refl; stored = λ ms ops bytes s h k j b n g v q. clash-of (sym (f.ensures.value h k) ∙ not-true f.result c.if-not-fits.true-raw) }
 
 pub replaced-requires : goal.replaced-requires
-replaced-requires c = let f = c.fits2 in
-    let r = f.ensures.0 (not-false f.result c.if-not-fits.false-raw) in
-    let i = rw c.in-At.is at c.find.ensures.row in let t = (i, (r.0, r.1)) in record { i_bound = t.0; joined_bound = t.1; joined_in_bounds = t.2 }
+replaced-requires c = let f = c.fits in
+    let r = f.ensures.joined_bound (not-false f.result c.if-not-fits.false-raw) in
+    let i = rw c.in-At.is at c.find.ensures.row in record { i_bound = i; joined_bound = r.0; joined_in_bounds = r.1 }
 
 pub added-requires : goal.added-requires
-added-requires c = let f = c.fits2 in let t = f.ensures.0 (not-false f.result c.if-not-fits.false-raw) in record { joined_bound = t.0; joined_in_bounds = t.1 }
+added-requires c = let f = c.fits in let t = f.ensures.joined_bound (not-false f.result c.if-not-fits.false-raw) in record { joined_bound = t.0; joined_in_bounds = t.1 }
 
 pub returns-in-At : goal.returns-in-At
 returns-in-At c = let a = c.args in

@@ -22,30 +22,15 @@ use Rattle.early.specs.contracts.early.Early.{the_type}
 use Rattle.ruling.specs.Judged.{Judgement, inner_of}
 use Rattle.ruling.proofs.Ruling.{early-judged, fine-call, held-no_call}
 use borrow.Author.Rules.{rules}
-use Rattle.ruling.proofs.judging.judge.Statement.{statement}
-use Rattle.ruling.proofs.judging.judge.Tie as tie
+use Rattle.ruling.proofs.judging.judge.Goals as goal
 
-enum-known-early : tie.Need-enum-known-early
-enum-known-early c = search rules
+pub returns-in-No : goal.returns-in-No
+returns-in-No c = let a = c.args in
+    λ q st work t h z e y f. rw c.in-No.is (early-judged t _ _ (rw c.in-No.is at f))
 
-enum-known-early-2 : tie.Need-enum-known-early-2
-enum-known-early-2 c = search rules
-
-call-requires : tie.Need-call-requires
-call-requires c κs = search rules
-
-perform-requires : tie.Need-perform-requires
-perform-requires c κs = search rules
-
-returns : tie.Need-returns
-returns c =
-    let a = c.before.before.before.before.args in
-    λ q st work t h z e y f. rw c.before.early.given.1 (early-judged t _ _ (rw c.before.early.given.1 at f))
-
-returns-2 : tie.Need-returns-2
-returns-2 c =
-    let a = c.before.before.before.before.before.args in
-    λ q st work t h z e y f. rw c.before.before.early2.given.1 (c.call.ensures q st (setting_as a.set) a.job.now work t _ (operator_as a.o a.attrs.now) h e (rw c.before.before.early2.given.1 at f))
+pub returns-in-Call : goal.returns-in-Call
+returns-in-Call c = let a = c.args in
+    λ q st work t h z e y f. rw c.in-Call.is (c.call.ensures q st (setting_as a.set) a.job.now work t _ (operator_as a.o a.attrs.now) h e (rw c.in-Call.is at f))
 
 -- none of the earlier rules is broken, and it is no call
 others-judged : (t p : List ℕ) (c : Case) {m : Moved} (early : Early) → OneOf (0 ∷ 2 ∷ []) (tag_of the_type early) → Earlies t p c early
@@ -55,22 +40,9 @@ others-judged t p c (early_is.Call v b) n f k = absurd (elim n [ inl e ↦ omega
 others-judged t p c (early_is.Held made) n f k = k (held-no_call t p c f) (passes-unbroken f tt)
 others-judged t p c (early_is.No a b) n f k = absurd (elim n [ inl e ↦ omega arith | inr e ↦ omega arith ])
 
-returns-3 : tie.Need-returns-3
+pub returns-in_default : goal.returns-in_default
 unfolding case_of
-returns-3 c =
-    let a = c.before.before.before.args in
+returns-in_default c = let a = c.args in
     λ q st work t h z e y f.
-    others-judged t _ (case_of (setting_as a.set) a.job.now st (session_of q) (operator_as a.o a.attrs.now)) a.early c.before.match.keys3 f
+    others-judged t _ (case_of (setting_as a.set) a.job.now st (session_of q) (operator_as a.o a.attrs.now)) a.early c.in_default.keys3 f
     (λ x u. c.perform.ensures q st work t h z e y x u)
-
-pub judge-spec : {M : Type 1} → statement M
-judge-spec =
-    tie.close
-    (tie.spec
-    enum-known-early
-    enum-known-early-2
-    call-requires
-    perform-requires
-    returns
-    returns-2
-    returns-3)

@@ -1,5 +1,6 @@
 -- `after::drawn_on` meets its contract: EndPage, an operator that is of no image and no pattern, or another.
 -- Assumes nothing.
+-- the tags of images and patterns are b0 to b5
 use Prim.Native.Nat.{ℕ, ◌<◌}
 use mathlib.Core.Path.{◌≡◌, refl, sym}
 use mathlib.Core.Bool.{Bool}
@@ -12,10 +13,8 @@ use Rattle.order.specs.Pictures.{picture_for}
 use Rattle.place.specs.Places.{resting_holds, drawing_holds}
 use borrow.Author.Tests.{eq-eqb, ne_eqb}
 use borrow.Author.Rules.{rules}
-use Rattle.after.proofs.after.drawn_on.Statement.{statement}
-use Rattle.after.proofs.after.drawn_on.Tie as tie
+use Rattle.after.proofs.after.drawn_on.Goals as goal
 
--- the tags of images and patterns are b0 to b5
 no-image : (high : Bool) (s : List ℕ) (tag : ℕ) (l : List Attribute) (p : Def.Picture) → tag < 0xb0 → picture_for high s tag l p ≡ p
 unfolding picture_for reads_rows
 no-image high s tag l p h =
@@ -28,20 +27,11 @@ no-image high s tag l p h =
       ne_eqb tag 0xb5 (λ e. omega (arith, e, h)),
     )
 
-returns : tie.Need-returns
-returns c =
-    λ work p kept ms q z h f few place. rw (eq-eqb _ _ c.if1.true) resting_holds
+pub returns-then-tag-eq-END_PAGE : goal.returns-then-tag-eq-END_PAGE
+returns-then-tag-eq-END_PAGE c = λ work p kept ms q z h f few place. rw (eq-eqb _ _ c.if-tag-eq-END_PAGE.true) resting_holds
 
-returns-2 : tie.Need-returns-2
-returns-2 c =
-    λ work p kept ms q z h f few place. rw (ne_eqb _ _ c.before.if1.false) (drawing_holds h (sym (no-image _ _ _ _ _ c.if2.true)) refl few place)
+pub returns-then-tag-lt-BEGIN_IMAGE : goal.returns-then-tag-lt-BEGIN_IMAGE
+returns-then-tag-lt-BEGIN_IMAGE c = λ work p kept ms q z h f few place. rw (ne_eqb _ _ c.if-tag-eq-END_PAGE.false) (drawing_holds h (sym (no-image _ _ _ _ _ c.if-tag-lt-BEGIN_IMAGE.true)) refl few place)
 
-picture-after-requires : tie.Need-picture-after-requires
-picture-after-requires c κs = search rules
-
-returns-3 : tie.Need-returns-3
-returns-3 c =
-    λ work p kept ms q z h f few place. rw (ne_eqb _ _ c.before.before.if1.false) (drawing_holds h (c.picture-after.ensures z f) refl few place)
-
-pub drawn-on-spec : {M : Type 1} → statement M
-drawn-on-spec = tie.close (tie.spec returns returns-2 picture-after-requires returns-3)
+pub returns : goal.returns
+returns c = λ work p kept ms q z h f few place. rw (ne_eqb _ _ c.if-tag-eq-END_PAGE.false) (drawing_holds h (c.picture_after.ensures z f) refl few place)
