@@ -172,10 +172,12 @@ module _ (job list₀ : List ℕ) (set : Setting) (end : Outcome) where
   J = judged_from every set job (length list₀)
 
   goes : (l : Lent) (t : Code.State) (n : Next State Outcome) → Steps set job list₀ l (Go t) n → onward J n ≡ end → (d : State) × (Stands set job list₀ l t d × (J d ≡ end))
+  goes l t (stop _) x3 e = elim x3 [ ]
   goes l t (go d) (steps_go h) e = (d, (h, e))
 
   stops : (l : Lent) (v : Verdict) (n : Next State Outcome) → Steps set job list₀ l (Stop v) n → onward J n ≡ end
       → (verdict_as v ≡ verdict.told end) × Listed list₀ end.state.past l.list
+  stops l v (go _) x3 e = elim x3 [ ]
   stops l v (stop r) (steps_stop h k) e = (h ∙ ap verdict.told e, subst (λ x. Listed list₀ x.state.past l.list) e k)
 
   pub turned-go : (l : Lent) (t : Code.State) (d : State) → J d ≡ end → Steps set job list₀ l (Go t) (job_step every set job (length list₀) d)

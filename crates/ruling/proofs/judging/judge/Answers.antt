@@ -44,5 +44,5 @@ pub returns-in_default : goal.returns-in_default
 unfolding case_of
 returns-in_default c = let a = c.args in
     λ q st work t h z e y f.
-    others-judged t _ (case_of (setting_as a.set) a.job.now st (session_of q) (operator_as a.o a.attrs.now)) a.early c.in_default.keys3 f
+    others-judged t _ (case_of (setting_as a.set) a.job.now st (session_of q) (operator_as a.o a.attrs.now)) a.early c.in_default.in_default-own.keys3 f
     (λ x u. c.perform.ensures q st work t h z e y x u)
