@@ -1,4 +1,4 @@
-// The one public entry, and its C export.
+// The one public entry, and the same as C calls it.
 ghost use Rattle.std.specs.Prelude.{◌≡◌, ◌≤◌, length, eqb};
 ghost use Rattle.scope.specs.Verdict.{every, judged_after};
 ghost use Rattle.scope.specs.Verdict as verdict;
@@ -44,14 +44,8 @@ pub fn check(job: &[u8], work: &mut [u8], list: &mut [u8], gray: bool) -> Verdic
     verdict
 }
 
-// The same for C and Rust: pages start in gray where `rgb` is 0, in RGB with any other number.
-#[unsafe(no_mangle)]
-pub extern "C" fn dieuvakhop_check(
-    job: &[u8],
-    work: &mut [u8],
-    list: &mut [u8],
-    rgb: u32,
-) -> Verdict
+// The same for C and Rust, as crate checker_c exports it: pages start in gray where `rgb` is 0, in RGB with any other number.
+pub fn dieuvakhop_check(job: &[u8], work: &mut [u8], list: &mut [u8], rgb: u32) -> Verdict
     ensures { Promised (eqb rgb 0) job.now work.old list.old (answer result work.new list.new) }
 {
     check(job, work, list, rgb == 0)
