@@ -1,5 +1,6 @@
 // Names of motifs that a job has defined, by its records, next to a name that is looked for.
 #![tactic(auto)]
+
 mod likeness;
 mod search;
 

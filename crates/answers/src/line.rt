@@ -1,27 +1,44 @@
 // A line of numbers.
+use std::io;
 
 // A number, then what parts it from the next.
-fn number(n: u64, then: &[u8]) {
-    io::print_decimal(1, n);
-    io::write_all(1, then);
+fn number<P: Print>(out: &P, n: u64, then: &[u8]) -> io::Result<()> {
+    out.print(n)?;
+    out.write_all(then)
 }
 
 // Code, position, inner, records and performed, then what is behind them.
-fn numbers(code: u32, position: u32, inner: u32, records: u32, performed: u32, then: &[u8]) {
-    number(code as u64, b" ");
-    number(position as u64, b" ");
-    number(inner as u64, b" ");
-    number(records as u64, b" ");
-    number(performed as u64, then);
+fn numbers<P: Print>(
+    out: &P,
+    code: u32,
+    position: u32,
+    inner: u32,
+    records: u32,
+    performed: u32,
+    then: &[u8],
+) -> io::Result<()> {
+    number(out, code as u64, b" ")?;
+    number(out, position as u64, b" ")?;
+    number(out, inner as u64, b" ")?;
+    number(out, records as u64, b" ")?;
+    number(out, performed as u64, then)
 }
 
 // The five numbers of an answer.
-pub fn five(code: u32, position: u32, inner: u32, records: u32, performed: u32) {
-    numbers(code, position, inner, records, performed, b"\n");
+pub fn five<P: Print>(
+    out: &P,
+    code: u32,
+    position: u32,
+    inner: u32,
+    records: u32,
+    performed: u32,
+) -> io::Result<()> {
+    numbers(out, code, position, inner, records, performed, b"\n")
 }
 
 // The five, and the checksums of the work buffer and of the list.
-pub fn seven(
+pub fn seven<P: Print>(
+    out: &P,
     code: u32,
     position: u32,
     inner: u32,
@@ -29,8 +46,8 @@ pub fn seven(
     performed: u32,
     work: u64,
     list: u64,
-) {
-    numbers(code, position, inner, records, performed, b" ");
-    number(work, b" ");
-    number(list, b"\n");
+) -> io::Result<()> {
+    numbers(out, code, position, inner, records, performed, b" ")?;
+    number(out, work, b" ")?;
+    number(out, list, b"\n")
 }

@@ -1,11 +1,37 @@
-// A job among many on standard input.
+// A job on standard input, or among many there.
+ghost use Rattle.std.specs.Prelude.{◌≤◌, length, IfOk};
+
+use std::io;
+use std::io::{ErrorKind, Read};
+
+// Reads till the room is full or the input ends; the answer is how many bytes came.
+pub fn read_full<R: Read>(input: &mut R, room: &mut [u8]) -> io::Result<usize>
+    ensures { IfOk result (λ n. n ≤ length room.new) }
+{
+    let mut done: usize = 0;
+    for _ in 0..u64::MAX {
+        if room.len() <= done {
+            return Ok(done);
+        }
+        match input.read(&mut room[done..]) {
+            Ok(0) => return Ok(done),
+            Ok(n) => done += n,
+            Err(e) => {
+                if e.kind() != ErrorKind::Interrupted {
+                    return Err(e);
+                }
+            }
+        }
+    }
+    Ok(done)
+}
 
 // Reads n bytes to the start of job, and whether they came.
-pub fn fill(job: &mut [u8], n: usize) -> bool {
+pub fn fill<R: Read>(input: &mut R, job: &mut [u8], n: usize) -> io::Result<bool> {
     if job.len() < n {
-        return false;
+        return Ok(false);
     }
-    io::read_full(0, &mut job[0..n]) == n
+    Ok(read_full(input, &mut job[0..n])? == n)
 }
 
 // A number of four bytes.

@@ -1,5 +1,8 @@
 // What the words of the command ask for: `list` for the operators of each job behind it, `rgb` for pages that start in RGB.
 #![tactic(auto)]
+
+use std::io;
+use std::rt::Env;
 use text::say;
 
 // The operators too, and pages that start in gray, or else in RGB.
@@ -51,26 +54,20 @@ fn three(a: u8, b: u8, c: u8) -> Word {
 }
 
 // What argument i is.
-fn word_at(i: usize) -> Word {
+fn word_at<E: Env>(rt: &E, i: usize) -> Word {
     let mut w = [0u8; 5];
-    let n = os::arg(i, &mut w);
-    if os::errno() != 0 {
-        return Word::Name;
+    match rt.arg(i, &mut w) {
+        Ok(3) => three(w[0], w[1], w[2]),
+        Ok(4) => four(w[0], w[1], w[2], w[3]),
+        _ => Word::Name,
     }
-    if n == 3 {
-        return three(w[0], w[1], w[2]);
-    }
-    if n == 4 {
-        return four(w[0], w[1], w[2], w[3]);
-    }
-    Word::Name
 }
 
 // What is asked for behind argument i.
-pub fn behind(asked: Asked, i: usize) -> Asked {
+pub fn behind<E: Env>(rt: &E, asked: Asked, i: usize) -> Asked {
     let listed = asked.listed;
     let gray = asked.gray;
-    match word_at(i) {
+    match word_at(rt, i) {
         Word::List => Asked { listed: true, gray },
         Word::Rgb => Asked {
             listed,
@@ -81,22 +78,24 @@ pub fn behind(asked: Asked, i: usize) -> Asked {
 }
 
 // Whether argument i is a name.
-pub fn is_name(i: usize) -> bool {
-    match word_at(i) {
+pub fn is_name<E: Env>(rt: &E, i: usize) -> bool {
+    match word_at(rt, i) {
         Word::Name => true,
         _ => false,
     }
 }
 
 // Says how to ask for the other start, in which a job has no fault of its colours.
-pub fn say_other_start(gray: bool) {
+pub fn say_other_start<P: Print>(out: &P, gray: bool) -> io::Result<()> {
     if gray {
         say(
+            out,
             b"; or judge it with --rgb (in a program: rgb other than 0): where pages start in RGB, as last year, this is no fault",
-        );
+        )
     } else {
         say(
+            out,
             b"; or judge it without --rgb (in a program: rgb 0): where pages start in gray, this is no fault",
-        );
+        )
     }
 }

@@ -1,5 +1,6 @@
 // What is told of a call that is refused for what lies in its motifs.
 #![tactic(auto)]
+
 mod named;
 mod ring;
 mod told;

@@ -1,6 +1,7 @@
 // A ring of motifs, told by their names.
 use held::name_of;
 use names::limits::MOTIFS_MOST;
+use std::io;
 use text::say;
 
 // Lines of cures for a ring of motifs, and for one that calls itself.
@@ -20,46 +21,57 @@ fn next_of(next: &[usize; 64], k: usize) -> usize {
 }
 
 // What stands between two calls of a ring: the last one is told behind an `and`.
-fn between(is_last: bool) {
+fn between<P: Print>(out: &P, is_last: bool) -> io::Result<()> {
     if is_last {
-        say(b", and ");
+        say(out, b", and ")
     } else {
-        say(b", ");
+        say(out, b", ")
     }
 }
 
 // One call.
-fn call(motifs: &[usize; 704], from: usize, to: usize) {
-    name_of(motifs, from);
-    say(b" calls ");
-    name_of(motifs, to);
+fn call<P: Print>(out: &P, motifs: &[usize; 704], from: usize, to: usize) -> io::Result<()> {
+    name_of(out, motifs, from)?;
+    say(out, b" calls ")?;
+    name_of(out, motifs, to)
 }
 
 // The calls of a ring from a row on, till it comes back.
-fn calls(motifs: &[usize; 704], next: &[usize; 64], first: usize) {
+fn calls<P: Print>(
+    out: &P,
+    motifs: &[usize; 704],
+    next: &[usize; 64],
+    first: usize,
+) -> io::Result<()> {
     let mut at = next_of(next, first);
     let mut turns = RING_MOST;
-    call(motifs, first, at);
+    call(out, motifs, first, at)?;
     while 0 < turns {
         turns -= 1;
         if at == first {
-            return;
+            return Ok(());
         }
         let to = next_of(next, at);
-        between(to == first);
-        call(motifs, at, to);
+        between(out, to == first)?;
+        call(out, motifs, at, to)?;
         at = to;
     }
+    Ok(())
 }
 
 // Says which motifs call each other in a ring; the answer is the line of the cure.
-pub(crate) fn ring(motifs: &[usize; 704], next: &[usize; 64], first: usize) -> usize {
-    say(b"the motif ");
+pub(crate) fn ring<P: Print>(
+    out: &P,
+    motifs: &[usize; 704],
+    next: &[usize; 64],
+    first: usize,
+) -> io::Result<usize> {
+    say(out, b"the motif ")?;
     if next_of(next, first) == first {
-        name_of(motifs, first);
-        say(b" calls itself");
-        return ITSELF;
+        name_of(out, motifs, first)?;
+        say(out, b" calls itself")?;
+        return Ok(ITSELF);
     }
-    calls(motifs, next, first);
-    RING
+    calls(out, motifs, next, first)?;
+    Ok(RING)
 }

@@ -3,37 +3,46 @@ use asked::Asked;
 use listing::gather;
 use names::operators::EXEC_STREAM;
 use state::Verdict;
+use std::io;
 use text::say;
 
 const OUTER: u32 = 4_294_967_295;
 
 const COLOUR: u32 = 25;
 
-fn passes(performed: u32) {
-    say(b": passes, ");
-    text::number(performed);
-    say(b" operators performed\n");
+fn passes<P: Print>(out: &P, performed: u32) -> io::Result<()> {
+    say(out, b": passes, ")?;
+    text::number(out, performed)?;
+    say(out, b" operators performed\n")
 }
 
 // A fault in a motif, of which the first n bytes are there.
-fn in_motif(job: &[u8], list: &[u8], bytes: &[u8], n: usize, v: Verdict) {
+fn in_motif<P: Print>(
+    out: &P,
+    job: &[u8],
+    list: &[u8],
+    bytes: &[u8],
+    n: usize,
+    v: Verdict,
+) -> io::Result<()> {
     if bytes.len() < n {
-        return;
+        return Ok(());
     }
     fault::of_motif(
+        out,
         job,
         list,
         v.records as usize,
         &bytes[0..n],
         v.code,
         v.inner as usize,
-    );
+    )
 }
 
-fn inside(job: &[u8], list: &[u8], v: Verdict) {
+fn inside<P: Print>(out: &P, job: &[u8], list: &[u8], v: Verdict) -> io::Result<()> {
     let mut motif = rooms::work();
     let n = gather(job, list, v.records as usize, &mut motif);
-    in_motif(job, list, &motif, n, v);
+    in_motif(out, job, list, &motif, n, v)
 }
 
 // Whether a job has no fault of its colours where pages start in gray, or else in RGB.
@@ -44,10 +53,11 @@ fn starts_well(job: &[u8], gray: bool) -> bool {
 }
 
 // Of such a fault: the other start, if it has none there.
-fn other_start(job: &[u8], gray: bool) {
+fn other_start<P: Print>(out: &P, job: &[u8], gray: bool) -> io::Result<()> {
     if starts_well(job, !gray) {
-        asked::say_other_start(gray);
+        asked::say_other_start(out, gray)?;
     }
+    Ok(())
 }
 
 // A code of what a call comes to: 17, 21, 23 to 25, 32, or 34.
@@ -72,9 +82,10 @@ fn is_call(job: &[u8], v: Verdict) -> bool {
     is_inner(v.code)
 }
 
-fn called(job: &[u8], list: &[u8], v: Verdict, gray: bool) {
+fn called<P: Print>(out: &P, job: &[u8], list: &[u8], v: Verdict, gray: bool) -> io::Result<()> {
     let mut store = rooms::work();
     inner::of_call(
+        out,
         job,
         list,
         v.records as usize,
@@ -82,55 +93,66 @@ fn called(job: &[u8], list: &[u8], v: Verdict, gray: bool) {
         v.position as usize,
         gray,
         &mut store,
-    );
+    )
 }
 
 // The cause and the cure.
-fn reasons(job: &[u8], list: &[u8], v: Verdict, gray: bool) {
+fn reasons<P: Print>(out: &P, job: &[u8], list: &[u8], v: Verdict, gray: bool) -> io::Result<()> {
     if v.inner != OUTER {
-        inside(job, list, v);
-        return;
+        return inside(out, job, list, v);
     }
     if is_call(job, v) {
-        called(job, list, v, gray);
-        return;
+        return called(out, job, list, v, gray);
     }
-    fault::of_job(job, list, v.records as usize, v.code, v.position as usize);
+    fault::of_job(
+        out,
+        job,
+        list,
+        v.records as usize,
+        v.code,
+        v.position as usize,
+    )
 }
 
-fn refused(job: &[u8], list: &[u8], v: Verdict, gray: bool) {
-    say(b": refused at byte ");
-    text::plain(v.position);
-    say(b": ");
-    reasons(job, list, v, gray);
+fn refused<P: Print>(out: &P, job: &[u8], list: &[u8], v: Verdict, gray: bool) -> io::Result<()> {
+    say(out, b": refused at byte ")?;
+    text::plain(out, v.position)?;
+    say(out, b": ")?;
+    reasons(out, job, list, v, gray)?;
     if v.code == COLOUR {
-        other_start(job, gray);
+        other_start(out, job, gray)?;
     }
-    say(b"\n");
+    say(out, b"\n")
 }
 
 // The operators and motifs, and the refused operator, marked.
-fn listed_lines(job: &[u8], list: &[u8], v: Verdict, gray: bool) {
+fn listed_lines<P: Print>(
+    out: &P,
+    job: &[u8],
+    list: &[u8],
+    v: Verdict,
+    gray: bool,
+) -> io::Result<()> {
     let mut store = rooms::work();
-    roster::lines(job, list, v.records as usize, gray, &mut store);
+    roster::lines(out, job, list, v.records as usize, gray, &mut store)?;
     if v.code == 0 {
-        return;
+        return Ok(());
     }
-    marked::line(job, v.code, v.position as usize);
+    marked::line(out, job, v.code, v.position as usize)
 }
 
 // The verdict on a job in a line, and its operators if they are asked for; the answer is whether it passes.
-pub fn judged(job: &[u8], asked: Asked) -> bool {
+pub fn judged<P: Print>(out: &P, job: &[u8], asked: Asked) -> io::Result<bool> {
     let mut work = rooms::work();
     let mut list = rooms::list();
     let v = checker::check(job, &mut work, &mut list, asked.gray);
     if v.code == 0 {
-        passes(v.performed);
+        passes(out, v.performed)?;
     } else {
-        refused(job, &list, v, asked.gray);
+        refused(out, job, &list, v, asked.gray)?;
     }
     if asked.listed {
-        listed_lines(job, &list, v, asked.gray);
+        listed_lines(out, job, &list, v, asked.gray)?;
     }
-    v.code == 0
+    Ok(v.code == 0)
 }

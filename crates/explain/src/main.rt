@@ -2,10 +2,13 @@
 // With no name it reads standard input. Behind the word `list` it prints the operators of each job too, behind the word `rgb` pages start in RGB and not in gray.
 // A digit on descriptor 3 says whether all pass (0), one is refused (1) or one was not read (2).
 #![tactic(auto)]
+
 mod judging;
 mod named;
 mod unread;
 
-fn main() {
-    named::judge();
+use std::io;
+
+fn main(rt: HostRuntime) -> io::Result<()> {
+    named::judge(&rt)
 }

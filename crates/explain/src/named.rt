@@ -1,35 +1,59 @@
 // The names among the words of the command: of files, and `-` for standard input.
 use crate::judging::judged;
 use crate::unread::unread;
+use answers::read_full;
 use asked::{Asked, behind, is_name};
+use std::env::FillError;
+use std::fs::File;
+use std::io;
+use std::io::{ErrorKind, Read};
+use std::rt::Env;
 use tally::{Outcome, Tally, are_several, is_none, status, total, with};
 
-// The job that an open file holds.
-fn source(fd: i32, path: &[u8], asked: Asked) -> Outcome {
-    let mut job = rooms::job();
-    let n = io::read_full(fd, &mut job);
-    let error = os::errno();
-    if error != 0 {
-        unread(path, error);
-        return Outcome::Unread;
-    }
-    text::name(1, path);
-    if judged(&job[..n], asked) {
-        return Outcome::Passed;
-    }
-    Outcome::Refused
+// A file that could not be read, and why.
+fn not_read(rt: &HostRuntime, path: &[u8], error: ErrorKind) -> io::Result<Outcome> {
+    unread(&rt.stderr(), path, error)?;
+    Ok(Outcome::Unread)
 }
 
-// The file of a name.
-fn file(path: &[u8], asked: Asked) -> Outcome {
-    let fd = os::open_read(path);
-    if fd < 0 {
-        unread(path, os::errno());
-        return Outcome::Unread;
+// The verdict on the job of a name.
+fn verdict(rt: &HostRuntime, path: &[u8], job: &[u8], asked: Asked) -> io::Result<Outcome> {
+    text::name(rt, path)?;
+    if judged(rt, job, asked)? {
+        return Ok(Outcome::Passed);
     }
-    let outcome = source(fd, path, asked);
-    libc::close(fd);
-    outcome
+    Ok(Outcome::Refused)
+}
+
+// The job that an open file holds.
+fn source<R: Read>(
+    rt: &HostRuntime,
+    input: &mut R,
+    path: &[u8],
+    asked: Asked,
+) -> io::Result<Outcome> {
+    let mut job = rooms::job();
+    match read_full(input, &mut job) {
+        Ok(n) => verdict(rt, path, &job[..n], asked),
+        Err(error) => not_read(rt, path, error.kind()),
+    }
+}
+
+// Standard input.
+fn standard(rt: &HostRuntime, asked: Asked) -> io::Result<Outcome> {
+    let mut input = rt.stdin();
+    source(rt, &mut input, b"standard input", asked)
+}
+
+// The file of a name. The system's names are bytes, and those that std opens are text.
+fn file(rt: &HostRuntime, path: &[u8], asked: Asked) -> io::Result<Outcome> {
+    let Ok(name) = str::from_utf8(path) else {
+        return not_read(rt, path, ErrorKind::InvalidFilename);
+    };
+    match File::open(rt, name) {
+        Ok(mut input) => source(rt, &mut input, path, asked),
+        Err(error) => not_read(rt, path, error.kind()),
+    }
 }
 
 // Whether a word is `-`.
@@ -40,62 +64,83 @@ fn is_input(word: &[u8]) -> bool {
     word[0] == b'-'
 }
 
+// The file of a word, or standard input.
+fn word(rt: &HostRuntime, path: &[u8], asked: Asked) -> io::Result<Outcome> {
+    if is_input(path) {
+        return standard(rt, asked);
+    }
+    file(rt, path, asked)
+}
+
 // The file that argument i names, or standard input.
-fn argument(i: usize, asked: Asked) -> Outcome {
-    let mut path = io::buffer();
-    let n = os::arg(i, &mut path);
-    let error = os::errno();
-    if error != 0 {
-        unread(b"(a name of over 4,096 bytes)", error);
-        return Outcome::Unread;
+fn argument(rt: &HostRuntime, i: usize, asked: Asked) -> io::Result<Outcome> {
+    let mut path = [0u8; 4096];
+    match rt.arg(i, &mut path) {
+        Ok(n) => word(rt, &path[..n], asked),
+        Err(_) => not_read(
+            rt,
+            b"(a name of over 4,096 bytes)",
+            ErrorKind::InvalidFilename,
+        ),
     }
-    if is_input(&path[..n]) {
-        return source(0, b"standard input", asked);
+}
+
+// Whether there is an argument i.
+fn is_there(rt: &HostRuntime, i: usize) -> bool {
+    let mut room = [0u8; 1];
+    !matches!(rt.arg(i, &mut room), Err(FillError::NotPresent))
+}
+
+// How many arguments there are, with the program's own name.
+fn count(rt: &HostRuntime) -> usize {
+    for i in 0..usize::MAX {
+        if !is_there(rt, i) {
+            return i;
+        }
     }
-    file(&path[..n], asked)
+    usize::MAX
 }
 
 // The arguments from the first on, of which there are so many with the program's own name.
-fn arguments(n: usize) -> Tally {
+fn arguments(rt: &HostRuntime, n: usize) -> io::Result<Tally> {
     let mut t = tally::none();
     let mut asked = asked::nothing();
-    let mut i: usize = 1;
-    while i < n {
-        if is_name(i) {
-            t = with(t, argument(i, asked));
+    for i in 1..n {
+        if is_name(rt, i) {
+            t = with(t, argument(rt, i, asked)?);
         } else {
-            asked = behind(asked, i);
+            asked = behind(rt, asked, i);
         }
-        i += 1;
     }
-    t
+    Ok(t)
 }
 
 // What argument i asks for besides, if there are over i.
-fn besides(asked: Asked, n: usize, i: usize) -> Asked {
+fn besides(rt: &HostRuntime, asked: Asked, n: usize, i: usize) -> Asked {
     if n <= i {
         return asked;
     }
-    behind(asked, i)
+    behind(rt, asked, i)
 }
 
 // With no name, standard input; each of the two words may stand before it.
-fn input(n: usize) -> Tally {
-    let first = besides(asked::nothing(), n, 1);
-    let both = besides(first, n, 2);
-    with(tally::none(), source(0, b"standard input", both))
+fn input(rt: &HostRuntime, n: usize) -> io::Result<Tally> {
+    let first = besides(rt, asked::nothing(), n, 1);
+    let both = besides(rt, first, n, 2);
+    Ok(with(tally::none(), standard(rt, both)?))
 }
 
 // Judges what the arguments name; of several files the last line is how many pass.
-pub fn judge() {
-    let n = os::arg_count();
-    let t = arguments(n);
+pub fn judge(rt: &HostRuntime) -> io::Result<()> {
+    let n = count(rt);
+    let t = arguments(rt, n)?;
     if is_none(t) {
-        status(input(n));
-        return;
+        status(rt, input(rt, n)?);
+        return Ok(());
     }
     if are_several(t) {
-        total(t);
+        total(rt, t)?;
     }
-    status(t);
+    status(rt, t);
+    Ok(())
 }

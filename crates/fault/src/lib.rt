@@ -1,8 +1,10 @@
 // A fault of a job or of a motif: its cause and its cure.
 #![tactic(auto)]
+
 use facts::Facts;
 use names::attributes::{BLOCK_BYTE_LENGTH, MEDIA_TYPE, PAD_BYTES_MULTIPLE};
 use setting::Class;
+use std::io;
 use text::{number, say};
 
 // The line of an attribute that is missing.
@@ -50,20 +52,28 @@ fn line_of(code: u32, s: &[u8], at: usize, st: &[usize; 16], f: Facts) -> usize 
 }
 
 // The code and the cure of a line.
-pub fn ending(s: &[u8], k: usize, code: u32, f: Facts) {
-    say(b" (code ");
-    number(code);
-    say(b") -- ");
-    tell::cure(k, s, f);
+pub fn ending<P: Print>(out: &P, s: &[u8], k: usize, code: u32, f: Facts) -> io::Result<()> {
+    say(out, b" (code ")?;
+    number(out, code)?;
+    say(out, b") -- ")?;
+    tell::cure(out, k, s, f)
 }
 
 // The cause of a refusal, and the line of its cure.
-fn caused(job: &[u8], list: &[u8], records: usize, s: &[u8], k: usize, f: Facts) -> usize {
+fn caused<P: Print>(
+    out: &P,
+    job: &[u8],
+    list: &[u8],
+    records: usize,
+    s: &[u8],
+    k: usize,
+    f: Facts,
+) -> io::Result<usize> {
     if k == 21 {
-        return unheld::cause(job, list, records, s, f);
+        return unheld::cause(out, job, list, records, s, f);
     }
-    tell::cause(k, s, f);
-    k
+    tell::cause(out, k, s, f)?;
+    Ok(k)
 }
 
 // The line of the cure, which for 9 depends on where matters stand.
@@ -72,32 +82,56 @@ fn cure_at(k: usize, st: &[usize; 16]) -> usize {
 }
 
 // Says what is wrong at a place of the job, and the cure.
-pub fn of_job(job: &[u8], list: &[u8], records: usize, code: u32, at: usize) {
+pub fn of_job<P: Print>(
+    out: &P,
+    job: &[u8],
+    list: &[u8],
+    records: usize,
+    code: u32,
+    at: usize,
+) -> io::Result<()> {
     let mut attrs = [0usize; 80];
     let mut st = [0usize; 16];
     trail::walk_job(job, at, &mut attrs, &mut st);
     let f = facts::facts_in(job, at, &attrs, &st);
-    let k = caused(job, list, records, job, line_of(code, job, at, &st, f), f);
-    ending(job, cure_at(k, &st), code, f);
+    let k = caused(
+        out,
+        job,
+        list,
+        records,
+        job,
+        line_of(code, job, at, &st, f),
+        f,
+    )?;
+    ending(out, job, cure_at(k, &st), code, f)
 }
 
 // Says what is wrong at a place of the motif that was defined last, of which these are the bytes, and the cure.
-pub fn of_motif(job: &[u8], list: &[u8], records: usize, motif: &[u8], code: u32, at: usize) {
+pub fn of_motif<P: Print>(
+    out: &P,
+    job: &[u8],
+    list: &[u8],
+    records: usize,
+    motif: &[u8],
+    code: u32,
+    at: usize,
+) -> io::Result<()> {
     let mut attrs = [0usize; 80];
     let mut st = [0usize; 16];
     trail::walk_motif(motif, at, &mut attrs, &mut st);
     let f = facts::facts_in(motif, at, &attrs, &st);
     let k = caused(
+        out,
         job,
         list,
         records,
         motif,
         line_of(code, motif, at, &st, f),
         f,
-    );
-    say(b", in the motif ");
-    listing::say_name(job, list, records);
-    say(b" at its byte ");
-    text::plain(f.at);
-    ending(motif, cure_at(k, &st), code, f);
+    )?;
+    say(out, b", in the motif ")?;
+    listing::say_name(out, job, list, records)?;
+    say(out, b" at its byte ")?;
+    text::plain(out, f.at)?;
+    ending(out, motif, cure_at(k, &st), code, f)
 }

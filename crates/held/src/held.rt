@@ -2,6 +2,7 @@
 use crate::named::name_of;
 use motif::{LENGTH, ORDER, ROW, START};
 use names::limits::MOTIFS_MOST;
+use std::io;
 use text::say;
 
 // The operators that a motif has itself.
@@ -40,21 +41,21 @@ fn small(n: usize) -> u32 {
 }
 
 // The line of the motif of a row: its name, its number, and how many bytes and operators it has.
-fn line(store: &[u8], motifs: &[usize; 704], k: usize) {
+fn line<P: Print>(out: &P, store: &[u8], motifs: &[usize; 704], k: usize) -> io::Result<()> {
     if MOTIFS_MOST <= k {
-        return;
+        return Ok(());
     }
     let bytes = motifs[k * ROW + LENGTH];
     let many = operators_in(store, motifs[k * ROW + START], bytes);
-    say(b"    motif ");
-    name_of(motifs, k);
-    say(b", number ");
-    text::plain(small(k + 1));
-    say(b": ");
-    text::many(small(bytes), b"byte");
-    say(b", ");
-    text::many(small(many), b"operator");
-    say(b"\n");
+    say(out, b"    motif ")?;
+    name_of(out, motifs, k)?;
+    say(out, b", number ")?;
+    text::plain(out, small(k + 1))?;
+    say(out, b": ")?;
+    text::many(out, small(bytes), b"byte")?;
+    say(out, b", ")?;
+    text::many(out, small(many), b"operator")?;
+    say(out, b"\n")
 }
 
 // The row that stands at a place of the order of names.
@@ -66,11 +67,17 @@ fn row_at(motifs: &[usize; 704], place: usize) -> usize {
 }
 
 // The lines of so many motifs.
-pub fn motifs_held(store: &[u8], motifs: &[usize; 704], held: usize) {
+pub fn motifs_held<P: Print>(
+    out: &P,
+    store: &[u8],
+    motifs: &[usize; 704],
+    held: usize,
+) -> io::Result<()> {
     let many = motif::in_use(held);
     let mut place: usize = 0;
     while place < many {
-        line(store, motifs, row_at(motifs, place));
+        line(out, store, motifs, row_at(motifs, place))?;
         place += 1;
     }
+    Ok(())
 }

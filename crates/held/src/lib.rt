@@ -1,5 +1,6 @@
 // The motifs of a table in words: the name of each, and a line that tells it.
 #![tactic(auto)]
+
 mod held;
 mod named;
 

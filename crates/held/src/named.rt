@@ -1,6 +1,7 @@
 // The names of held motifs, from their table.
 use motif::ROW;
 use names::limits::MOTIFS_MOST;
+use std::io;
 
 // Eight letters of a name, of which these are the number and how many stand behind the one that is wanted.
 fn letter(eight: usize, behind: usize) -> u8 {
@@ -17,7 +18,7 @@ fn letter(eight: usize, behind: usize) -> u8 {
 }
 
 // Says a name of so many letters, which stand in two numbers.
-fn name(first: usize, next: usize, many: usize) {
+fn name<P: Print>(out: &P, first: usize, next: usize, many: usize) -> io::Result<()> {
     let letters = [
         letter(first, 7),
         letter(first, 6),
@@ -36,13 +37,18 @@ fn name(first: usize, next: usize, many: usize) {
         letter(next, 1),
         letter(next, 0),
     ];
-    text::part(&letters, many, 0);
+    text::part(out, &letters, many, 0)
 }
 
 // Says the name of the motif of a row.
-pub fn name_of(motifs: &[usize; 704], k: usize) {
+pub fn name_of<P: Print>(out: &P, motifs: &[usize; 704], k: usize) -> io::Result<()> {
     if MOTIFS_MOST <= k {
-        return;
+        return Ok(());
     }
-    name(motifs[k * ROW], motifs[k * ROW + 1], motifs[k * ROW + 2]);
+    name(
+        out,
+        motifs[k * ROW],
+        motifs[k * ROW + 1],
+        motifs[k * ROW + 2],
+    )
 }

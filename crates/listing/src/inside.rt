@@ -5,6 +5,7 @@ use crate::records::{field, field_four};
 use names::attributes::STREAM_NAME;
 use names::operators::{BEGIN_STREAM, READ_STREAM};
 use phrase::after;
+use std::io;
 
 // A block of a motif is joined to the bytes before it; the answer is how many bytes that makes.
 fn block(job: &[u8], first: usize, length: usize, motif: &mut [u8], used: usize) -> usize {
@@ -62,7 +63,7 @@ fn named(list: &[u8], i: usize, so_far: usize) -> usize {
 }
 
 // Says the motif's name: the last StreamName of the list, since nothing but ReadStream comes behind it.
-pub fn say_name(job: &[u8], list: &[u8], records: usize) {
+pub fn say_name<P: Print>(out: &P, job: &[u8], list: &[u8], records: usize) -> io::Result<()> {
     let mut last: usize = 0;
     let mut i: usize = 0;
     while i < records {
@@ -70,8 +71,9 @@ pub fn say_name(job: &[u8], list: &[u8], records: usize) {
         i += 1;
     }
     text::part(
+        out,
         job,
         field_four(list, last, 8) as usize,
         field_four(list, last, 12) as usize,
-    );
+    )
 }

@@ -1,5 +1,6 @@
 // A job's list of records: its fields, its operators as lines, and the motif that was defined last.
 #![tactic(auto)]
+
 mod inside;
 mod operators;
 mod records;

@@ -5,13 +5,14 @@ use names::operators::{
     BEGIN_PAGE, BEGIN_SESSION, BEGIN_STREAM, END_PAGE, END_SESSION, END_STREAM,
 };
 use phrase::value;
+use std::io;
 use text::say;
 
-fn indent(depth: u32) {
+fn indent<P: Print>(out: &P, depth: u32) -> io::Result<()> {
     match depth {
-        0 => say(b"  "),
-        1 => say(b"    "),
-        _ => say(b"      "),
+        0 => say(out, b"  "),
+        1 => say(out, b"    "),
+        _ => say(out, b"      "),
     }
 }
 
@@ -50,59 +51,65 @@ fn is_text(n: u8) -> bool {
 }
 
 // The attribute of record j.
-fn attribute(job: &[u8], list: &[u8], j: usize) {
+fn attribute<P: Print>(out: &P, job: &[u8], list: &[u8], j: usize) -> io::Result<()> {
     let n = field(list, j, 1);
     let at = field_four(list, j, 12) as usize;
-    say(b", ");
-    phrase::attribute(n as usize);
-    say(b" ");
+    say(out, b", ")?;
+    phrase::attribute(out, n as usize)?;
+    say(out, b" ")?;
     if is_text(n) {
-        text::part(job, field_four(list, j, 8) as usize, at);
-        return;
+        return text::part(out, job, field_four(list, j, 8) as usize, at);
     }
-    value(job, field(list, j, 2), field_four(list, j, 8), at);
+    value(out, job, field(list, j, 2), field_four(list, j, 8), at)
 }
 
 // The attributes of the operator of record i, which stand right before it.
-fn attributes(job: &[u8], list: &[u8], i: usize, count: usize) {
+fn attributes<P: Print>(
+    out: &P,
+    job: &[u8],
+    list: &[u8],
+    i: usize,
+    count: usize,
+) -> io::Result<()> {
     if i < count {
-        return;
+        return Ok(());
     }
     let mut j = i - count;
     while j < i {
-        attribute(job, list, j);
+        attribute(out, job, list, j)?;
         j += 1;
     }
+    Ok(())
 }
 
 // The embedded data, if there is any.
-fn data(length: u32) {
+fn data<P: Print>(out: &P, length: u32) -> io::Result<()> {
     if length == 0 {
-        return;
+        return Ok(());
     }
-    say(b", ");
-    text::many(length, b"byte");
-    say(b" of data");
+    say(out, b", ")?;
+    text::many(out, length, b"byte")?;
+    say(out, b" of data")
 }
 
 // The line of the operator of record i.
-fn operator(job: &[u8], list: &[u8], i: usize, tag: u8) {
-    phrase::operator(tag);
-    say(b" at byte ");
-    text::plain(field_four(list, i, 4));
-    attributes(job, list, i, field(list, i, 2) as usize);
-    data(field_four(list, i, 8));
-    say(b"\n");
+fn operator<P: Print>(out: &P, job: &[u8], list: &[u8], i: usize, tag: u8) -> io::Result<()> {
+    phrase::operator(out, tag)?;
+    say(out, b" at byte ")?;
+    text::plain(out, field_four(list, i, 4))?;
+    attributes(out, job, list, i, field(list, i, 2) as usize)?;
+    data(out, field_four(list, i, 8))?;
+    say(out, b"\n")
 }
 
 // Says the line of record i, if it is an operator's; the answer is the depth behind it.
-pub fn line(job: &[u8], list: &[u8], i: usize, depth: u32) -> u32 {
+pub fn line<P: Print>(out: &P, job: &[u8], list: &[u8], i: usize, depth: u32) -> io::Result<u32> {
     if field(list, i, 0) != 2 {
-        return depth;
+        return Ok(depth);
     }
     let tag = field(list, i, 1);
     let own = depth_at(tag, depth);
-    indent(own);
-    operator(job, list, i, tag);
-    depth_behind(tag, own)
+    indent(out, own)?;
+    operator(out, job, list, i, tag)?;
+    Ok(depth_behind(tag, own))
 }

@@ -1,56 +1,55 @@
 // The refused operator as a line of the list, marked.
 #![tactic(auto)]
+
+use std::io;
 use text::say;
 
 // Says where the refusal is, if it is not at the operator's own place.
-fn refused(at: usize, place: usize) {
+fn refused<P: Print>(out: &P, at: usize, place: usize) -> io::Result<()> {
     if at == place {
-        say(b", refused here\n");
-        return;
+        return say(out, b", refused here\n");
     }
-    say(b", refused at byte ");
-    number(at);
-    say(b"\n");
+    say(out, b", refused at byte ")?;
+    number(out, at)?;
+    say(out, b"\n")
 }
 
-fn number(at: usize) {
-    text::plain((at % 4_294_967_296) as u32);
+fn number<P: Print>(out: &P, at: usize) -> io::Result<()> {
+    text::plain(out, (at % 4_294_967_296) as u32)
 }
 
 // The line of the operator of a tag at a place.
-fn operator(tag: usize, place: usize, at: usize) {
-    say(b"> ");
-    phrase::operator((tag % 256) as u8);
-    say(b" at byte ");
-    number(place);
-    refused(at, place);
+fn operator<P: Print>(out: &P, tag: usize, place: usize, at: usize) -> io::Result<()> {
+    say(out, b"> ")?;
+    phrase::operator(out, (tag % 256) as u8)?;
+    say(out, b" at byte ")?;
+    number(out, place)?;
+    refused(out, at, place)
 }
 
 // The line where no operator is found.
-fn nothing(at: usize) {
-    say(b"> refused here, at byte ");
-    number(at);
-    say(b"\n");
+fn nothing<P: Print>(out: &P, at: usize) -> io::Result<()> {
+    say(out, b"> refused here, at byte ")?;
+    number(out, at)?;
+    say(out, b"\n")
 }
 
 // The line of the operator that is refused by a code at a place of the job, or by a value there; of the place alone if there is none, as with 1 to 4.
-pub fn line(job: &[u8], code: u32, at: usize) {
+pub fn line<P: Print>(out: &P, job: &[u8], code: u32, at: usize) -> io::Result<()> {
     if code <= 4 {
-        nothing(at);
-        return;
+        return nothing(out, at);
     }
-    found(job, at);
+    found(out, job, at)
 }
 
 // The line of the operator at a place, or with a value there.
-fn found(job: &[u8], at: usize) {
+fn found<P: Print>(out: &P, job: &[u8], at: usize) -> io::Result<()> {
     let mut attrs = [0usize; 80];
     let mut st = [0usize; 16];
     trail::walk_job(job, at, &mut attrs, &mut st);
     let tag = st[trail::TAG];
     if tag == 0 {
-        nothing(at);
-        return;
+        return nothing(out, at);
     }
-    operator(tag, st[trail::PLACE], at);
+    operator(out, tag, st[trail::PLACE], at)
 }

@@ -1,4 +1,5 @@
 // The names of operators and attributes as text.
+use std::io;
 use text::line;
 use words::{AttributeName, OperatorName};
 
@@ -90,8 +91,9 @@ fn attribute_line(name: AttributeName) -> usize {
     }
 }
 
-fn operator_names(k: usize) {
+fn operator_names<P: Print>(out: &P, k: usize) -> io::Result<()> {
     line(
+        out,
         b"BeginSession
 EndSession
 BeginPage
@@ -126,11 +128,12 @@ ReadRastPattern
 EndRastPattern
 ",
         k,
-    );
+    )
 }
 
-fn attribute_names(k: usize) {
+fn attribute_names<P: Print>(out: &P, k: usize) -> io::Result<()> {
     line(
+        out,
         b"ColorSpace
 NullBrush
 NullPen
@@ -170,12 +173,13 @@ StreamDataLength
 ErrorReport
 ",
         k,
-    );
+    )
 }
 
 // The reference's other operators, each behind its tag.
-fn foreign_operator(tag: u8) -> bool {
+fn foreign_operator<P: Print>(out: &P, tag: u8) -> io::Result<bool> {
     text::keyed(
+        out,
         b"\x4fBeginFontHeader
 \x50ReadFontHeader
 \x51EndFontHeader
@@ -234,8 +238,9 @@ fn foreign_operator(tag: u8) -> bool {
 }
 
 // The reference's other attributes, each behind its number.
-fn foreign_attribute(n: u8) -> bool {
+fn foreign_attribute<P: Print>(out: &P, n: u8) -> io::Result<bool> {
     text::keyed(
+        out,
         b"\x02PaletteDepth
 \x06PaletteData
 \x0cPatternOrigin
@@ -295,48 +300,45 @@ fn foreign_attribute(n: u8) -> bool {
 }
 
 // Says a tag that the table does not have: its name, if the reference has one, and its byte.
-fn unknown_operator(tag: u8) {
-    if foreign_operator(tag) {
-        text::say(b", ");
+fn unknown_operator<P: Print>(out: &P, tag: u8) -> io::Result<()> {
+    if foreign_operator(out, tag)? {
+        text::say(out, b", ")?;
     }
-    text::byte(tag);
+    text::byte(out, tag)
 }
 
 // Says the operator of a tag.
-pub fn operator(tag: u8) {
+pub fn operator<P: Print>(out: &P, tag: u8) -> io::Result<()> {
     let k = operator_line(words::operator_of(tag));
     if k == OPERATORS {
-        unknown_operator(tag);
-        return;
+        return unknown_operator(out, tag);
     }
-    operator_names(k);
+    operator_names(out, k)
 }
 
 // Says an attribute's number that the table does not have: its name, if the reference has one, and the number.
-fn unknown_attribute(n: u8) {
-    if foreign_attribute(n) {
-        text::say(b", ");
+fn unknown_attribute<P: Print>(out: &P, n: u8) -> io::Result<()> {
+    if foreign_attribute(out, n)? {
+        text::say(out, b", ")?;
     }
-    text::say(b"number ");
-    text::number(n as u32);
+    text::say(out, b"number ")?;
+    text::number(out, n as u32)
 }
 
 // Says the attribute of a number of one byte.
-fn known_attribute(n: u8) {
+fn known_attribute<P: Print>(out: &P, n: u8) -> io::Result<()> {
     let k = attribute_line(words::attribute_of(n));
     if k == ATTRIBUTES {
-        unknown_attribute(n);
-        return;
+        return unknown_attribute(out, n);
     }
-    attribute_names(k);
+    attribute_names(out, k)
 }
 
 // Says an attribute; its number may have two bytes.
-pub fn attribute(n: usize) {
+pub fn attribute<P: Print>(out: &P, n: usize) -> io::Result<()> {
     if n < 256 {
-        known_attribute((n % 256) as u8);
-        return;
+        return known_attribute(out, (n % 256) as u8);
     }
-    text::say(b"number ");
-    text::number((n % 65_536) as u32);
+    text::say(out, b"number ")?;
+    text::number(out, (n % 65_536) as u32)
 }

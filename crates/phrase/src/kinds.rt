@@ -1,4 +1,5 @@
 // The types of values.
+use std::io;
 
 // The line of a type in the text below, by the type's tag.
 fn kind_line(tag: u8) -> usize {
@@ -13,8 +14,9 @@ fn kind_line(tag: u8) -> usize {
 }
 
 // Says the type of a value by its tag.
-pub fn kind(tag: u8) {
+pub fn kind<P: Print>(out: &P, tag: u8) -> io::Result<()> {
     text::line(
+        out,
         b"ubyte
 uint16
 uint32
@@ -41,5 +43,5 @@ four sint32
 four real32
 ",
         kind_line(tag),
-    );
+    )
 }

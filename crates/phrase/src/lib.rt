@@ -1,5 +1,6 @@
 // What stands in a job, in words: operators, attributes, types and values.
 #![tactic(auto)]
+
 mod called;
 mod kinds;
 mod values;

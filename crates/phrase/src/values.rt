@@ -1,6 +1,7 @@
 // The values of attributes, as numbers where they are short.
 use crate::kinds::kind;
 use number::{Width, number_at};
+use std::io;
 use text::{number, real, say};
 
 // The place k bytes on; a place that no job has stays as it is.
@@ -15,55 +16,56 @@ pub fn after(at: usize, k: usize) -> usize {
 }
 
 // Says a sint16 by its two bytes.
-pub fn signed(n: u32) {
+pub fn signed<P: Print>(out: &P, n: u32) -> io::Result<()> {
     if n < 32_768 {
-        number(n);
-        return;
+        return number(out, n);
     }
     if n < 65_536 {
-        say(b"-");
-        number(65_536 - n);
+        say(out, b"-")?;
+        number(out, 65_536 - n)?;
     }
+    Ok(())
 }
 
 // Says the number at a place, by the tag of its type, and answers the place behind it.
-fn one(s: &[u8], high: bool, tag: u8, at: usize) -> usize {
+fn one<P: Print>(out: &P, s: &[u8], high: bool, tag: u8, at: usize) -> io::Result<usize> {
     match tag % 8 {
         0 => {
-            number(number_at(s, at, Width::One, high));
-            after(at, 1)
+            number(out, number_at(s, at, Width::One, high))?;
+            Ok(after(at, 1))
         }
         1 => {
-            number(number_at(s, at, Width::Two, high));
-            after(at, 2)
+            number(out, number_at(s, at, Width::Two, high))?;
+            Ok(after(at, 2))
         }
         2 => {
-            number(number_at(s, at, Width::Four, high));
-            after(at, 4)
+            number(out, number_at(s, at, Width::Four, high))?;
+            Ok(after(at, 4))
         }
         3 => {
-            signed(number_at(s, at, Width::Two, high));
-            after(at, 2)
+            signed(out, number_at(s, at, Width::Two, high))?;
+            Ok(after(at, 2))
         }
         _ => {
-            real(number_at(s, at, Width::Four, high));
-            after(at, 4)
+            real(out, number_at(s, at, Width::Four, high))?;
+            Ok(after(at, 4))
         }
     }
 }
 
 // Says so many numbers of a type, the first at a place.
-fn numbers(s: &[u8], tag: u8, count: u32, first: usize) {
+fn numbers<P: Print>(out: &P, s: &[u8], tag: u8, count: u32, first: usize) -> io::Result<()> {
     let high = number::byte_at(s, 0) == 0x28;
     let mut at = first;
     let mut i: u32 = 0;
     while i < count {
         if i != 0 {
-            say(b" ");
+            say(out, b" ")?;
         }
-        at = one(s, high, tag, at);
+        at = one(out, s, high, tag, at)?;
         i += 1;
     }
+    Ok(())
 }
 
 // Whether a value is said by its numbers: few, and of a type that an attribute takes.
@@ -82,13 +84,12 @@ fn is_short(tag: u8, count: u32) -> bool {
 }
 
 // Says the value of so many numbers, whose first stands at a place.
-pub fn value(s: &[u8], tag: u8, count: u32, first: usize) {
+pub fn value<P: Print>(out: &P, s: &[u8], tag: u8, count: u32, first: usize) -> io::Result<()> {
     if is_short(tag, count) {
-        numbers(s, tag, count, first);
-        return;
+        return numbers(out, s, tag, count, first);
     }
-    kind(tag);
-    say(b", ");
-    number(count);
-    say(b" long");
+    kind(out, tag)?;
+    say(out, b", ")?;
+    number(out, count)?;
+    say(out, b" long")
 }

@@ -4,20 +4,34 @@ use keeping::{Keeping, MANY, keep};
 use listing::field;
 use names::operators::END_SESSION;
 use setting::Setting;
+use std::io;
 use trail::tag_of;
 
 // Behind EndSession the motifs that the session held.
-fn behind(store: &[u8], motifs: &[usize; 704], st: &[usize; 16]) {
+fn behind<P: Print>(
+    out: &P,
+    store: &[u8],
+    motifs: &[usize; 704],
+    st: &[usize; 16],
+) -> io::Result<()> {
     if tag_of(st) == END_SESSION {
-        motifs_held(store, motifs, st[MANY]);
+        motifs_held(out, store, motifs, st[MANY])?;
     }
+    Ok(())
 }
 
 // Behind the last line those of a session that is not ended.
-fn at_end(store: &[u8], motifs: &[usize; 704], st: &[usize; 16], depth: u32) {
+fn at_end<P: Print>(
+    out: &P,
+    store: &[u8],
+    motifs: &[usize; 704],
+    st: &[usize; 16],
+    depth: u32,
+) -> io::Result<()> {
     if depth != 0 {
-        motifs_held(store, motifs, st[MANY]);
+        motifs_held(out, store, motifs, st[MANY])?;
     }
+    Ok(())
 }
 
 // How far a walk has come through the job, and the motifs held there.
@@ -28,7 +42,8 @@ struct Walk {
 }
 
 // The walk behind record i, where that is an operator's; behind EndSession its motifs are said.
-fn onward(
+fn onward<P: Print>(
+    out: &P,
     job: &[u8],
     list: &[u8],
     i: usize,
@@ -38,19 +53,26 @@ fn onward(
     attrs: &mut [usize; 80],
     st: &mut [usize; 16],
     walk: Walk,
-) -> Walk {
+) -> io::Result<Walk> {
     if field(list, i, 0) != 2 {
-        return walk;
+        return Ok(walk);
     }
     let before = walk.held;
     let at = trail::pass(job, set.high, walk.at, job.len(), attrs, st);
     let held = keep(job, set, store, motifs, attrs, st, before);
-    behind(store, motifs, st);
-    Walk { at, held }
+    behind(out, store, motifs, st)?;
+    Ok(Walk { at, held })
 }
 
 // The lines of so many records of a job, whose pages start in gray or else in RGB; the store is room for the motifs.
-pub fn lines(job: &[u8], list: &[u8], records: usize, gray: bool, store: &mut [u8]) {
+pub fn lines<P: Print>(
+    out: &P,
+    job: &[u8],
+    list: &[u8],
+    records: usize,
+    gray: bool,
+    store: &mut [u8],
+) -> io::Result<()> {
     let set = trail::setting_in(job, gray);
     let mut motifs = [0usize; 704];
     let mut attrs = [0usize; 80];
@@ -62,8 +84,9 @@ pub fn lines(job: &[u8], list: &[u8], records: usize, gray: bool, store: &mut [u
     let mut depth: u32 = 0;
     let mut i: usize = 0;
     while i < records {
-        depth = listing::line(job, list, i, depth);
+        depth = listing::line(out, job, list, i, depth)?;
         walk = onward(
+            out,
             job,
             list,
             i,
@@ -73,8 +96,8 @@ pub fn lines(job: &[u8], list: &[u8], records: usize, gray: bool, store: &mut [u
             &mut attrs,
             &mut st,
             walk,
-        );
+        )?;
         i += 1;
     }
-    at_end(store, &motifs, &st, depth);
+    at_end(out, store, &motifs, &st, depth)
 }

@@ -1,6 +1,14 @@
 // How many files pass, are refused, or could not be read.
 #![tactic(auto)]
+
+use std::fs::OpenOptions;
+use std::io::Write;
+use std::rt::Files;
+use std::{fs, io};
 use text::{number, say};
+
+// Descriptor 3 by its path.
+const STATUS: &str = "/dev/fd/3";
 
 // What became of a file.
 #[derive(Clone, Copy)]
@@ -84,28 +92,46 @@ pub fn are_several(t: Tally) -> bool {
 }
 
 // The last line of several files.
-pub fn total(t: Tally) {
-    number(t.passed);
-    say(b" pass, ");
-    number(t.refused);
-    say(b" refused");
+pub fn total<P: Print>(out: &P, t: Tally) -> io::Result<()> {
+    number(out, t.passed)?;
+    say(out, b" pass, ")?;
+    number(out, t.refused)?;
+    say(out, b" refused")?;
     if t.unread != 0 {
-        say(b", ");
-        number(t.unread);
-        say(b" not read");
+        say(out, b", ")?;
+        number(out, t.unread)?;
+        say(out, b" not read")?;
     }
-    say(b"\n");
+    say(out, b"\n")
 }
 
 // The status for whoever started the program, as one digit on descriptor 3: 2 if a file was not read, 1 if one is refused, 0 if all pass.
-pub fn status(t: Tally) {
+pub fn status<R: Files>(rt: &R, t: Tally) {
     if t.unread != 0 {
-        io::write_all(3, b"2");
+        digit(rt, b"2");
         return;
     }
     if t.refused != 0 {
-        io::write_all(3, b"1");
+        digit(rt, b"1");
         return;
     }
-    io::write_all(3, b"0");
+    digit(rt, b"0");
+}
+
+// A digit on descriptor 3; where that is not open for writing, or takes none, nothing.
+fn digit<R: Files>(rt: &R, one: &[u8]) {
+    if !is_writable(rt, STATUS) {
+        return;
+    }
+    if let Ok(mut to) = OpenOptions::new().append(true).open(rt, STATUS) {
+        let _ = to.write_all(one);
+    }
+}
+
+// Whether the descriptor of a path is open for writing: the link that stands for it has a bit that says so.
+fn is_writable<R: Files>(rt: &R, path: &str) -> bool {
+    match fs::symlink_metadata(rt, path) {
+        Ok(link) => !link.permissions().readonly(),
+        Err(_) => false,
+    }
 }

@@ -1,5 +1,6 @@
 // Why a job is refused, and what to change, as sentences with gaps that facts fill.
 #![tactic(auto)]
+
 mod kinds;
 mod lines;
 mod sentence;

@@ -1,9 +1,10 @@
 // What each line means, and what to change. The first lines are the codes', that of 20, which is retired, is empty; those from 30 on say more where more is known, and are no codes. The cures have lines more: for an operator of a motif that is called, for what may come in place of an operator that is not known, and for a motif that calls itself.
 use crate::sentence::sentence;
 use facts::Facts;
+use std::io;
 
 // Says why a job or a motif is refused.
-pub fn cause(k: usize, s: &[u8], f: Facts) {
+pub fn cause<P: Print>(out: &P, k: usize, s: &[u8], f: Facts) -> io::Result<()> {
     let lines = b"
 longer than 61,440 bytes
 header malformed
@@ -89,11 +90,11 @@ out of order: %o in a motif
 out of order: %o in an image
 out of order: %o in a pattern
 ";
-    sentence(lines, k, s, f);
+    sentence(out, lines, k, s, f)
 }
 
 // Says what to change.
-pub fn cure(k: usize, s: &[u8], f: Facts) {
+pub fn cure<P: Print>(out: &P, k: usize, s: &[u8], f: Facts) -> io::Result<()> {
     let lines = b"
 make the job shorter, or split it in two
 begin the file with `) HP-PCL XL;1;1` and a line feed, nothing before it
@@ -190,5 +191,5 @@ take it out: in a pattern only ReadRastPattern and EndRastPattern may come
 take it out: in a motif only Comment, ExecStream, PushGS, PopGS, SetBrushSource, SetColorSpace, SetCursor, SetCursorRel, SetPenSource, SetPenWidth, CloseSubPath, NewPath, PaintPath, LinePath, LineRelPath, Rectangle and BeginImage may come, and in class 2;1 SetDefaultGS
 let the motif not call itself
 ";
-    sentence(lines, k, s, f);
+    sentence(out, lines, k, s, f)
 }

@@ -1,5 +1,6 @@
-// Words, numbers, reals, lines of a text and names, on standard output or another descriptor.
+// Words, numbers, reals, lines of a text and names, on standard output or whatever else prints.
 #![tactic(auto)]
+
 mod lines;
 mod named;
 mod out;

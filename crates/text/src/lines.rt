@@ -1,4 +1,6 @@
 // The lines of a text, counted from 0.
+use std::io;
+
 const LINE_FEED: u8 = 0x0a;
 
 // Where line k starts; the text's end if it has not so many.
@@ -30,18 +32,19 @@ fn end_of(text: &[u8], start: usize) -> usize {
 }
 
 // Says the rest of the line from a place on.
-fn rest(text: &[u8], start: usize) {
+fn rest<P: Print>(out: &P, text: &[u8], start: usize) -> io::Result<()> {
     let end = end_of(text, start);
     if start <= end {
         if end <= text.len() {
-            io::write_all(1, &text[start..end]);
+            out.write_all(&text[start..end])?;
         }
     }
+    Ok(())
 }
 
 // Says line k.
-pub fn line(text: &[u8], k: usize) {
-    rest(text, start_of(text, k));
+pub fn line<P: Print>(out: &P, text: &[u8], k: usize) -> io::Result<()> {
+    rest(out, text, start_of(text, k))
 }
 
 // The place behind the first byte of the line that begins with it; the text's end if none does.
@@ -64,11 +67,11 @@ fn opens(fresh: bool, b: u8, key: u8) -> bool {
 }
 
 // Says the line that begins with a byte, without it, and whether there is one.
-pub fn keyed(text: &[u8], key: u8) -> bool {
+pub fn keyed<P: Print>(out: &P, text: &[u8], key: u8) -> io::Result<bool> {
     let at = behind(text, key);
     if text.len() <= at {
-        return false;
+        return Ok(false);
     }
-    rest(text, at);
-    true
+    rest(out, text, at)?;
+    Ok(true)
 }

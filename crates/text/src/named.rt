@@ -1,4 +1,5 @@
 // Names of files and motifs, so that no byte of them steers a terminal.
+use std::io;
 
 fn byte_at(s: &[u8], at: usize) -> u8 {
     if at < s.len() { s[at] } else { 0 }
@@ -62,50 +63,51 @@ fn letter(s: &[u8], at: usize) -> usize {
 }
 
 // Says a byte that is no letter.
-fn escaped(fd: i32, b: u8) {
-    io::write_all(fd, b"\\x");
-    io::print_hex(fd, b as u64, 2);
+fn escaped<P: Print>(out: &P, b: u8) -> io::Result<()> {
+    out.write_all(b"\\x")?;
+    print!(out; "{b:02x}")
 }
 
 // Says a byte as it is.
-fn raw(fd: i32, b: u8) {
+fn raw<P: Print>(out: &P, b: u8) -> io::Result<()> {
     let one = [b];
-    io::write_all(fd, &one);
+    out.write_all(&one)
 }
 
 // Says the byte at a place, where so many of its letter are left; the answer is how many are left then.
-fn glyph(fd: i32, s: &[u8], at: usize, left: usize) -> usize {
+fn glyph<P: Print>(out: &P, s: &[u8], at: usize, left: usize) -> io::Result<usize> {
     let b = byte_at(s, at);
     if 0 < left {
-        raw(fd, b);
-        return left - 1;
+        raw(out, b)?;
+        return Ok(left - 1);
     }
     let n = letter(s, at);
     if n == 0 {
-        escaped(fd, b);
-        return 0;
+        escaped(out, b)?;
+        return Ok(0);
     }
-    raw(fd, b);
-    n - 1
+    raw(out, b)?;
+    Ok(n - 1)
 }
 
 // Says a name: letters as they are, any other byte as its number.
-pub fn name(fd: i32, s: &[u8]) {
+pub fn name<P: Print>(out: &P, s: &[u8]) -> io::Result<()> {
     let mut left: usize = 0;
     let mut i: usize = 0;
     while i < s.len() {
-        left = glyph(fd, s, i, left);
+        left = glyph(out, s, i, left)?;
         i += 1;
     }
+    Ok(())
 }
 
 // Says the name of so many bytes from a place on, in quotes.
-pub fn part(s: &[u8], count: usize, first: usize) {
-    io::write_all(1, b"'");
+pub fn part<P: Print>(out: &P, s: &[u8], count: usize, first: usize) -> io::Result<()> {
+    out.write_all(b"'")?;
     if first <= s.len() {
         if count <= s.len() - first {
-            name(1, &s[first..first + count]);
+            name(out, &s[first..first + count])?;
         }
     }
-    io::write_all(1, b"'");
+    out.write_all(b"'")
 }

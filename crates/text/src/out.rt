@@ -1,58 +1,59 @@
-// Words and numbers on standard output.
-pub fn say(text: &[u8]) {
-    io::write_all(1, text);
+// Words and numbers on what prints.
+use std::io;
+
+pub fn say<P: Print>(out: &P, text: &[u8]) -> io::Result<()> {
+    out.write_all(text)
 }
 
 // A number as plain digits.
-pub fn plain(n: u32) {
-    io::print_decimal(1, n as u64);
+pub fn plain<P: Print>(out: &P, n: u32) -> io::Result<()> {
+    out.print(n)
 }
 
 // Three digits behind a comma.
-fn group(n: u32) {
+fn group<P: Print>(out: &P, n: u32) -> io::Result<()> {
     if n < 10 {
-        say(b",00");
+        say(out, b",00")?;
     } else if n < 100 {
-        say(b",0");
+        say(out, b",0")?;
     } else {
-        say(b",");
+        say(out, b",")?;
     }
-    plain(n);
+    plain(out, n)
 }
 
 // A number below a million.
-fn short(n: u32) {
+fn short<P: Print>(out: &P, n: u32) -> io::Result<()> {
     if n < 1_000 {
-        plain(n);
-        return;
+        return plain(out, n);
     }
-    plain(n / 1_000);
-    group(n % 1_000);
+    plain(out, n / 1_000)?;
+    group(out, n % 1_000)
 }
 
 // A number with a comma between the thousands.
-pub fn number(n: u32) {
+pub fn number<P: Print>(out: &P, n: u32) -> io::Result<()> {
     if n < 1_000_000 {
-        short(n);
-        return;
+        return short(out, n);
     }
-    short(n / 1_000_000);
-    group(n / 1_000 % 1_000);
-    group(n % 1_000);
+    short(out, n / 1_000_000)?;
+    group(out, n / 1_000 % 1_000)?;
+    group(out, n % 1_000)
 }
 
 // So many things of a name, which gets an s unless there is one.
-pub fn many(n: u32, thing: &[u8]) {
-    number(n);
-    say(b" ");
-    say(thing);
+pub fn many<P: Print>(out: &P, n: u32, thing: &[u8]) -> io::Result<()> {
+    number(out, n)?;
+    say(out, b" ")?;
+    say(out, thing)?;
     if n != 1 {
-        say(b"s");
+        say(out, b"s")?;
     }
+    Ok(())
 }
 
 // A byte as 01 writes it.
-pub fn byte(b: u8) {
-    say(b"0x");
-    io::print_hex(1, b as u64, 2);
+pub fn byte<P: Print>(out: &P, b: u8) -> io::Result<()> {
+    say(out, b"0x")?;
+    print!(out; "{b:02x}")
 }

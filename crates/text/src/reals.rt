@@ -2,6 +2,7 @@
 ghost use Rattle.std.specs.Prelude.{◌≤◌, ◌<◌};
 
 use crate::out::say;
+use std::io;
 
 const SIGN: u32 = 0x8000_0000;
 
@@ -16,66 +17,64 @@ const MOST: u32 = 0x4e80_0000;
 const UNIT: u64 = 8_589_934_592;
 
 // Says a part of 1 behind the point, up to eleven digits: what is left out is too small to lead to another real.
-fn fraction(part: u64)
+fn fraction<P: Print>(out: &P, part: u64) -> io::Result<()>
     requires { part < 8_589_934_592 }
 {
     let mut rest = part;
     let mut left: u32 = 11;
     while 0 < left {
         let ten = rest * 10;
-        io::print_decimal(1, ten / UNIT);
+        out.print(ten / UNIT)?;
         rest = ten % UNIT;
         if rest == 0 {
-            return;
+            return Ok(());
         }
         left -= 1;
     }
+    Ok(())
 }
 
 // Says a real from 2^-10 to below 2^30: 24 binary digits, of which the exponent says where they stand.
-fn decimal(bits: u32)
+fn decimal<P: Print>(out: &P, bits: u32) -> io::Result<()>
     requires { (0x3a80_0000 ≤ bits) × (bits < 0x4e80_0000) }
 {
     let digits = (bits % 0x80_0000 + 0x80_0000) as u64;
     let parts = digits << (bits / 0x80_0000 - 117);
-    io::print_decimal(1, parts / UNIT);
-    say(b".");
-    fraction(parts % UNIT);
+    out.print(parts / UNIT)?;
+    say(out, b".")?;
+    fraction(out, parts % UNIT)
 }
 
-fn sign(bits: u32) {
+fn sign<P: Print>(out: &P, bits: u32) -> io::Result<()> {
     if SIGN <= bits {
-        say(b"-");
+        say(out, b"-")?;
     }
+    Ok(())
 }
 
 // Says a real by its bits.
-fn as_bits(bits: u32) {
-    say(b"0x");
-    io::print_hex(1, bits as u64, 8);
+fn as_bits<P: Print>(out: &P, bits: u32) -> io::Result<()> {
+    say(out, b"0x")?;
+    print!(out; "{bits:08x}")
 }
 
 // Says a real.
-pub fn real(bits: u32) {
+pub fn real<P: Print>(out: &P, bits: u32) -> io::Result<()> {
     let size = bits % SIGN;
     if size == 0 {
-        sign(bits);
-        say(b"0.0");
-        return;
+        sign(out, bits)?;
+        return say(out, b"0.0");
     }
     if size == INFINITE {
-        sign(bits);
-        say(b"inf");
-        return;
+        sign(out, bits)?;
+        return say(out, b"inf");
     }
     if size < LEAST {
-        as_bits(bits);
-        return;
+        return as_bits(out, bits);
     }
     if MOST <= size {
-        as_bits(bits);
-        return;
+        return as_bits(out, bits);
     }
-    sign(bits);
-    decimal(size);
+    sign(out, bits)?;
+    decimal(out, size)
 }

@@ -3,6 +3,7 @@ use crate::behind::{Later, look_behind};
 use alike::Other;
 use facts::Facts;
 use listing::field_four;
+use std::io;
 use text::say;
 
 // The lines of its sentences.
@@ -15,43 +16,58 @@ const LATER: usize = 67;
 const LATER_ELSEWHERE: usize = 68;
 
 // Says that a motif of the name is defined later, at a place.
-fn later(s: &[u8], f: Facts, place: usize) -> usize {
-    tell::cause(LATER, s, f);
-    say(b", at byte ");
-    text::plain((place % 4_294_967_296) as u32);
-    LATER
+fn later<P: Print>(out: &P, s: &[u8], f: Facts, place: usize) -> io::Result<usize> {
+    tell::cause(out, LATER, s, f)?;
+    say(out, b", at byte ")?;
+    text::plain(out, (place % 4_294_967_296) as u32)?;
+    Ok(LATER)
 }
 
-fn later_elsewhere(s: &[u8], f: Facts, place: usize) -> usize {
-    later(s, f, place);
-    say(b", in another session");
-    LATER_ELSEWHERE
+fn later_elsewhere<P: Print>(out: &P, s: &[u8], f: Facts, place: usize) -> io::Result<usize> {
+    later(out, s, f, place)?;
+    say(out, b", in another session")?;
+    Ok(LATER_ELSEWHERE)
 }
 
-fn line(k: usize, s: &[u8], f: Facts) -> usize {
-    tell::cause(k, s, f);
-    k
+fn line<P: Print>(out: &P, k: usize, s: &[u8], f: Facts) -> io::Result<usize> {
+    tell::cause(out, k, s, f)?;
+    Ok(k)
 }
 
 // Says that there is a name that is nearly the same, by its record.
-fn like(job: &[u8], list: &[u8], i: usize, s: &[u8], f: Facts) -> usize {
-    tell::cause(UNHELD, s, f);
-    say(b"; there is ");
+fn like<P: Print>(
+    out: &P,
+    job: &[u8],
+    list: &[u8],
+    i: usize,
+    s: &[u8],
+    f: Facts,
+) -> io::Result<usize> {
+    tell::cause(out, UNHELD, s, f)?;
+    say(out, b"; there is ")?;
     text::part(
+        out,
         job,
         field_four(list, i, 8) as usize,
         field_four(list, i, 12) as usize,
-    );
-    UNHELD
+    )?;
+    Ok(UNHELD)
 }
 
 // With no motif of the name later; one before in this session would be held.
-fn before(job: &[u8], list: &[u8], other: Other, s: &[u8], f: Facts) -> usize {
+fn before<P: Print>(
+    out: &P,
+    job: &[u8],
+    list: &[u8],
+    other: Other,
+    s: &[u8],
+    f: Facts,
+) -> io::Result<usize> {
     match other {
-        Other::Here => line(UNHELD, s, f),
-        Other::Earlier => line(EARLIER, s, f),
-        Other::Like(i) => like(job, list, i, s, f),
-        Other::Nobody => line(UNHELD, s, f),
+        Other::Here => line(out, UNHELD, s, f),
+        Other::Earlier => line(out, EARLIER, s, f),
+        Other::Like(i) => like(out, job, list, i, s, f),
+        Other::Nobody => line(out, UNHELD, s, f),
     }
 }
 
@@ -66,32 +82,55 @@ fn is_told(other: Other) -> bool {
 }
 
 // With one later, in another session: one of the name before is nearer.
-fn elsewhere(job: &[u8], list: &[u8], other: Other, s: &[u8], f: Facts, place: usize) -> usize {
+fn elsewhere<P: Print>(
+    out: &P,
+    job: &[u8],
+    list: &[u8],
+    other: Other,
+    s: &[u8],
+    f: Facts,
+    place: usize,
+) -> io::Result<usize> {
     if is_told(other) {
-        return before(job, list, other, s, f);
+        return before(out, job, list, other, s, f);
     }
-    later_elsewhere(s, f, place)
+    later_elsewhere(out, s, f, place)
 }
 
 // Of a name.
-fn named(job: &[u8], list: &[u8], records: usize, s: &[u8], f: Facts, name: &[u8]) -> usize {
+fn named<P: Print>(
+    out: &P,
+    job: &[u8],
+    list: &[u8],
+    records: usize,
+    s: &[u8],
+    f: Facts,
+    name: &[u8],
+) -> io::Result<usize> {
     let other = alike::look_for(job, list, records, name);
     match look_behind(job, list, records, name) {
-        Later::Here(place) => later(s, f, place),
-        Later::Elsewhere(place) => elsewhere(job, list, other, s, f, place),
-        Later::Nowhere => before(job, list, other, s, f),
+        Later::Here(place) => later(out, s, f, place),
+        Later::Elsewhere(place) => elsewhere(out, job, list, other, s, f, place),
+        Later::Nowhere => before(out, job, list, other, s, f),
     }
 }
 
 // Says why the name that the operator of s gives is not held; the answer is the line of the cure.
-pub fn cause(job: &[u8], list: &[u8], records: usize, s: &[u8], f: Facts) -> usize {
+pub fn cause<P: Print>(
+    out: &P,
+    job: &[u8],
+    list: &[u8],
+    records: usize,
+    s: &[u8],
+    f: Facts,
+) -> io::Result<usize> {
     let first = f.name;
     let count = f.letters;
     if s.len() < first {
-        return UNHELD;
+        return Ok(UNHELD);
     }
     if s.len() - first < count {
-        return UNHELD;
+        return Ok(UNHELD);
     }
-    named(job, list, records, s, f, &s[first..first + count])
+    named(out, job, list, records, s, f, &s[first..first + count])
 }

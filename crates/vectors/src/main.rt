@@ -3,7 +3,10 @@
 // A job is the lengths of the job, of the work buffer and of the list and the start asked for (0 gray, else RGB), four bytes each with the low byte first, then the
 // job.
 #![tactic(auto)]
-use answers::{checksum, fill, number, seven};
+
+use answers::{checksum, fill, number, read_full, seven};
+use std::io;
+use std::io::Read;
 
 // Judges the first n bytes of the job with as many bytes of the buffers as asked for; code 99 if there are not so many.
 fn judge(
@@ -28,8 +31,9 @@ fn judge(
 }
 
 // The line of an answer, with the checksums of both buffers.
-fn print(v: state::Verdict, work: u64, list: u64) {
+fn print<P: Print>(out: &P, v: state::Verdict, work: u64, list: u64) -> io::Result<()> {
     seven(
+        out,
         v.code,
         v.position,
         v.inner,
@@ -37,40 +41,51 @@ fn print(v: state::Verdict, work: u64, list: u64) {
         v.performed,
         work,
         list,
-    );
+    )
 }
 
 // Both buffers are full of a byte that no record and no zeroed work buffer has throughout.
-fn answer(job: &[u8], n: usize, held: usize, room: usize, gray: bool) {
+fn answer<P: Print>(
+    out: &P,
+    job: &[u8],
+    n: usize,
+    held: usize,
+    room: usize,
+    gray: bool,
+) -> io::Result<()> {
     let mut work = rooms::filled();
     let mut list = rooms::filled();
     let verdict = judge(job, n, &mut work, held, &mut list, room, gray);
-    print(verdict, checksum(&work), checksum(&list));
+    print(out, verdict, checksum(&work), checksum(&list))
 }
 
 // One job, and whether there was one.
-fn next() -> bool {
+fn next<R: Read, P: Print, E: Print>(input: &mut R, out: &P, errors: &E) -> io::Result<bool> {
     let mut head = [0u8; 16];
-    if io::read_full(0, &mut head) < 16 {
-        return false;
+    if read_full(input, &mut head)? < 16 {
+        return Ok(false);
     }
     let n = number(head[0], head[1], head[2], head[3]);
     let held = number(head[4], head[5], head[6], head[7]);
     let room = number(head[8], head[9], head[10], head[11]);
     let rgb = number(head[12], head[13], head[14], head[15]);
     let mut job = rooms::long_job();
-    if !fill(&mut job, n) {
-        io::write_all(2, b"the job is cut\n");
-        return false;
+    if !fill(input, &mut job, n)? {
+        errors.write_all(b"the job is cut\n")?;
+        return Ok(false);
     }
-    answer(&job, n, held, room, rgb == 0);
-    true
+    answer(out, &job, n, held, room, rgb == 0)?;
+    Ok(true)
 }
 
-// A loop must be seen to end, so it counts its turns down from a number that no run uses up.
-fn main() {
-    let mut turns = u64::MAX;
-    while turns > 0 && next() {
-        turns -= 1;
+// A loop must be seen to end, so it counts its turns up to a number that no run uses up.
+fn main(rt: HostRuntime) -> io::Result<()> {
+    let mut input = rt.stdin();
+    let errors = rt.stderr();
+    for _ in 0..u64::MAX {
+        if !next(&mut input, &rt, &errors)? {
+            break;
+        }
     }
+    Ok(())
 }

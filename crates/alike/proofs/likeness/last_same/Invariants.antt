@@ -1,0 +1,10 @@
+-- Nothing has to hold from turn to turn; each turn brings the end one nearer.
+use Prim.Native.Nat.{◌-◌}
+use lib.ListN.{length}
+use Rattle.alike.proofs.likeness.last_same.Given as goal
+
+abbrev pub invariant-loop-i : goal.invariant-loop-i
+invariant-loop-i l = Unit {0}
+
+abbrev pub decreases-loop-i : goal.decreases-loop-i
+decreases-loop-i l = length l.a - l.i
