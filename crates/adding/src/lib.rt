@@ -1,5 +1,6 @@
 // EndStream under a new name: a valid motif becomes held as the last one.
 #![tactic(auto)]
+
 mod adding;
 
 pub use adding::added;

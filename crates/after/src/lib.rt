@@ -1,5 +1,6 @@
 // Where a job stands after an operator that no rule refuses.
 #![tactic(auto)]
+
 mod after;
 mod hatching;
 

@@ -1,5 +1,6 @@
 // Of 34: the nearest motif that a call comes to and that selects a pattern that is not defined where the job calls.
 #![tactic(auto)]
+
 use down::{CALLED, bytes_of};
 use keeping::MANY;
 use motif::{MISSING, ROW};

@@ -1,5 +1,6 @@
 // Writes to a lent buffer: bytes are copied to the front of a part, blocks are joined to those held, the work buffer is zeroed.
 #![tactic(auto)]
+
 mod copying;
 mod joining;
 mod zeroing;

@@ -1,5 +1,6 @@
 // A call judged from the table of held motifs alone: no motif's bytes, and rounds over the rows.
 #![tactic(auto)]
+
 mod bare;
 mod calls;
 mod why;

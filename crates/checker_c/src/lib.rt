@@ -1,5 +1,6 @@
 // The library of include/dieuvakhop.h: what C and Rust call, over the checker.
 #![tactic(auto)]
+
 ghost use Rattle.std.specs.Prelude.{eqb};
 ghost use Rattle.checker.specs.Claims.{Promised, answer};
 

@@ -1,5 +1,6 @@
 // Numbers that are kept up to a limit: past it, only that they are past it.
 #![tactic(auto)]
+
 ghost use Rattle.std.specs.Prelude.{◌≡◌, ℕ, ◌+◌, ◌<◌, min, max};
 
 use names::limits::PERFORMED_MOST;

@@ -1,5 +1,6 @@
 // The data that an operator asks for, and the length that stands behind it.
 #![tactic(auto)]
+
 use names::attributes::{BLOCK_HEIGHT, NUMBER_OF_POINTS, POINT_TYPE, STREAM_DATA_LENGTH};
 use names::operators::READ_STREAM;
 use number::{Width, byte_at, number_at};

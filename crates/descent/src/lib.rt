@@ -1,5 +1,6 @@
 // From a refused call down through the motifs to the operator that breaks the rule of its code.
 #![tactic(auto)]
+
 mod before;
 mod breach;
 

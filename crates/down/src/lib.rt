@@ -1,5 +1,6 @@
 // The way that a call goes from motif to motif, and what each operator on it does.
 #![tactic(auto)]
+
 mod breach;
 mod call;
 mod motifs;

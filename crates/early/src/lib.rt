@@ -1,5 +1,6 @@
 // The rules of motifs and their names, and of places for patterns: 19, 33, those of a motif that EndStream holds, 21, 32 and 22.
 #![tactic(auto)]
+
 mod early;
 mod hatching;
 

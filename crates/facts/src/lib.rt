@@ -1,5 +1,6 @@
 // The facts that a refusal is about: of the operator, of the value at the place, and of how matters stand.
 #![tactic(auto)]
+
 mod facts;
 mod missing;
 

@@ -1,5 +1,6 @@
 // Whether a pattern is defined at a place of a job, and if not, with what it ended.
 #![tactic(auto)]
+
 use names::attributes::{PATTERN_DEFINE_ID, PATTERN_PERSISTENCE};
 use names::operators::{BEGIN_RAST_PATTERN, END_PAGE, END_RAST_PATTERN, END_SESSION};
 use trail::{COUNT, TAG, begin, is_high, pass, tag_of};

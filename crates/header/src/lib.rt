@@ -1,5 +1,6 @@
 // The header of a job or a motif.
 #![tactic(auto)]
+
 mod header;
 
 pub use header::{Header, header_of};

@@ -1,5 +1,6 @@
 // The items before an operator's tag: values and attribute numbers, pair by pair.
 #![tactic(auto)]
+
 mod pair;
 mod scan;
 mod value;

@@ -1,5 +1,6 @@
 // Names of motifs: the name that an operator gives, a name as three numbers; and 64 marks as one number.
 #![tactic(auto)]
+
 mod key;
 mod marks;
 mod part;

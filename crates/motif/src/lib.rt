@@ -1,5 +1,6 @@
 // The held motifs: their table, and how a name finds its row.
 #![tactic(auto)]
+
 mod column;
 mod held;
 mod kept;

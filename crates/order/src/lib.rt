@@ -1,5 +1,6 @@
 // What may come where, and the image or pattern that is open.
 #![tactic(auto)]
+
 mod order;
 mod picture;
 

@@ -1,5 +1,6 @@
 // Rows of numbers of patterns, as they are read: how many a row has, whether a number is in it, and whether one of it is not defined.
 #![tactic(auto)]
+
 mod rows;
 
 pub use rows::{

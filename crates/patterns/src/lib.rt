@@ -1,5 +1,6 @@
 // Numbers of patterns as they are written in their rows: those that are defined, and those that motifs select.
 #![tactic(auto)]
+
 mod known;
 mod lists;
 mod own;

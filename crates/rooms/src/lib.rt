@@ -1,5 +1,6 @@
 // Room to lend to the checker, full of zeros. Each promise tells the length, so that a caller need not count it out.
 #![tactic(auto)]
+
 ghost use Rattle.std.specs.Prelude.{◌≡◌, length};
 
 // A job: one byte more than the longest, so that a longer one is told.

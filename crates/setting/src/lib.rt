@@ -1,5 +1,6 @@
 // What a job is read with.
 #![tactic(auto)]
+
 mod setting;
 
 pub use setting::{Class, Setting};

@@ -1,5 +1,6 @@
 // Where the judging of a job stands, and the verdict it ends with.
 #![tactic(auto)]
+
 mod ending;
 mod state;
 mod verdict;

@@ -1,5 +1,6 @@
 // The store of motifs: one is replaced in its place, and those behind it move up or down.
 #![tactic(auto)]
+
 ghost use Rattle.std.specs.Prelude.{◌≡◌, reverse as reversed};
 ghost use Rattle.store.specs.Replaced.{replaced};
 

@@ -1,5 +1,6 @@
 // A motif judged when EndStream holds it, and what it comes to, so that its calls are judged without drawing it.
 #![tactic(auto)]
+
 mod judging;
 mod lines;
 

@@ -1,5 +1,6 @@
 // The way through a job or a motif to a refused operator: where it begins, its attributes, and how matters stand before it.
 #![tactic(auto)]
+
 mod step;
 mod walk;
 

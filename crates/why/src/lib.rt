@@ -1,5 +1,6 @@
 // Which sentence says why: the line of the code itself, or a line further down that says more.
 #![tactic(auto)]
+
 use hatched::{Until, hatched};
 use names::operators::{
     BEGIN_IMAGE, BEGIN_SESSION, CLOSE_DATA_SOURCE, END_IMAGE, END_PAGE, END_RAST_PATTERN,

@@ -1,6 +1,5 @@
 -- Nothing has to hold from turn to turn; each turn brings the last row one nearer.
 use Prim.Native.Nat.{◌-◌}
-use borrow.Author.Rules.{rules}
 use Rattle.bare.proofs.mark.Given as goal
 
 abbrev pub invariant-loop-k : goal.invariant-loop-k

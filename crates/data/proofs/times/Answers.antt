@@ -3,7 +3,6 @@
 use Prim.Native.Nat.{ℕ, ◌*◌, ◌≤◌}
 use native.Mathlib.Nat.{mul-le-mul}
 use native.Mathlib.Omega.{arith}
-use borrow.Author.Rules.{rules}
 use Rattle.data.proofs.times.Goals as goal
 
 product : (x y : ℕ) → x ≤ 65535 → y ≤ 131070 → x * y ≤ 65535 * 131070

@@ -1,7 +1,6 @@
 -- `store::replace` meets its contract: three reversals, of all from the old bytes on, of the new ones and of those behind the old ones, are a replacement; where the
 -- numbers say no such parts nothing is done.
 -- Assumes nothing.
-use borrow.Author.Rules.{rules}
 use borrow.Author.Tests.{lt-leb, le-leb}
 use Prim.Native.Nat.{◌≤◌, ◌+◌, ◌-◌}
 use mathlib.Core.Path.{◌≡◌, refl}

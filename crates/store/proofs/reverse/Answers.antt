@@ -2,10 +2,9 @@
 -- Assumes nothing.
 use borrow.Author.Rules.{rules}
 use Prim.Native.Nat.{◌≤◌, ◌<◌, ◌+◌, ◌-◌}
-use mathlib.Core.Path.{◌≡◌}
 use native.Mathlib.Omega.{arith}
 use lib.ListN.{length, length-set}
-use Rattle.store.proofs.Turning.{Turned, turned_none, turned_more, turned-all}
+use Rattle.store.proofs.Turning.{turned_none, turned_more, turned-all}
 use Rattle.store.proofs.reverse.Goals as goal
 
 pub loop-i-init : goal.loop-i-init

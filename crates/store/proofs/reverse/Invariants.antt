@@ -1,10 +1,8 @@
 -- `store::reverse` meets its contract: after i turns the first i and the last i bytes stand at each other's places.
-use borrow.Author.Rules.{rules}
-use Prim.Native.Nat.{◌≤◌, ◌<◌, ◌+◌, ◌-◌}
+use Prim.Native.Nat.{◌≤◌, ◌+◌, ◌-◌}
 use mathlib.Core.Path.{◌≡◌}
-use native.Mathlib.Omega.{arith}
-use lib.ListN.{length, length-set}
-use Rattle.store.proofs.Turning.{Turned, turned_none, turned_more, turned-all}
+use lib.ListN.{length}
+use Rattle.store.proofs.Turning.{Turned}
 use Rattle.store.proofs.reverse.Given as goal
 
 abbrev pub invariant-loop-i : goal.invariant-loop-i

@@ -1,7 +1,6 @@
 -- `act_of` meets its contract: field by field.
 -- Assumes nothing.
 use Rattle.act.specs.Acts.{act_for}
-use borrow.Author.Rules.{rules}
 use Rattle.act.proofs.act.act_of.Goals as goal
 
 pub returns : goal.returns

@@ -2,7 +2,6 @@
 -- Assumes nothing.
 use mathlib.Core.Path.{sym, ◌∙◌}
 use Rattle.act.specs.Acts.{brush_space}
-use borrow.Author.Rules.{rules}
 use Rattle.act.proofs.act.brush_space.Goals as goal
 
 pub returns-then-has : goal.returns-then-has

@@ -3,7 +3,6 @@
 use borrow.Author.Tests.{eq-eqb, ne_eqb}
 use Rattle.scope.specs.Arm.{effect_of}
 use Rattle.act.specs.Acts.{space_effect}
-use borrow.Author.Rules.{rules}
 use Rattle.act.proofs.act.effect_of.Goals as goal
 
 pub returns-then-tag-eq-PUSH_GS : goal.returns-then-tag-eq-PUSH_GS

@@ -3,7 +3,6 @@
 use borrow.Author.Tests.{eq-eqb, ne_eqb}
 use Rattle.scope.specs.Arm.{needs_space}
 use Rattle.act.specs.Acts.{brush_space}
-use borrow.Author.Rules.{rules}
 use Rattle.act.proofs.act.needs_space.Goals as goal
 
 pub returns-then-tag-eq-BEGIN_IMAGE : goal.returns-then-tag-eq-BEGIN_IMAGE

@@ -3,7 +3,6 @@
 use mathlib.Core.Path.{sym, ◌∙◌}
 use borrow.Author.Tests.{eq-eqb, ne_eqb, not-true, not-false}
 use Rattle.scope.specs.Arm.{select_of}
-use borrow.Author.Rules.{rules}
 use Rattle.act.proofs.act.select_of.Goals as goal
 
 pub returns-then-tag-ne-SET_BRUSH_SOURCE : goal.returns-then-tag-ne-SET_BRUSH_SOURCE

@@ -1,7 +1,6 @@
 -- `act::act::space_effect` meets its contract: the value is that of the attribute.
 -- Assumes nothing.
 use Rattle.act.specs.Acts.{space_effect}
-use borrow.Author.Rules.{rules}
 use Rattle.act.proofs.act.space_effect.Goals as goal
 
 pub returns : goal.returns

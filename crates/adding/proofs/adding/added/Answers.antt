@@ -9,7 +9,6 @@ use Rattle.motif.specs.Search.{entered_in}
 use Rattle.adding.specs.Rowing.{new_row}
 use Rattle.adding.proofs.Cells.{written-length}
 use Rattle.adding.proofs.NewName.{held-length, added_stored}
-use borrow.Author.Rules.{rules}
 use Rattle.adding.proofs.adding.added.Goals as goal
 
 pub returns-then-held-ge-MOTIFS_MOST : goal.returns-then-held-ge-MOTIFS_MOST

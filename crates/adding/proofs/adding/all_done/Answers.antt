@@ -2,12 +2,11 @@
 -- Assumes nothing.
 use native.Mathlib.Omega.{arith}
 use mathlib.Core.Path.{sym}
-use Prim.Native.Nat.{ℕ, ◌-◌, ◌≤◌, ◌<◌}
+use Prim.Native.Nat.{◌-◌}
 use borrow.Author.Tests.{not-false}
 use Rattle.scope.proofs.Apart.{clash-of}
 use Rattle.adding.specs.Rowing.{Done}
 use Rattle.adding.proofs.Cells.{one_more}
-use borrow.Author.Rules.{rules}
 use Rattle.adding.proofs.adding.all_done.Goals as goal
 
 pub loop-j-init : goal.loop-j-init

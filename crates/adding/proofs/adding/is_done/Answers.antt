@@ -5,7 +5,6 @@ use mathlib.Core.Path.{sym, ◌∙◌}
 use borrow.Author.Tests.{not-true}
 use Rattle.scope.proofs.Apart.{clash-of}
 use Prim.Native.Nat.{◌<◌}
-use borrow.Author.Rules.{rules}
 use Rattle.adding.proofs.adding.is_done.Goals as goal
 
 pub returns-then-motifs-j-eq0 : goal.returns-then-motifs-j-eq0

@@ -5,7 +5,6 @@ use mathlib.Core.List.{◌∷◌}
 use native.Mathlib.Numerals.{add-one}
 use borrow.Author.Tests.{not-false}
 use Rattle.motif.specs.Held.{Keeps}
-use borrow.Author.Rules.{rules}
 use Rattle.adding.proofs.adding.settle.Goals as goal
 
 pub returns-then-made : goal.returns-then-made

@@ -2,7 +2,6 @@
 -- Assumes nothing.
 use lib.ListN.{length-set}
 use Rattle.adding.proofs.NewName.{settles}
-use borrow.Author.Rules.{rules}
 use Rattle.adding.proofs.adding.settle_last.Goals as goal
 
 pub returns : goal.returns

@@ -1,7 +1,6 @@
 -- `adding::adding::write_row` meets its contract: nine stores, one behind the other.
 -- Assumes nothing.
 use Rattle.adding.proofs.NewName.{row_written}
-use borrow.Author.Rules.{rules}
 use Rattle.adding.proofs.adding.write_row.Goals as goal
 
 pub returns : goal.returns

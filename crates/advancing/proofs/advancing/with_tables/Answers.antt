@@ -1,16 +1,12 @@
 -- The invariant: from where the code stood first, the definition comes to somewhere that the code stands too, and judging from there is judging from the first.
 -- Assumes nothing.
-use Prim.Native.Nat.{ℕ, ◌-◌, ◌*◌, ◌≤◌}
-use mathlib.Core.Path.{◌≡◌, refl, sym, ◌∙◌}
-use mathlib.Core.List.{List}
+use Prim.Native.Nat.{◌-◌, ◌*◌, ◌≤◌}
+use mathlib.Core.Path.{refl, sym, ◌∙◌}
 use native.Mathlib.Omega.{arith}
-use lib.ListN.{length, drop}
+use lib.ListN.{length}
 use Rattle.setting.specs.Views.{setting_as}
 use Rattle.scope.specs.Setting.{Setting}
-use Rattle.scope.specs.Judge as scope
-use Rattle.scope.specs.Judge.{judged_from}
-use Rattle.scope.specs.Verdict.{every, zeros}
-use Rattle.state.specs.Standing.{Stands}
+use Rattle.scope.specs.Verdict.{zeros}
 use Rattle.ruling.proofs.Turns.{turned-go, turned-stop}
 use borrow.Author.Rules.{rules}
 use Rattle.advancing.proofs.advancing.with_tables.Goals.{After-run_on-next}
@@ -59,7 +55,10 @@ pub returns-in-Stop : goal.returns-in-Stop
 returns-in-Stop c = let i = c.loop-on.invariant in
     let a = c.args in
     let set : Setting = setting_as a.set in
-    let l = c.run_on-next.ensures.long ∙ i.1 in record { lasts = record { work_long = c.advance.ensures.lasts.work_long ∙ i.0; list_long = c.advance.ensures.lasts.list_long ∙ l; rest = c.advance.ensures.lasts.rest ∙ i.5 }; judged_to = λ d first s h.
+    let l = c.run_on-next.ensures.long ∙ i.1 in record {
+      lasts = record { work_long = c.advance.ensures.lasts.work_long ∙ i.0; list_long = c.advance.ensures.lasts.list_long ∙ l; rest = c.advance.ensures.lasts.rest ∙ i.5 };
+      judged_to = λ d first s h.
           let j = i.6 d first s h in
           let g = c.run_on-next.ensures.leads first _ _ _ set j.0 refl (s ∙ sym i.1) j.1.0 in
-          turned-stop a.job.now first set _ _ _ g.there (g.judged ∙ j.1.1) (rw c.in-Stop.is at (c.advance.ensures.steps_on g.there first (s ∙ sym l) g.stands i.2)) }
+          turned-stop a.job.now first set _ _ _ g.there (g.judged ∙ j.1.1) (rw c.in-Stop.is at (c.advance.ensures.steps_on g.there first (s ∙ sym l) g.stands i.2));
+    }

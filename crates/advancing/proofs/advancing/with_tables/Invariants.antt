@@ -1,17 +1,13 @@
 -- The invariant: from where the code stood first, the definition comes to somewhere that the code stands too, and judging from there is judging from the first.
 use Prim.Native.Nat.{ℕ, ◌-◌, ◌*◌, ◌≤◌}
-use mathlib.Core.Path.{◌≡◌, refl, sym, ◌∙◌}
+use mathlib.Core.Path.{◌≡◌}
 use mathlib.Core.List.{List}
-use native.Mathlib.Omega.{arith}
 use lib.ListN.{length, drop}
 use Rattle.setting.specs.Views.{setting_as}
-use Rattle.scope.specs.Setting.{Setting}
 use Rattle.scope.specs.Judge as scope
 use Rattle.scope.specs.Judge.{judged_from}
 use Rattle.scope.specs.Verdict.{every, zeros}
 use Rattle.state.specs.Standing.{Stands}
-use Rattle.ruling.proofs.Turns.{turned-go, turned-stop}
-use borrow.Author.Rules.{rules}
 use Rattle.advancing.proofs.advancing.with_tables.Given as goal
 
 abbrev pub invariant-loop-on : goal.invariant-loop-on

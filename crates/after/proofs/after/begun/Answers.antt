@@ -8,7 +8,6 @@ use Rattle.place.specs.Places.{none_place, resting_holds, reading_holds, drawing
 use Rattle.place.proofs.Hatched.{beside-unknown, beside_same}
 use Rattle.after.specs.Begins.{resting_after}
 use Rattle.after.proofs.Storing.{part_bytes}
-use borrow.Author.Rules.{rules}
 use Rattle.after.proofs.after.begun.Goals as goal
 
 pub returns-then-tag-eq-BEGIN_PAGE : goal.returns-then-tag-eq-BEGIN_PAGE
@@ -19,12 +18,16 @@ pub returns-then-tag-eq-BEGIN_STREAM : goal.returns-then-tag-eq-BEGIN_STREAM
 unfolding resting_after
 returns-then-tag-eq-BEGIN_STREAM c = let m = c.name_in-name in
     let s = c.args.job.now in
-    let b = c.if-tag-eq-BEGIN_STREAM.true in record { beside = beside_same; patterns_unchanged = refl; begins = λ work kept ms z h k.
-            let u : kept.used + 0 ≤ 16384 = omega arith in
-            let bytes = part_bytes s m.result.first m.result.count (λ i. omega (arith, c.shared_slice_known-1.given i)) in
-            rw (ne_eqb _ _ c.if-tag-eq-BEGIN_PAGE.false, eq-eqb _ _ b)
-            (reading_holds (record { within = m.ensures.count_in_bounds; same = m.ensures.s_value z })
-            (record { short = (k b).0; bytes = rw (m.ensures.s_value z) at bytes }) refl refl u (k b).1) }
+    let b = c.if-tag-eq-BEGIN_STREAM.true in record {
+      beside = beside_same;
+      patterns_unchanged = refl;
+      begins = λ work kept ms z h k.
+          let u : kept.used + 0 ≤ 16384 = omega arith in
+          let bytes = part_bytes s m.result.first m.result.count (λ i. omega (arith, c.shared_slice_known-1.given i)) in
+          rw (ne_eqb _ _ c.if-tag-eq-BEGIN_PAGE.false, eq-eqb _ _ b)
+          (reading_holds (record { within = m.ensures.count_in_bounds; same = m.ensures.s_value z })
+          (record { short = (k b).0; bytes = rw (m.ensures.s_value z) at bytes }) refl refl u (k b).1);
+    }
 
 pub returns : goal.returns
 unfolding resting_after

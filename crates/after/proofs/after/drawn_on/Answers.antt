@@ -12,7 +12,6 @@ use Rattle.scope.specs.Motif as Def
 use Rattle.order.specs.Pictures.{picture_for}
 use Rattle.place.specs.Places.{resting_holds, drawing_holds}
 use borrow.Author.Tests.{eq-eqb, ne_eqb}
-use borrow.Author.Rules.{rules}
 use Rattle.after.proofs.after.drawn_on.Goals as goal
 
 no-image : (high : Bool) (s : List ℕ) (tag : ℕ) (l : List Attribute) (p : Def.Picture) → tag < 0xb0 → picture_for high s tag l p ≡ p

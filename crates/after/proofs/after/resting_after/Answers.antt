@@ -3,7 +3,6 @@
 use mathlib.Core.Path.{refl}
 use Rattle.setting.specs.Views.{setting_as}
 use Rattle.after.proofs.Going.{over-after, rest_after}
-use borrow.Author.Rules.{rules}
 use Rattle.after.proofs.after.resting_after.Goals as goal
 
 pub returns-then-tag-eq-END_SESSION : goal.returns-then-tag-eq-END_SESSION
@@ -12,6 +11,9 @@ returns-then-tag-eq-END_SESSION c = let a = c.args in
 
 pub returns : goal.returns
 returns c = let a = c.args in
-    let b = c.begun in record { patterns_len_unchanged = b.ensures.beside.long; after = λ early page work t. rest_after a.job.now a.attrs.now (setting_as a.set) a.o work t a.patterns.now
+    let b = c.begun in record {
+      patterns_len_unchanged = b.ensures.beside.long;
+      after = λ early page work t. rest_after a.job.now a.attrs.now (setting_as a.set) a.o work t a.patterns.now
           c.opened_after.result b.result b.new.patterns
-          c.if-tag-eq-END_SESSION.false b.ensures.beside b.ensures.patterns_unchanged c.opened_after.ensures b.ensures.begins }
+          c.if-tag-eq-END_SESSION.false b.ensures.beside b.ensures.patterns_unchanged c.opened_after.ensures b.ensures.begins;
+    }

@@ -2,7 +2,6 @@
 -- Assumes nothing.
 use Rattle.order.specs.Pictures.{hatch_as}
 use Rattle.after.proofs.Defining.{define_session, define_page}
-use borrow.Author.Rules.{rules}
 use Rattle.after.proofs.hatching.define_hatch.Goals as goal
 
 pub returns-then-hatch : goal.returns-then-hatch

@@ -2,7 +2,6 @@
 -- Assumes nothing.
 use Rattle.due.specs.Views.{image_as}
 use Rattle.after.proofs.Defining.{defines-other, defines-none, defines-image}
-use borrow.Author.Rules.{rules}
 use Rattle.after.proofs.hatching.define_open.Goals as goal
 
 pub returns-then-tag-ne-END_RAST_PATTERN : goal.returns-then-tag-ne-END_RAST_PATTERN

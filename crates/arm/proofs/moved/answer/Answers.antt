@@ -4,7 +4,6 @@ use Rattle.arm.proofs.Keeping.{answer-to}
 use Rattle.arm.specs.Holds.{moves_no}
 use Rattle.scope.specs.Arm.{from, walk}
 use mathlib.Core.Path.{sym, ◌∙◌}
-use borrow.Author.Rules.{rules}
 use Rattle.arm.proofs.moved.answer.Goals as goal
 
 pub returns-then-k-ne0 : goal.returns-then-k-ne0

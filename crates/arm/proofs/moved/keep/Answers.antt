@@ -17,7 +17,6 @@ use Rattle.page.specs.Holds.{PageHolds}
 use Rattle.arm.specs.Holds.{Moves, moves_to, moves_no}
 use Rattle.page.specs.declared.page.Page.{Page}
 use Rattle.arm.specs.declared.moved.Moved.TheVariants.{To, No}
-use borrow.Author.Rules.{rules}
 use Rattle.arm.proofs.moved.keep.Goals as goal
 
 module _ (opened s k : Bool) (q : scope.Page) (n : ℕ) (x : Stroke) (e : x.act ≡ keeping s k) where

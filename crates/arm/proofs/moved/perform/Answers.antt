@@ -5,7 +5,6 @@ use Rattle.scope.specs.Arm.{Page}
 use mathlib.Core.List.{[], ◌∷◌}
 use Rattle.scope.specs.Arm.{from, walk, step}
 use mathlib.Core.Path.{◌≡◌, ap}
-use borrow.Author.Rules.{rules}
 use Rattle.arm.proofs.moved.perform.Goals as goal
 
 pub returns : goal.returns

@@ -1,7 +1,6 @@
 -- `ends_at` meets its contract.
 -- Assumes nothing.
 use mathlib.Core.Path.{refl}
-use borrow.Author.Rules.{rules}
 use Rattle.arm.proofs.seen.ends_at.Goals as goal
 
 pub returns : goal.returns

@@ -2,7 +2,6 @@
 -- Assumes nothing.
 use mathlib.Core.Path.{sym}
 use Rattle.attributes.proofs.Rowed.{has-at}
-use borrow.Author.Rules.{rules}
 use Rattle.attributes.proofs.attributes.is_given.Goals as goal
 
 pub returns : goal.returns

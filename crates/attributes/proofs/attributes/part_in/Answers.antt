@@ -4,7 +4,6 @@ use mathlib.Core.Path.{◌∙◌}
 use borrow.Author.Tests.{lt-ltb, le-ltb}
 use Rattle.items.specs.Rows.{row_at}
 use Rattle.attributes.proofs.Rowed.{bytes-at}
-use borrow.Author.Rules.{rules}
 use Rattle.attributes.proofs.attributes.part_in.Goals as goal
 
 pub returns-then-i-lt16 : goal.returns-then-i-lt16

@@ -1,13 +1,12 @@
 -- `attributes::attributes::place_of` meets its contract: the loop goes attribute by attribute.
 -- Assumes nothing.
-use Prim.Native.Nat.{◌-◌, ◌≤◌}
+use Prim.Native.Nat.{◌-◌}
 use mathlib.Core.Path.{◌≡◌, sym, ◌∙◌}
 use native.Mathlib.Omega.{arith}
 use borrow.Author.Tests.{eq-eqb, ne_eqb}
-use Rattle.items.specs.Rows.{row_at, rows_from, rows_of}
-use Rattle.attributes.specs.Places.{place_from, place_of}
+use Rattle.items.specs.Rows.{row_at, rows_of}
+use Rattle.attributes.specs.Places.{place_of}
 use Rattle.attributes.proofs.Rowed.{place-more, place_end}
-use borrow.Author.Rules.{rules}
 use Rattle.attributes.proofs.attributes.place_of.Goals as goal
 
 pub loop-i-init : goal.loop-i-init

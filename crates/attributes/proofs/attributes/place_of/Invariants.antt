@@ -1,12 +1,8 @@
 -- `attributes::attributes::place_of` meets its contract: the loop goes attribute by attribute.
 use Prim.Native.Nat.{◌-◌, ◌≤◌}
-use mathlib.Core.Path.{◌≡◌, sym, ◌∙◌}
-use native.Mathlib.Omega.{arith}
-use borrow.Author.Tests.{eq-eqb, ne_eqb}
-use Rattle.items.specs.Rows.{row_at, rows_from, rows_of}
+use mathlib.Core.Path.{◌≡◌}
+use Rattle.items.specs.Rows.{rows_from, rows_of}
 use Rattle.attributes.specs.Places.{place_from, place_of}
-use Rattle.attributes.proofs.Rowed.{place-more, place_end}
-use borrow.Author.Rules.{rules}
 use Rattle.attributes.proofs.attributes.place_of.Given as goal
 
 abbrev pub invariant-loop-i : goal.invariant-loop-i

@@ -3,7 +3,6 @@
 use Rattle.page.specs.Views.{stack}
 use Rattle.summary.specs.Sums.{fresh}
 use Rattle.scope.specs.Arm.{from}
-use borrow.Author.Rules.{rules}
 use Rattle.both.proofs.both.at_start.Goals as goal
 
 pub returns : goal.returns

@@ -1,10 +1,9 @@
 -- `copy`: after i turns dst is the first i bytes of src and the rest.
 -- Assumes nothing.
 use mathlib.Core.Path.{◌≡◌, refl}
-use mathlib.Core.List.{◌++◌}
-use Prim.Native.Nat.{◌≤◌, ◌<◌, ◌-◌}
+use Prim.Native.Nat.{◌<◌, ◌-◌}
 use native.Mathlib.Omega.{arith}
-use lib.ListN.{length, take, drop, length-set}
+use lib.ListN.{length, length-set}
 use lib.Seq.{take-length}
 use Rattle.buffer.proofs.Parts.{copy_more}
 use Rattle.buffer.proofs.copying.copy.Goals as goal

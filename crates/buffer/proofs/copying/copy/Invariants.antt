@@ -1,11 +1,8 @@
 -- `copy`: after i turns dst is the first i bytes of src and the rest.
-use mathlib.Core.Path.{◌≡◌, refl}
+use mathlib.Core.Path.{◌≡◌}
 use mathlib.Core.List.{◌++◌}
-use Prim.Native.Nat.{◌≤◌, ◌<◌, ◌-◌}
-use native.Mathlib.Omega.{arith}
-use lib.ListN.{length, take, drop, length-set}
-use lib.Seq.{take-length}
-use Rattle.buffer.proofs.Parts.{copy_more}
+use Prim.Native.Nat.{◌≤◌, ◌-◌}
+use lib.ListN.{length, take, drop}
 use Rattle.buffer.proofs.copying.copy.Given as goal
 
 abbrev pub invariant-loop-i : goal.invariant-loop-i

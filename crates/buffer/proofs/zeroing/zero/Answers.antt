@@ -1,10 +1,9 @@
 -- `zero`: after i turns the buffer is i zeros and the rest.
 -- Assumes nothing.
 use mathlib.Core.Path.{◌≡◌, refl}
-use mathlib.Core.List.{◌++◌}
-use Prim.Native.Nat.{◌≤◌, ◌<◌, ◌-◌}
+use Prim.Native.Nat.{◌<◌, ◌-◌}
 use native.Mathlib.Omega.{arith}
-use lib.ListN.{length, drop, length-set}
+use lib.ListN.{length, length-set}
 use borrow.Author.Fill.{fill_none, fill_more}
 use borrow.Author.Tests.{lt-ltb, le-ltb}
 use Rattle.scope.specs.Verdict.{zeros}

@@ -1,13 +1,9 @@
 -- `zero`: after i turns the buffer is i zeros and the rest.
-use mathlib.Core.Path.{◌≡◌, refl}
+use mathlib.Core.Path.{◌≡◌}
 use mathlib.Core.List.{◌++◌}
-use Prim.Native.Nat.{◌≤◌, ◌<◌, ◌-◌}
-use native.Mathlib.Omega.{arith}
-use lib.ListN.{length, drop, length-set}
-use borrow.Author.Fill.{fill_none, fill_more}
-use borrow.Author.Tests.{lt-ltb, le-ltb}
+use Prim.Native.Nat.{◌≤◌, ◌-◌}
+use lib.ListN.{length, drop}
 use Rattle.scope.specs.Verdict.{zeros}
-use Rattle.buffer.specs.Over.{cleared}
 use Rattle.buffer.proofs.zeroing.zero.Given as goal
 
 abbrev pub invariant-loop-i : goal.invariant-loop-i

@@ -1,20 +1,13 @@
 -- `is_bare`: after t rounds the table shows whose call comes to a pattern that is not defined within t levels.
-use Prim.Native.Nat.{◌≤◌, ◌<◌, ◌-◌}
-use mathlib.Core.Path.{◌≡◌, sym, ap, ◌∙◌}
+use Prim.Native.Nat.{◌≤◌, ◌-◌}
 use mathlib.Core.List.{List}
-use native.Mathlib.Omega.{arith}
-use native.Mathlib.Numerals.{add-one}
-use borrow.Author.Rules.{rules}
-use borrow.Author.Tests.{not-true}
 use Rattle.scope.specs.Motif.{Motif}
 use Rattle.scope.specs.Reach.{called_by}
 use Rattle.motif.specs.Tables.{Tables}
-use Rattle.motif.proofs.Rowed.{in_below}
-use Rattle.pattern_rows.specs.Numbers.{OfPage, OfSession, numbers_in, Few}
+use Rattle.pattern_rows.specs.Numbers.{Few}
 use Rattle.patterns.specs.Selects.{Selects}
 use Rattle.calls.specs.Marks.{Shows, unmet}
-use Rattle.calls.proofs.Refusing.{used}
-use Rattle.calls.proofs.Baring.{bad_in, level-most, unmet-is, bad-shows, none-bad, unmet-none, unmet-round}
+use Rattle.calls.proofs.Baring.{bad_in}
 use Rattle.calls.proofs.bare.is_bare.Given as goal
 
 abbrev pub invariant-loop-t : goal.invariant-loop-t

@@ -1,10 +1,9 @@
 -- `lacking`: the marks below i are made.
 -- Assumes nothing.
-use Prim.Native.Nat.{◌≤◌, ◌-◌}
+use Prim.Native.Nat.{◌-◌}
 use mathlib.Core.Path.{◌≡◌}
 use native.Mathlib.Omega.{arith}
-use borrow.Author.Rules.{rules}
-use Rattle.calls.specs.Marks.{Adds, wants_more}
+use Rattle.calls.specs.Marks.{wants_more}
 use Rattle.calls.proofs.Marking.{adds_none, adds_more}
 use Rattle.calls.proofs.bare.lacking.Goals as goal
 

@@ -1,10 +1,6 @@
 -- `lacking`: the marks below i are made.
 use Prim.Native.Nat.{◌≤◌, ◌-◌}
-use mathlib.Core.Path.{◌≡◌}
-use native.Mathlib.Omega.{arith}
-use borrow.Author.Rules.{rules}
 use Rattle.calls.specs.Marks.{Adds, wants_more}
-use Rattle.calls.proofs.Marking.{adds_none, adds_more}
 use Rattle.calls.proofs.bare.lacking.Given as goal
 
 abbrev pub invariant-loop-i : goal.invariant-loop-i

@@ -3,7 +3,6 @@
 use mathlib.Core.Path.{sym, ◌∙◌}
 use Rattle.patterns.proofs.Forgets.{same_self}
 use Rattle.calls.proofs.Knowing.{learned}
-use borrow.Author.Rules.{rules}
 use Rattle.calls.proofs.bare.lacks_any.Goals as goal
 
 pub returns-then-is_known : goal.returns-then-is_known

@@ -1,6 +1,5 @@
 -- `of_row`: by whether it has a level.
 -- Assumes nothing.
-use borrow.Author.Rules.{rules}
 use Rattle.calls.proofs.Refusing.{calls-level}
 use Rattle.patterns.proofs.Forgets.{same_self}
 use Rattle.calls.proofs.calls.of_row.Goals as goal

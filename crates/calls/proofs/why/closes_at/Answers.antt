@@ -1,15 +1,10 @@
 -- `closes_at`: after t rounds the table shows who reaches the motif of row v by t calls; the first turns that reached it are kept.
 -- Assumes nothing.
-use Prim.Native.Nat.{suc, ◌≤◌, ◌<◌, ◌-◌}
+use Prim.Native.Nat.{suc, ◌<◌, ◌-◌}
 use mathlib.Core.Path.{◌≡◌, refl, ◌∙◌}
-use mathlib.Core.List.{List}
 use native.Mathlib.Omega.{arith}
 use native.Mathlib.Numerals.{add-one}
-use borrow.Author.Rules.{rules}
-use Rattle.scope.specs.Motif.{Motif}
 use Rattle.scope.specs.Reach.{steps, called_by}
-use Rattle.motif.specs.Held.{InRow}
-use Rattle.motif.specs.Tables.{Tables}
 use Rattle.motif.proofs.Rowed.{in_below}
 use Rattle.calls.specs.Marks.{Shows, least, closes}
 use Rattle.calls.proofs.Rounding.{steps-none, steps-round}
@@ -19,13 +14,13 @@ use Rattle.calls.proofs.why.closes_at.Goals as goal
 pub loop-t-init : goal.loop-t-init
 unfolding least
 loop-t-init c = let a = c.args in (
-      omega arith,
-      omega arith,
-      omega arith,
-      λ ms m w h r q.
-          let b : a.v < 64 = omega (arith, in_below h.keeps.rows q, h.keeps.most) in
-          (steps-none h.keeps q c.with_mark-table.result (c.with_mark-table.ensures b), refl, refl),
-    )
+  omega arith,
+  omega arith,
+  omega arith,
+  λ ms m w h r q.
+      let b : a.v < 64 = omega (arith, in_below h.keeps.rows q, h.keeps.most) in
+      (steps-none h.keeps q c.with_mark-table.result (c.with_mark-table.ensures b), refl, refl),
+)
 
 pub loop-t-preserved : goal.loop-t-preserved
 loop-t-preserved c = let l = c.loop-t in

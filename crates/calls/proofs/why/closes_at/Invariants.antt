@@ -1,18 +1,12 @@
 -- `closes_at`: after t rounds the table shows who reaches the motif of row v by t calls; the first turns that reached it are kept.
-use Prim.Native.Nat.{suc, ◌≤◌, ◌<◌, ◌-◌}
-use mathlib.Core.Path.{◌≡◌, refl, ◌∙◌}
+use Prim.Native.Nat.{suc, ◌≤◌, ◌-◌}
+use mathlib.Core.Path.{◌≡◌}
 use mathlib.Core.List.{List}
-use native.Mathlib.Omega.{arith}
-use native.Mathlib.Numerals.{add-one}
-use borrow.Author.Rules.{rules}
 use Rattle.scope.specs.Motif.{Motif}
 use Rattle.scope.specs.Reach.{steps, called_by}
 use Rattle.motif.specs.Held.{InRow}
 use Rattle.motif.specs.Tables.{Tables}
-use Rattle.motif.proofs.Rowed.{in_below}
-use Rattle.calls.specs.Marks.{Shows, least, closes}
-use Rattle.calls.proofs.Rounding.{steps-none, steps-round}
-use Rattle.calls.proofs.Ringing.{first_more}
+use Rattle.calls.specs.Marks.{Shows, least}
 use Rattle.calls.proofs.why.closes_at.Given as goal
 
 abbrev pub invariant-loop-t : goal.invariant-loop-t

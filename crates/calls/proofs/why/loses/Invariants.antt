@@ -1,17 +1,10 @@
 -- `loses`: after t rounds the table shows who loses a name within t calls.
-use Prim.Native.Nat.{◌≤◌, ◌<◌, ◌-◌}
-use mathlib.Core.Path.{◌≡◌, ◌∙◌}
+use Prim.Native.Nat.{◌≤◌, ◌-◌}
 use mathlib.Core.List.{List}
-use native.Mathlib.Omega.{arith}
-use native.Mathlib.Numerals.{add-one}
-use borrow.Author.Rules.{rules}
 use Rattle.scope.specs.Motif.{Motif}
 use Rattle.scope.specs.Reach.{lost, holds, called_by}
 use Rattle.motif.specs.Tables.{Tables}
-use Rattle.motif.proofs.Rowed.{in_below}
 use Rattle.calls.specs.Marks.{Shows}
-use Rattle.calls.proofs.Rounding.{lost-none, lost-round}
-use Rattle.calls.proofs.Refusing.{lost-is}
 use Rattle.calls.proofs.why.loses.Given as goal
 
 abbrev pub invariant-loop-t : goal.invariant-loop-t

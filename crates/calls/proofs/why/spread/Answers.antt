@@ -1,10 +1,9 @@
 -- `spread`: the marks below i are made.
 -- Assumes nothing.
-use Prim.Native.Nat.{◌≤◌, ◌-◌}
+use Prim.Native.Nat.{◌-◌}
 use mathlib.Core.Path.{◌≡◌, refl}
 use native.Mathlib.Omega.{arith}
-use borrow.Author.Rules.{rules}
-use Rattle.calls.specs.Marks.{Adds, reaches}
+use Rattle.calls.specs.Marks.{reaches}
 use Rattle.calls.proofs.Marking.{adds_none, adds_more}
 use Rattle.calls.proofs.why.spread.Goals as goal
 

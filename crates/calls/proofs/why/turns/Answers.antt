@@ -1,16 +1,10 @@
 -- `turns`: no motif of the rows before v closes a ring.
 -- Assumes nothing.
-use Prim.Native.Nat.{ℕ, ◌≤◌, ◌<◌, ◌-◌}
+use Prim.Native.Nat.{◌<◌, ◌-◌}
 use mathlib.Core.Path.{◌≡◌, sym, ◌∙◌}
 use mathlib.Core.Bool.{false}
-use mathlib.Core.List.{List}
 use native.Mathlib.Omega.{arith}
-use borrow.Author.Rules.{rules}
-use Rattle.scope.specs.Motif.{Motif}
-use Rattle.motif.specs.Held.{InRow}
-use Rattle.motif.specs.Tables.{Tables}
 use Rattle.motif.proofs.Rowed.{row-held}
-use Rattle.calls.specs.Marks.{closes}
 use Rattle.calls.proofs.Ringing.{closes-again, none_more, none-again}
 use Rattle.calls.proofs.why.turns.Goals as goal
 

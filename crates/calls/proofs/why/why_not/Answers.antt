@@ -1,7 +1,6 @@
 -- `why_not`: by the tests; what is left is a call below 32.
 -- Assumes nothing.
 use mathlib.Core.Path.{sym, ◌∙◌}
-use borrow.Author.Rules.{rules}
 use Rattle.calls.specs.Judged.{calls_missing, calls_again}
 use Rattle.calls.proofs.Refusing.{used, calls-left}
 use Rattle.calls.proofs.why.why_not.Goals as goal

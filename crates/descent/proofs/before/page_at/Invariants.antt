@@ -1,7 +1,6 @@
 -- The store keeps its length; each turn brings the end one nearer.
 use mathlib.Core.Path.{◌≡◌}
 use lib.ListN.{length}
-use borrow.Author.Rules.{rules}
 use Rattle.descent.proofs.before.page_at.Given as goal
 
 abbrev pub invariant-loop-turns : goal.invariant-loop-turns

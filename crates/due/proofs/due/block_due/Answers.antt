@@ -4,7 +4,6 @@ use Prim.Native.Nat.{ℕ, ◌*◌, ◌≤◌}
 use native.Mathlib.Nat.{mul-le-mul}
 use native.Mathlib.Omega.{arith}
 use Rattle.scope.specs.Data.{block_due}
-use borrow.Author.Rules.{rules}
 use Rattle.due.proofs.due.block_due.Goals as goal
 
 product : (x y : ℕ) → x ≤ 65535 → y ≤ 131070 → x * y ≤ 65535 * 131070

@@ -3,19 +3,17 @@
 -- where points are read, the tag is one of a line's two
 use mathlib.Core.Path.{◌≡◌, sym, ◌∙◌}
 use mathlib.Core.Bool.{true, ◌||◌}
-use mathlib.Core.Logic.{⊎_elim}
 use lib.Dec.{eqb}
 use borrow.Author.Tests.{eq-eqb, ne_eqb}
 use Rattle.scope.specs.Data.{due_of}
 use Rattle.due.specs.Views.{points_due}
-use borrow.Author.Rules.{rules}
 use Rattle.due.proofs.due.due_of.Goals.{Joined-tag-ne-LINE_PATH, then-tag-ne-LINE_PATH+else-tag-ne-LINE_REL_PATH, else-tag-ne-LINE_PATH}
 use Rattle.due.proofs.due.due_of.Goals as goal
 
 is-line : (c : Joined-tag-ne-LINE_PATH) → let tag = c.args.tag in (eqb tag 0x9b || eqb tag 0x9d) ≡ true
 is-line c =
     elim c.if-tag-ne-LINE_PATH.branch [
-      then-tag-ne-LINE_PATH+else-tag-ne-LINE_REL_PATH w ↦ simp (ne_eqb _ _ w.if-tag-ne-LINE_PATH.true, eq-eqb _ _ w.if-tag-ne-LINE_REL_PATH.false)
+      | then-tag-ne-LINE_PATH+else-tag-ne-LINE_REL_PATH w ↦ simp (ne_eqb _ _ w.if-tag-ne-LINE_PATH.true, eq-eqb _ _ w.if-tag-ne-LINE_REL_PATH.false)
       | else-tag-ne-LINE_PATH w ↦ simp (eq-eqb _ _ w.if-tag-ne-LINE_PATH.false)
     ]
 

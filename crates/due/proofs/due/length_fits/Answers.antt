@@ -3,7 +3,6 @@
 use mathlib.Core.Path.{sym, ◌∙◌}
 use borrow.Author.Tests.{not-true, not-false}
 use Rattle.scope.specs.Order.{length_fits}
-use borrow.Author.Rules.{rules}
 use Rattle.due.proofs.due.length_fits.Goals as goal
 
 pub returns-then-not-has : goal.returns-then-not-has

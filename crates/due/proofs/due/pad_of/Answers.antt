@@ -3,7 +3,6 @@
 use mathlib.Core.Path.{refl}
 use borrow.Author.Tests.{eq-eqb, ne_eqb}
 use Rattle.scope.specs.Data.{pad_of}
-use borrow.Author.Rules.{rules}
 use Rattle.due.proofs.due.pad_of.Goals as goal
 
 pub returns-then-pad-eq0 : goal.returns-then-pad-eq0

@@ -2,7 +2,6 @@
 -- Assumes nothing.
 use borrow.Author.Tests.{le-leb, lt-leb}
 use Rattle.scope.specs.Data.{point_bytes}
-use borrow.Author.Rules.{rules}
 use Rattle.due.proofs.due.point_bytes.Goals as goal
 
 pub returns-then-kind-le1 : goal.returns-then-kind-le1

@@ -3,7 +3,6 @@
 use mathlib.Core.Path.{sym, ◌∙◌}
 use borrow.Author.Tests.{not-true, not-false}
 use Rattle.due.specs.Views.{points_due}
-use borrow.Author.Rules.{rules}
 use Rattle.due.proofs.due.points_due.Goals as goal
 
 pub returns-then-not-has : goal.returns-then-not-has

@@ -3,7 +3,6 @@
 use native.Mathlib.Omega.{arith}
 use borrow.Author.Tests.{ne_eqb}
 use Rattle.scope.specs.Data.{bits_of}
-use borrow.Author.Rules.{rules}
 use Rattle.due.proofs.due.row_bits.Goals as goal
 
 pub returns-in-0 : goal.returns-in-0

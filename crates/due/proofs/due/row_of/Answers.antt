@@ -5,7 +5,6 @@ use mathlib.Core.Path.{refl}
 use native.Mathlib.Omega.{arith}
 use native.Mathlib.Nat.{div-mul-le_self, mul-zero}
 use Rattle.scope.specs.Data.{row_of}
-use borrow.Author.Rules.{rules}
 use Rattle.due.proofs.due.row_of.Goals as goal
 
 pub returns-then-by-eq0 : goal.returns-then-by-eq0

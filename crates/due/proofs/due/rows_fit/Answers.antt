@@ -3,7 +3,6 @@
 use mathlib.Core.Path.{sym, ◌∙◌}
 use borrow.Author.Tests.{eq-eqb, ne_eqb, le-leb, lt-leb, not-true, not-false}
 use Rattle.scope.specs.Order.{rows_fit}
-use borrow.Author.Rules.{rules}
 use Rattle.due.proofs.due.rows_fit.Goals as goal
 
 pub returns-then-not-reads_rows : goal.returns-then-not-reads_rows

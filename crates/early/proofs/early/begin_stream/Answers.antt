@@ -6,7 +6,6 @@ use native.Mathlib.Omega.{arith}
 use Rattle.motif.proofs.Rowed.{rows-length}
 use Rattle.early.proofs.Parts.{part_same}
 use Rattle.early.proofs.Breaking.{begin-few, begin-at, begin-nowhere}
-use borrow.Author.Rules.{rules}
 use Rattle.early.proofs.early.begin_stream.Goals as goal
 
 pub returns-then-held-lt-MOTIFS_MOST : goal.returns-then-held-lt-MOTIFS_MOST

@@ -5,7 +5,6 @@ use Rattle.patterns.proofs.Forgets.{same_self, rows_same}
 use Rattle.setting.specs.Views.{setting_as}
 use Rattle.place.proofs.Hatched.{place_kept}
 use Rattle.early.proofs.Around.{outer-fine, inner-early}
-use borrow.Author.Rules.{rules}
 use Rattle.early.proofs.early.early_of.Goals as goal
 
 pub returns-in-Outside : goal.returns-in-Outside

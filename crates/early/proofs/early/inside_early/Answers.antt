@@ -8,12 +8,16 @@ use Rattle.early.proofs.Places.{drawn-hatched}
 use Rattle.setting.specs.Views.{setting_as}
 use Rattle.place.proofs.Standing.{rest-phase, is-drawn}
 use Rattle.place.proofs.Hatched.{beside-own, selects-beside}
-use borrow.Author.Rules.{rules}
 use Rattle.early.proofs.early.inside_early.Goals as goal
 
 pub returns-in-Resting : goal.returns-in-Resting
-returns-in-Resting c = let a = c.args in record { other_rows = rows_same same_self; patterns_unchanged = refl; selects = λ x k h y. h.selects; earlies_in = rw c.in-Resting.is
-              (λ x k h y s w m. c.resting_early.ensures (setting_as a.set) a.patterns.now x k.tables.keeps s (rw (← rest-phase y) at m)) }
+returns-in-Resting c = let a = c.args in record {
+  other_rows = rows_same same_self;
+  patterns_unchanged = refl;
+  selects = λ x k h y. h.selects;
+  earlies_in = rw c.in-Resting.is
+      (λ x k h y s w m. c.resting_early.ensures (setting_as a.set) a.patterns.now x k.tables.keeps s (rw (← rest-phase y) at m));
+}
 
 pub returns-in-Reading : goal.returns-in-Reading
 returns-in-Reading c = let a = c.args in

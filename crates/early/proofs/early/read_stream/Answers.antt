@@ -6,7 +6,6 @@ use lib.ListN.{length}
 use Rattle.scope.specs.Motif.{bytes_held}
 use Rattle.scope.specs.Session.{joined_of}
 use Rattle.early.proofs.Breaking.{read_past, read-room}
-use borrow.Author.Rules.{rules}
 use Rattle.early.proofs.early.read_stream.Goals as goal
 
 pub returns-then-used-gt-STORE_MOST : goal.returns-then-used-gt-STORE_MOST

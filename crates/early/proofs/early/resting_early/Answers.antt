@@ -3,7 +3,6 @@
 use Rattle.early.proofs.Tags.{not-tag, rest-not_read, rest-not_end, rest-not_exec, rest-not_pattern}
 use Rattle.early.proofs.Breaking.{fine-in}
 use Rattle.scope.specs.Order.{in_session}
-use borrow.Author.Rules.{rules}
 use Rattle.early.proofs.early.resting_early.Goals as goal
 
 pub returns-then-o-eq-BEGIN_STREAM : goal.returns-then-o-eq-BEGIN_STREAM

@@ -7,7 +7,6 @@ use Rattle.setting.specs.Views.{setting_as}
 use Rattle.pattern_rows.specs.Numbers.{numbers_in}
 use Rattle.early.proofs.Places.{row-numbers}
 use Rattle.early.proofs.Breaking.{pattern-few, pattern-again, pattern-new}
-use borrow.Author.Rules.{rules}
 use Rattle.early.proofs.hatching.begin_pattern.Goals as goal
 
 pub returns-then-count-lt-PATTERNS_MOST : goal.returns-then-count-lt-PATTERNS_MOST

@@ -3,7 +3,6 @@
 use mathlib.Core.Path.{sym, ◌∙◌}
 use borrow.Author.Tests.{not-true, not-false}
 use Rattle.scope.specs.Attributes.{two_at}
-use borrow.Author.Rules.{rules}
 use Rattle.end_point.proofs.end_point.are_finite.Goals as goal
 
 pub returns-then-not-is_finite_at : goal.returns-then-not-is_finite_at

@@ -4,7 +4,6 @@ use mathlib.Core.Path.{sym}
 use mathlib.Core.Bool.{true≢false}
 use borrow.Author.Tests.{lt-ltb, le-ltb, eq-eqb, ne_eqb}
 use Rattle.end_point.specs.EndPoint.{ends_at}
-use borrow.Author.Rules.{rules}
 use Rattle.end_point.proofs.end_point.ends_at.Goals as goal
 
 pub returns-then-s-op : goal.returns-then-s-op

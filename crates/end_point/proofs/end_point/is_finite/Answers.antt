@@ -6,7 +6,6 @@ use mathlib.Core.Bool.{not}
 use lib.Dec.{eqb}
 use Rattle.scope.specs.Attributes.{finite}
 use Rattle.end_point.proofs.Finite.{exponent}
-use borrow.Author.Rules.{rules}
 use Rattle.end_point.proofs.end_point.is_finite.Goals as goal
 
 pub returns : goal.returns

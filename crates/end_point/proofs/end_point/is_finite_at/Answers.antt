@@ -4,7 +4,6 @@ use Prim.Native.Nat.{◌+◌, ◌*◌, ◌<◌}
 use native.Mathlib.Omega.{arith}
 use lib.ListN.{get_or}
 use Rattle.end_point.proofs.Finite.{four_bytes}
-use borrow.Author.Rules.{rules}
 use Rattle.end_point.proofs.end_point.is_finite_at.Goals as goal
 
 pub returns-then-high : goal.returns-then-high

@@ -8,7 +8,6 @@ use borrow.Author.Tests.{le-ltb, eq-eqb, ne_eqb, not-true, not-false}
 use lib.ListN.{length, get_or-eq_default}
 use Rattle.end_point.specs.EndPoint.{point_length, real_line_to, line_to}
 use Rattle.end_point.proofs.EndPoint.{whole-taken}
-use borrow.Author.Rules.{rules}
 use Rattle.end_point.proofs.end_point.line_to.Goals as goal
 
 pub returns-then-s-at : goal.returns-then-s-at
@@ -30,11 +29,14 @@ pub returns : goal.returns
 unfolding line_to
 returns c = let a = c.args in
     let some : 0 < c.point_length-bytes.result = let h = c.if-bytes-eq0.false in omega arith in
-    let ends : c.ends_at.result ≡ true = not-false _ c.if-not-ends_at.false-raw in record { value = rw (← c.point_length-bytes.ensures.value, ne_eqb _ _ c.if-bytes-eq0.false, ← c.ends_at.ensures.value, ends) refl; lined = record {
+    let ends : c.ends_at.result ≡ true = not-false _ c.if-not-ends_at.false-raw in record {
+      value = rw (← c.point_length-bytes.ensures.value, ne_eqb _ _ c.if-bytes-eq0.false, ← c.ends_at.ensures.value, ends) refl;
+      lined = record {
         bytes = c.point_length-bytes.result;
         some = some;
         point = c.point_length-bytes.ensures.point;
         numbers = whole-taken a.high a.s.now (a.at + 1) some c.point_length-bytes.ensures.upper_bound c.point_length-bytes.ensures.point;
         ends = c.ends_at.ensures.ends ends;
         is = refl;
-      } }
+      };
+    }

@@ -1,6 +1,5 @@
 -- Nothing has to hold from turn to turn; each turn brings the end one nearer.
 use Prim.Native.Nat.{◌-◌}
-use borrow.Author.Rules.{rules}
 use Rattle.facts.proofs.facts.index_of.Given as goal
 
 abbrev pub invariant-loop-i : goal.invariant-loop-i

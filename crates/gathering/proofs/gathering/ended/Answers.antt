@@ -3,7 +3,6 @@
 use mathlib.Core.Path.{refl}
 use Rattle.setting.specs.Views.{setting_as}
 use Rattle.gathering.proofs.Ending.{fine-after, call-after, no-after, hold_after}
-use borrow.Author.Rules.{rules}
 use Rattle.gathering.proofs.gathering.ended.Goals as goal
 
 pub returns-in-Fine : goal.returns-in-Fine
@@ -18,9 +17,12 @@ pub returns-in-Held : goal.returns-in-Held
 returns-in-Held c = let a = c.args in
     let k = c.hold-after in
     let w = c.keep_own in
-    rw c.in-Held.is record { stays = record { work_long = k.ensures.work_len_unchanged; table_long = k.ensures.motifs_len_unchanged; patterns_long = w.ensures.patterns_len_unchanged; rest = k.ensures.work_unchanged }; by_index = λ job attrs o page first count e nr. hold_after job attrs (setting_as a.set) o a.work.now a.motifs.now a.patterns.now nr
+    rw c.in-Held.is record {
+      stays = record { work_long = k.ensures.work_len_unchanged; table_long = k.ensures.motifs_len_unchanged; patterns_long = w.ensures.patterns_len_unchanged; rest = k.ensures.work_unchanged };
+      by_index = λ job attrs o page first count e nr. hold_after job attrs (setting_as a.set) o a.work.now a.motifs.now a.patterns.now nr
           c.in-Held.made a.name.now
-          k.new.work k.new.motifs w.new.patterns a.joined a.kept k.result k.ensures.stored w.ensures.own_kept e }
+          k.new.work k.new.motifs w.new.patterns a.joined a.kept k.result k.ensures.stored w.ensures.own_kept e;
+    }
 
 pub returns-in-No : goal.returns-in-No
 returns-in-No c = let a = c.args in

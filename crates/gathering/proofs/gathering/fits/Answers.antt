@@ -5,7 +5,6 @@ use mathlib.Core.Path.{sym, ◌∙◌}
 use mathlib.Core.Bool.{true≢false}
 use native.Mathlib.Omega.{arith}
 use borrow.Author.Tests.{leb-true, le-leb, not-true, not-false}
-use borrow.Author.Rules.{rules}
 use Rattle.gathering.proofs.gathering.fits.Goals as goal
 
 pub returns-then-not-lies : goal.returns-then-not-lies

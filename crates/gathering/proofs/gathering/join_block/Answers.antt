@@ -7,7 +7,6 @@ use mathlib.Core.Path.{◌≡◌, refl, sym, ◌∙◌}
 use borrow.Author.Tests.{not-true, not-false}
 use native.Mathlib.Omega.{arith}
 use mathlib.Core.Bool.{true≢false}
-use borrow.Author.Rules.{rules}
 use Rattle.gathering.proofs.gathering.join_block.Goals as goal
 
 pub returns-then-not-fits : goal.returns-then-not-fits
@@ -37,9 +36,12 @@ returns c = let a = c.args in
     let f = c.fits.ensures.count_bound (not-false _ c.if-not-fits.false-raw) in
     let l : a.o.first + a.o.length - a.o.first ≡ a.o.length = omega arith in
     let W = c.join.new.work in
-    let n = a.o.first + a.o.length - a.o.first in record { work_after = work-is a.job.now a.work.now W a.o.first a.o.length a.used a.joined n c.join.result l f.0 f.1 c.join.ensures.value c.join.ensures.work_after; joins = λ h w k.
+    let n = a.o.first + a.o.length - a.o.first in record {
+      work_after = work-is a.job.now a.work.now W a.o.first a.o.length a.used a.joined n c.join.result l f.0 f.1 c.join.ensures.value c.join.ensures.work_after;
+      joins = λ h w k.
           record {
             more = refl;
             bytes = work-joined a.job.now a.work.now W a.o.first a.o.length a.used a.joined n c.join.result l f.0 f.1 c.join.ensures.value c.join.ensures.work_after h;
             held = work-held a.job.now a.work.now W a.o.first a.o.length a.used a.joined n c.join.result l f.0 f.1 c.join.ensures.value c.join.ensures.work_after h;
-          } }
+          };
+    }

@@ -2,7 +2,6 @@
 -- Assumes nothing.
 use mathlib.Core.Path.{refl}
 use Rattle.gathering.proofs.Selecting.{own_at, own-nowhere}
-use borrow.Author.Rules.{rules}
 use Rattle.gathering.proofs.gathering.keep_own.Goals as goal
 
 pub keep-requires : goal.keep-requires

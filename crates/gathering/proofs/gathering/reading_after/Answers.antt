@@ -10,7 +10,6 @@ use Rattle.setting.specs.Views.{setting_as}
 use Rattle.early.proofs.Parts.{part_same}
 use Rattle.gathering.proofs.Blocks.{block-after, nameless_after}
 use Rattle.gathering.proofs.Joined.{block-long, block-past}
-use borrow.Author.Rules.{rules}
 use Rattle.gathering.proofs.gathering.reading_after.Goals as goal
 
 pub returns-then-o-eq-READ_STREAM : goal.returns-then-o-eq-READ_STREAM
@@ -18,18 +17,24 @@ returns-then-o-eq-READ_STREAM c = let a = c.args in
     let b = c.join_block-more in
     let s = a.stream in
     let l : length b.new.work ≡ length a.work.now =
-    rw b.ensures.work_after (block-long a.job.now a.work.now a.o.first a.o.length (s.kept.used + s.joined)) in record { stays = record {
+    rw b.ensures.work_after (block-long a.job.now a.work.now a.o.first a.o.length (s.kept.used + s.joined)) in record {
+      stays = record {
         work_long = l;
         table_long = refl;
         patterns_long = refl;
         rest = rw b.ensures.work_after (block-past a.job.now a.work.now a.o.first a.o.length (s.kept.used + s.joined));
-      }; by_index = λ attrs page. block-after a.job.now attrs (setting_as a.set) a.o a.work.now a.motifs.now a.patterns.now
+      };
+      by_index = λ attrs page. block-after a.job.now attrs (setting_as a.set) a.o a.work.now a.motifs.now a.patterns.now
           b.new.work b.result l c.if-o-eq-READ_STREAM.true
-          b.ensures.joins }
+          b.ensures.joins;
+    }
 
 pub returns-then-not-lies : goal.returns-then-not-lies
-returns-then-not-lies c = let a = c.args in record { stays = record { work_long = refl; table_long = refl; patterns_long = refl; rest = refl }; by_index = λ attrs page. nameless_after a.job.now attrs (setting_as a.set) a.o a.work.now a.motifs.now a.patterns.now
-          (λ h. true≢false (sym (c.lies.ensures.value h) ∙ not-true _ c.if-not-lies.true-raw)) }
+returns-then-not-lies c = let a = c.args in record {
+  stays = record { work_long = refl; table_long = refl; patterns_long = refl; rest = refl };
+  by_index = λ attrs page. nameless_after a.job.now attrs (setting_as a.set) a.o a.work.now a.motifs.now a.patterns.now
+      (λ h. true≢false (sym (c.lies.ensures.value h) ∙ not-true _ c.if-not-lies.true-raw));
+}
 
 pub overflow_add-first : goal.overflow_add-first
 overflow_add-first c = let l = c.lies.ensures.count_bound (not-false _ c.if-not-lies.false-raw) in

@@ -9,7 +9,6 @@ use lib.Dec.{eqb}
 use borrow.Author.Tests.{eq-eqb, ne_eqb}
 use Rattle.scope.specs.Choice.{pick}
 use Rattle.scope.specs.Header.{Header, classed}
-use borrow.Author.Rules.{rules}
 use Rattle.header.proofs.header.class_of.Goals.{After-byte_at-2}
 use Rattle.header.proofs.header.class_of.Goals as goal
 

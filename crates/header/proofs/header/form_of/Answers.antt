@@ -1,14 +1,13 @@
 -- The invariant: the form from place i on is the header's form.
 -- Assumes nothing.
-use Prim.Native.Nat.{◌-◌, ◌≤◌}
+use Prim.Native.Nat.{◌-◌}
 use mathlib.Core.Path.{◌≡◌, sym, ◌∙◌}
 use mathlib.Core.Bool.{true}
 use native.Mathlib.Omega.{arith}
 use borrow.Author.Tests.{not-true, not-false}
-use lib.ListN.{length, get_or, drop}
-use Rattle.scope.specs.Header.{may_stand, form_from}
+use lib.ListN.{get_or}
+use Rattle.scope.specs.Header.{may_stand}
 use Rattle.header.proofs.Forms.{form-breaks, form-ends, form-next, form-out}
-use borrow.Author.Rules.{rules}
 use Rattle.header.proofs.header.form_of.Goals.{Else-not-may_stand}
 use Rattle.header.proofs.header.form_of.Goals as goal
 

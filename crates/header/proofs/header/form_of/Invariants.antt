@@ -1,13 +1,8 @@
 -- The invariant: the form from place i on is the header's form.
 use Prim.Native.Nat.{◌-◌, ◌≤◌}
-use mathlib.Core.Path.{◌≡◌, sym, ◌∙◌}
-use mathlib.Core.Bool.{true}
-use native.Mathlib.Omega.{arith}
-use borrow.Author.Tests.{not-true, not-false}
-use lib.ListN.{length, get_or, drop}
-use Rattle.scope.specs.Header.{may_stand, form_from}
-use Rattle.header.proofs.Forms.{form-breaks, form-ends, form-next, form-out}
-use borrow.Author.Rules.{rules}
+use mathlib.Core.Path.{◌≡◌}
+use lib.ListN.{length, drop}
+use Rattle.scope.specs.Header.{form_from}
 use Rattle.header.proofs.header.form_of.Given as goal
 
 abbrev pub invariant-loop-i : goal.invariant-loop-i

@@ -9,7 +9,6 @@ use lib.ListN.{get_or}
 use lib.Dec.{eqb}
 use Rattle.scope.specs.Header.{header_of, classed}
 use Rattle.header.specs.Headers.{form_as}
-use borrow.Author.Rules.{rules}
 use Rattle.header.proofs.header.header_of.Goals.{Else-byte_at-eq39}
 use Rattle.header.proofs.header.header_of.Goals as goal
 

@@ -7,7 +7,6 @@ use native.Mathlib.Omega.{arith}
 use borrow.Author.Tests.{ne_eqb, lt-leb}
 use lib.Dec.{eqb}
 use Rattle.scope.specs.Header.{may_stand}
-use borrow.Author.Rules.{rules}
 use Rattle.header.proofs.header.later.Goals as goal
 
 pub returns-in-12 : goal.returns-in-12

@@ -2,7 +2,6 @@
 -- Assumes nothing.
 use borrow.Author.Tests.{ne_eqb, le-leb}
 use Rattle.scope.specs.Header.{may_stand}
-use borrow.Author.Rules.{rules}
 use Rattle.header.proofs.header.may_stand.Goals as goal
 
 pub returns-then-i-eq0 : goal.returns-then-i-eq0

@@ -1,15 +1,13 @@
 -- `header::header::past_title` meets its contract: the form from place i on is the header's form, and no header ends before place 15.
 -- Assumes nothing.
-use Prim.Native.Nat.{ℕ, ◌-◌, ◌≤◌, ◌<◌}
+use Prim.Native.Nat.{ℕ, ◌-◌, ◌<◌}
 use mathlib.Core.Path.{◌≡◌, refl, sym, ◌∙◌}
 use mathlib.Core.Bool.{false, ◌&&◌}
 use native.Mathlib.Omega.{arith}
 use borrow.Author.Tests.{not-false, lt-leb}
-use lib.ListN.{get_or, drop}
+use lib.ListN.{get_or}
 use lib.Dec.{leb, eqb}
-use Rattle.scope.specs.Header.{form_from}
 use Rattle.header.proofs.Forms.{form-next}
-use borrow.Author.Rules.{rules}
 use Rattle.header.proofs.header.past_title.Goals as goal
 
 not_last : (i b : ℕ) → i < 12 → (leb 15 i && eqb b 0x0a) ≡ false

@@ -5,7 +5,6 @@ use mathlib.Core.Path.{sym}
 use Prim.Native.Nat.{◌+◌, ◌≤◌}
 use borrow.Author.Tests.{leb-true, le-leb}
 use Rattle.scope.proofs.Apart.{clash-of}
-use borrow.Author.Rules.{rules}
 use Rattle.holding.proofs.holding.fits.Goals as goal
 
 pub returns-then-used-gt-STORE_MOST : goal.returns-then-used-gt-STORE_MOST

@@ -2,11 +2,10 @@
 -- Assumes nothing.
 use native.Mathlib.Omega.{arith}
 use mathlib.Core.Path.{◌≡◌, sym, subst}
-use Prim.Native.Nat.{◌-◌, ◌*◌, ◌≤◌, ◌<◌}
+use Prim.Native.Nat.{◌-◌, ◌<◌}
 use Rattle.motif.specs.Held.{Rows}
-use Rattle.holding.specs.Laid.{Named, Laid}
+use Rattle.holding.specs.Laid.{Named}
 use Rattle.holding.proofs.Laying.{laid_none, laid_more, laid-sorted}
-use borrow.Author.Rules.{rules}
 use Rattle.holding.proofs.replacing.lay_out.Goals as goal
 
 pub loop-i-init : goal.loop-i-init
@@ -21,6 +20,10 @@ loop-i-preserved c = let l = c.loop-i in
 pub returns : goal.returns
 returns c = let l = c.loop-i in
     let u = c.in_use-n in
-    let a = c.args in record { motifs_len_unchanged = l.invariant.3.sized; rows = λ ms s h k b.
-            let e : l.i ≡ a.held = omega (arith, u.ensures.value_2 h) in
-            subst (λ v. Rows l.motifs v ms) e (l.invariant.3.rows ms s (subst (λ v. Named a.motifs.now v ms) (sym e) k) b).0; by_index = λ n. laid-sorted a.motifs.now l.motifs l.i l.start (omega arith) l.invariant.3 }
+    let a = c.args in record {
+      motifs_len_unchanged = l.invariant.3.sized;
+      rows = λ ms s h k b.
+          let e : l.i ≡ a.held = omega (arith, u.ensures.value_2 h) in
+          subst (λ v. Rows l.motifs v ms) e (l.invariant.3.rows ms s (subst (λ v. Named a.motifs.now v ms) (sym e) k) b).0;
+      by_index = λ n. laid-sorted a.motifs.now l.motifs l.i l.start (omega arith) l.invariant.3;
+    }

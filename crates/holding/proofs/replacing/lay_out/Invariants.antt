@@ -1,11 +1,6 @@
 -- `holding::replacing::lay_out` meets its contract: after i turns the first i rows are right, and the next bytes begin behind theirs.
-use native.Mathlib.Omega.{arith}
-use mathlib.Core.Path.{◌≡◌, sym, subst}
-use Prim.Native.Nat.{◌-◌, ◌*◌, ◌≤◌, ◌<◌}
-use Rattle.motif.specs.Held.{Rows}
-use Rattle.holding.specs.Laid.{Named, Laid}
-use Rattle.holding.proofs.Laying.{laid_none, laid_more, laid-sorted}
-use borrow.Author.Rules.{rules}
+use Prim.Native.Nat.{◌-◌, ◌*◌, ◌≤◌}
+use Rattle.holding.specs.Laid.{Laid}
 use Rattle.holding.proofs.replacing.lay_out.Given as goal
 
 abbrev pub invariant-loop-i : goal.invariant-loop-i

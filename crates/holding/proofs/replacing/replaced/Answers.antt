@@ -6,7 +6,6 @@ use native.Mathlib.Omega.{arith}
 use lib.ListN.{length, set, length-set}
 use Rattle.motif.specs.Held.{start_in, long_in}
 use Rattle.holding.proofs.Exchanged.{old-within, replaced-stored, work-beside}
-use borrow.Author.Rules.{rules}
 use Rattle.holding.proofs.replacing.replaced.Goals as goal
 
 pub returns-then-used-joined : goal.returns-then-used-joined

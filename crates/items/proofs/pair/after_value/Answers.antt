@@ -3,7 +3,6 @@
 use mathlib.Core.Path.{refl}
 use borrow.Author.Tests.{le-leb, lt-leb, eq-eqb, ne_eqb}
 use Rattle.scope.specs.Item.{number_at}
-use borrow.Author.Rules.{rules}
 use Rattle.items.proofs.pair.after_value.Goals as goal
 
 pub returns-then-s-p : goal.returns-then-s-p

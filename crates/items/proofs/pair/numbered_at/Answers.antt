@@ -7,7 +7,6 @@ use borrow.Author.Tests.{le-leb, lt-leb}
 use lib.ListN.{length}
 use Rattle.scope.specs.Item.{numbered}
 use Rattle.number.specs.Widths.{bytes_of}
-use borrow.Author.Rules.{rules}
 use Rattle.items.proofs.pair.numbered_at.Goals as goal
 
 pub returns-then-s-next : goal.returns-then-s-next

@@ -8,7 +8,6 @@ use native.Mathlib.Nat.{mul-le-mul}
 use lib.ListN.{length, get_or}
 use Rattle.scope.specs.Item.{kind_of, numbers_at, value_of, pair_at, pair_of}
 use Rattle.items.proofs.Pairs.{numbers-short, numbers-all, mark-within, mark-next}
-use borrow.Author.Rules.{rules}
 use Rattle.items.proofs.pair.pair_at.Goals.{After-byte_at, After-width_in, In-From}
 use Rattle.items.proofs.pair.pair_at.Goals as goal
 

@@ -13,7 +13,6 @@ use Rattle.items.specs.declared.pair.Pair.{Pair}
 use Rattle.items.specs.declared.pair.Pair.TheVariants.{Next}
 use Rattle.items.proofs.Rows.{length-pair}
 use Rattle.items.proofs.Pairs.{black-after, pair_ends, after_pair, scan_after, scan_end, scan_tag, scan_pair}
-use borrow.Author.Rules.{rules}
 use Rattle.items.proofs.scan.scan_at.Goals.{After-after_white-at, After-pair_at, At-pairs, Else-s-at, In-Next}
 use Rattle.items.proofs.scan.scan_at.Goals as goal
 

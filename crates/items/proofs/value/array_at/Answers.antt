@@ -2,7 +2,6 @@
 -- Assumes nothing.
 use borrow.Author.Tests.{le-leb, lt-leb, eq-eqb, ne_eqb}
 use Rattle.scope.specs.Item.{array_at}
-use borrow.Author.Rules.{rules}
 use Rattle.items.proofs.value.array_at.Goals as goal
 
 pub returns-then-s-i : goal.returns-then-s-i

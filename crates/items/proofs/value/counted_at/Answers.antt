@@ -6,7 +6,6 @@ use borrow.Author.Tests.{le-leb, lt-leb, le-ltb, lt-ltb}
 use lib.ListN.{length}
 use Rattle.scope.specs.Item.{counted_at, elements_at}
 use Rattle.number.specs.Widths.{bytes_of}
-use borrow.Author.Rules.{rules}
 use Rattle.items.proofs.value.counted_at.Goals as goal
 
 pub returns-then-s-first : goal.returns-then-s-first

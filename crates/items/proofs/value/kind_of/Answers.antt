@@ -8,7 +8,6 @@ use native.Mathlib.Omega.{arith}
 use Rattle.scope.specs.Choice.{between}
 use Rattle.scope.specs.Item.{width_of, kind_of, plain, array}
 use Rattle.number.specs.Widths.{width_in}
-use borrow.Author.Rules.{rules}
 use Rattle.items.proofs.value.kind_of.Goals.{Else-between, Else-between-2, Else-between-3}
 use Rattle.items.proofs.value.kind_of.Goals as goal
 

@@ -12,7 +12,6 @@ use Rattle.items.specs.Values.{kind_as, Taken}
 use Rattle.items.specs.declared.value.Kind.{Kind}
 use Rattle.items.specs.declared.value.Value.{Value}
 use Rattle.items.specs.declared.value.Value.TheVariants.{From, No}
-use borrow.Author.Rules.{rules}
 use Rattle.items.proofs.value.value_at.Goals.{After-kind_of}
 use Rattle.items.proofs.value.value_at.Goals as goal
 

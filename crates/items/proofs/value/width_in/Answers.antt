@@ -1,7 +1,6 @@
 -- `width_in` meets its contract.
 -- Assumes nothing.
 use Rattle.number.specs.Widths.{width_in}
-use borrow.Author.Rules.{rules}
 use Rattle.items.proofs.value.width_in.Goals as goal
 
 pub returns : goal.returns

@@ -1,7 +1,6 @@
 -- `key_of` meets its contract: the first eight bytes, the next eight, and the length.
 -- Assumes nothing.
 use Rattle.key.specs.Keys.{key_of}
-use borrow.Author.Rules.{rules}
 use Rattle.key.proofs.key.key_of.Goals as goal
 
 pub returns : goal.returns

@@ -1,13 +1,12 @@
 -- `pack` meets its contract: the loop goes byte by byte, and each byte is one digit more.
 -- Assumes nothing.
-use Prim.Native.Nat.{◌^◌, ◌≤◌, ◌<◌, ◌-◌}
+use Prim.Native.Nat.{◌^◌, ◌≤◌, ◌-◌}
 use mathlib.Core.Path.{◌≡◌, refl}
 use native.Mathlib.Omega.{arith}
 use native.Mathlib.Numerals.{add-one}
 use native.Mathlib.Nat.{pow-zero, pow-suc}
 use Rattle.key.proofs.Packs.{pow_seven}
 use Rattle.key.specs.Keys.{packed}
-use borrow.Author.Rules.{rules}
 use Rattle.key.proofs.key.pack.Goals as goal
 
 pub loop-i-init : goal.loop-i-init

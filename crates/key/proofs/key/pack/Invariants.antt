@@ -1,12 +1,7 @@
 -- `pack` meets its contract: the loop goes byte by byte, and each byte is one digit more.
 use Prim.Native.Nat.{◌^◌, ◌≤◌, ◌<◌, ◌-◌}
-use mathlib.Core.Path.{◌≡◌, refl}
-use native.Mathlib.Omega.{arith}
-use native.Mathlib.Numerals.{add-one}
-use native.Mathlib.Nat.{pow-zero, pow-suc}
-use Rattle.key.proofs.Packs.{pow_seven}
+use mathlib.Core.Path.{◌≡◌}
 use Rattle.key.specs.Keys.{packed}
-use borrow.Author.Rules.{rules}
 use Rattle.key.proofs.key.pack.Given as goal
 
 abbrev pub invariant-loop-i : goal.invariant-loop-i

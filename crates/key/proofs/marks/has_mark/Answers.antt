@@ -2,7 +2,6 @@
 -- Assumes nothing.
 use mathlib.Core.Path.{refl}
 use native.Mathlib.Omega.{arith}
-use borrow.Author.Rules.{rules}
 use Rattle.key.specs.Mark.{mark}
 use Rattle.key.proofs.marks.has_mark.Goals as goal
 

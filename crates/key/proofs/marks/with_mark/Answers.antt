@@ -1,7 +1,6 @@
 -- `with_mark` meets its contract: 1 << j is the power of two, and it is laid over the marks.
 -- Assumes nothing.
 use native.Mathlib.Omega.{arith}
-use borrow.Author.Rules.{rules}
 use Rattle.key.proofs.Marked.{mark_set, one_at}
 use Rattle.key.proofs.marks.with_mark.Goals as goal
 

@@ -1,7 +1,6 @@
 -- `name_in` meets its contract.
 -- Assumes nothing.
 use mathlib.Core.Path.{refl, sym, ◌∙◌}
-use borrow.Author.Rules.{rules}
 use Rattle.key.proofs.part.name_in.Goals as goal
 
 pub returns : goal.returns

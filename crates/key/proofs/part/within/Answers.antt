@@ -4,7 +4,6 @@ use Prim.Native.Nat.{◌-◌}
 use mathlib.Core.Path.{refl}
 use native.Mathlib.Omega.{arith}
 use Rattle.key.proofs.Within.{part_none, part-all}
-use borrow.Author.Rules.{rules}
 use Rattle.key.proofs.part.within.Goals as goal
 
 pub returns-then-len-first : goal.returns-then-len-first

@@ -1,6 +1,5 @@
 -- `attribute_row`: the five numbers of row i.
 -- Assumes nothing.
-use borrow.Author.Rules.{rules}
 use Rattle.listed.proofs.Listed.{attribute-sixteen}
 use Rattle.listed.proofs.listing.attribute_row.Goals as goal
 

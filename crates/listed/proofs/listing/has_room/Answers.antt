@@ -1,6 +1,5 @@
 -- `has_room`: bytes against whole records.
 -- Assumes nothing.
-use borrow.Author.Rules.{rules}
 use mathlib.Core.Path.{sym}
 use native.Mathlib.Omega.{arith}
 use Rattle.listed.proofs.Listed.{room-many, room-none, room-left}

@@ -1,13 +1,11 @@
 -- `list_attributes`: after i turns the list has the records of i attributes.
 -- Assumes nothing.
-use borrow.Author.Rules.{rules}
 use mathlib.Core.Path.{◌≡◌, refl, sym, ◌∙◌}
 use Prim.Native.Nat.{suc, ◌+◌, ◌*◌, ◌-◌, ◌≤◌}
 use native.Mathlib.Omega.{arith}
 use lib.ListN.{length}
 use Rattle.scope.specs.Verdict.{attribute_records}
 use Rattle.items.specs.Rows.{rows_from, rows_of}
-use Rattle.buffer.specs.Over.{over}
 use Rattle.listed.specs.Listed.{lows}
 use Rattle.buffer.proofs.Parts.{over-nil}
 use Rattle.listed.proofs.Listed.{attribute-more}

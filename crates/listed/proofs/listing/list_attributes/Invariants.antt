@@ -1,15 +1,11 @@
 -- `list_attributes`: after i turns the list has the records of i attributes.
-use borrow.Author.Rules.{rules}
-use mathlib.Core.Path.{◌≡◌, refl, sym, ◌∙◌}
-use Prim.Native.Nat.{suc, ◌+◌, ◌*◌, ◌-◌, ◌≤◌}
-use native.Mathlib.Omega.{arith}
+use mathlib.Core.Path.{◌≡◌}
+use Prim.Native.Nat.{◌*◌, ◌-◌, ◌≤◌}
 use lib.ListN.{length}
 use Rattle.scope.specs.Verdict.{attribute_records}
-use Rattle.items.specs.Rows.{rows_from, rows_of}
+use Rattle.items.specs.Rows.{rows_of}
 use Rattle.buffer.specs.Over.{over}
 use Rattle.listed.specs.Listed.{lows}
-use Rattle.buffer.proofs.Parts.{over-nil}
-use Rattle.listed.proofs.Listed.{attribute-more}
 use Rattle.listed.proofs.listing.list_attributes.Given as goal
 
 abbrev pub invariant-loop-i : goal.invariant-loop-i

@@ -7,7 +7,6 @@ use Prim.Native.Nat.{◌+◌, ◌*◌, ◌≤◌}
 use native.Mathlib.Omega.{arith}
 use lib.ListN.{length}
 use Rattle.listed.proofs.Listed.{room-few, room-is, one-listed}
-use borrow.Author.Rules.{rules}
 use Rattle.listed.proofs.listing.list_one.Goals.{Else-not-has_room}
 use Rattle.listed.proofs.listing.list_one.Goals as goal
 
@@ -42,6 +41,9 @@ put-requires-2 c = let h = room (goal.at.put-requires-2 c).Else-not-has_room in 
 pub returns : goal.returns
 returns c = let a = c.args in
     let h = room (goal.at.returns c).Else-not-has_room in
-    let p = c.put in record { value = sym (le-leb ((a.records + 2) * 16) (length a.list.now) h); list_after = c.put-2.ensures
+    let p = c.put in record {
+      value = sym (le-leb ((a.records + 2) * 16) (length a.list.now) h);
+      list_after = c.put-2.ensures
           ∙ one-listed a.list.now p.new.list c.row-attribute.result c.operator_row-operator.result a.records a.number a.value a.at a.count a.first a.tag a.op h
-          p.ensures c.row-attribute.ensures c.operator_row-operator.ensures }
+          p.ensures c.row-attribute.ensures c.operator_row-operator.ensures;
+    }

@@ -1,7 +1,6 @@
 -- `list_operator`: the operator's record right after its attributes'.
 -- Assumes nothing.
 -- past the test there is room
-use borrow.Author.Rules.{rules}
 use borrow.Author.Tests.{not-true, not-false}
 use mathlib.Core.Path.{◌≡◌, refl, sym, ◌∙◌}
 use mathlib.Core.Bool.{true, false}

@@ -1,6 +1,5 @@
 -- `put`: the part was left with the record at its front.
 -- Assumes nothing.
-use borrow.Author.Rules.{rules}
 use native.Mathlib.Omega.{arith}
 use Rattle.buffer.proofs.Parts.{part-back}
 use Rattle.listed.proofs.listing.put.Goals as goal

@@ -1,6 +1,5 @@
 -- `row`: byte for byte.
 -- Assumes nothing.
-use borrow.Author.Rules.{rules}
 use mathlib.Core.Path.{refl}
 use Rattle.scope.specs.Verdict.{four}
 use Rattle.listed.specs.Listed.{sixteen}

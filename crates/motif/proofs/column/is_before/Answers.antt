@@ -2,7 +2,6 @@
 -- Assumes nothing.
 use mathlib.Core.Path.{sym}
 use Rattle.motif.proofs.Ordered.{row_first, row_next, row-long}
-use borrow.Author.Rules.{rules}
 use Rattle.motif.proofs.column.is_before.Goals as goal
 
 pub returns-then-first-key : goal.returns-then-first-key

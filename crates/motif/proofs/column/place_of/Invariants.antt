@@ -1,13 +1,8 @@
 -- `place_of` meets its contract: what lies between lo and hi is halved in each turn, and the search from there is the whole search.
 use Prim.Native.Nat.{◌-◌, ◌≤◌}
-use mathlib.Core.Path.{sym, ◌∙◌}
-use native.Mathlib.Omega.{arith}
 use Rattle.key.specs.Views.{key_as}
-use Rattle.motif.specs.Sorted.{middle}
 use Rattle.motif.specs.Held.{key_in, order_in}
-use Rattle.motif.specs.Search.{place_of}
-use Rattle.motif.proofs.Halves.{Going, going_start, going-up, going-down, going-over}
-use borrow.Author.Rules.{rules}
+use Rattle.motif.proofs.Halves.{Going}
 use Rattle.motif.proofs.column.place_of.Given as goal
 
 abbrev pub invariant-loop-lo : goal.invariant-loop-lo

@@ -6,10 +6,9 @@ use native.Mathlib.Omega.{arith}
 use native.Mathlib.Numerals.{add-one}
 use Prim.Native.Nat.{suc, ◌+◌, ◌≤◌, ◌<◌, ◌-◌}
 use lib.ListN.{length, get_or, drop, length-set, length-drop}
-use lib.Seq.{paste, paste-zero, get_or-drop}
+use lib.Seq.{paste-zero, get_or-drop}
 use Rattle.motif.specs.Search.{put_in}
 use Rattle.motif.proofs.Entered.{paste_more, paste_after}
-use borrow.Author.Rules.{rules}
 use Rattle.motif.proofs.column.put_in.Goals as goal
 
 pub loop-i-init : goal.loop-i-init

@@ -1,14 +1,9 @@
 -- `put_in` meets its contract: one number is carried from place to place, so what was written is the beginning of the numbers that move up.
-use mathlib.Core.Path.{◌≡◌, refl, sym, ◌∙◌}
+use mathlib.Core.Path.{◌≡◌}
 use mathlib.Core.List.{◌∷◌}
-use native.Mathlib.Omega.{arith}
-use native.Mathlib.Numerals.{add-one}
-use Prim.Native.Nat.{suc, ◌+◌, ◌≤◌, ◌<◌, ◌-◌}
-use lib.ListN.{length, get_or, drop, length-set, length-drop}
-use lib.Seq.{paste, paste-zero, get_or-drop}
-use Rattle.motif.specs.Search.{put_in}
-use Rattle.motif.proofs.Entered.{paste_more, paste_after}
-use borrow.Author.Rules.{rules}
+use Prim.Native.Nat.{◌+◌, ◌≤◌, ◌-◌}
+use lib.ListN.{length, get_or, drop}
+use lib.Seq.{paste}
 use Rattle.motif.proofs.column.put_in.Given as goal
 
 abbrev pub invariant-loop-i : goal.invariant-loop-i

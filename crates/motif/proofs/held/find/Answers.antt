@@ -8,7 +8,6 @@ use Rattle.motif.specs.declared.held.Where.TheVariants.{At, Nowhere}
 use Rattle.motif.specs.Held.{key_in, order_in}
 use Rattle.motif.specs.Search.{place_of}
 use Rattle.motif.proofs.Finding.{find_over, find_at, find_other, found}
-use borrow.Author.Rules.{rules}
 use Rattle.motif.proofs.held.find.Goals as goal
 
 pub returns-then-n-place : goal.returns-then-n-place

@@ -3,7 +3,6 @@
 use mathlib.Core.Path.{sym, ◌∙◌}
 use borrow.Author.Tests.{eq-eqb, ne_eqb}
 use Rattle.motif.proofs.Finding.{same_row}
-use borrow.Author.Rules.{rules}
 use Rattle.motif.proofs.held.is_name.Goals as goal
 
 pub returns-then-motifs-i : goal.returns-then-motifs-i

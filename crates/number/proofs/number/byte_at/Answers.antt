@@ -2,7 +2,6 @@
 -- Assumes nothing.
 use lib.ListN.{get_or-eq_default}
 use mathlib.Core.Path.{sym}
-use borrow.Author.Rules.{rules}
 use Rattle.number.proofs.number.byte_at.Goals as goal
 
 pub returns-else-at-s : goal.returns-else-at-s

@@ -9,7 +9,6 @@ use native.Mathlib.Omega.{arith}
 use Rattle.scope.specs.Choice.{pick}
 use Rattle.scope.specs.Number.{number}
 use Rattle.number.proofs.Digits.{halves}
-use borrow.Author.Rules.{rules}
 use Rattle.number.proofs.number.four_at.Goals as goal
 
 by-halves : (high : Bool) (s : List ℕ) (at : ℕ) → number high 4 s at ≡ pick high (number high 2 s at * 65536 + number high 2 s (at + 2)) (number high 2 s (at + 2) * 65536 + number high 2 s at)

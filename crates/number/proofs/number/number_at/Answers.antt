@@ -7,7 +7,6 @@ use Rattle.number.specs.declared.number.Width.{Width}
 use Rattle.number.specs.declared.number.Width.TheVariants.{One, Two, Four}
 use Rattle.number.specs.Widths.{bytes_of}
 use Rattle.number.proofs.Digits.{past, one-digit}
-use borrow.Author.Rules.{rules}
 use Rattle.number.proofs.number.number_at.Goals as goal
 
 some : (w : Width) → 0 < 256 ^ bytes_of w

@@ -10,7 +10,6 @@ use lib.ListN.{get_or}
 use Rattle.scope.specs.Choice.{pick}
 use Rattle.scope.specs.Number.{number}
 use Rattle.number.proofs.Digits.{halves, one-digit}
-use borrow.Author.Rules.{rules}
 use Rattle.number.proofs.number.two_at.Goals as goal
 
 by-halves : (high : Bool) (s : List ℕ) (at : ℕ) → number high 2 s at ≡ pick high (get_or s at 0 * 256 + get_or s (at + 1) 0) (get_or s (at + 1) 0 * 256 + get_or s at 0)

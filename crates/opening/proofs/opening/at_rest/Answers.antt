@@ -2,7 +2,6 @@
 -- Assumes nothing.
 use Rattle.ruling.proofs.Bytes.{untrue}
 use Rattle.opening.specs.Opening.{rests_outside, rests_inside}
-use borrow.Author.Rules.{rules}
 use Rattle.opening.proofs.opening.at_rest.Goals as goal
 
 pub returns-in-Outside : goal.returns-in-Outside

@@ -1,13 +1,9 @@
 -- The invariant: it is a run from where it began.
 -- Assumes nothing.
 use Prim.Native.Nat.{◌-◌}
-use mathlib.Core.Path.{◌≡◌, refl, ◌∙◌}
+use mathlib.Core.Path.{refl, ◌∙◌}
 use native.Mathlib.Omega.{arith}
-use lib.ListN.{length}
-use Rattle.setting.specs.Views.{setting_as}
-use Rattle.opening.specs.Opening.{Opens}
 use Rattle.opening.proofs.Opens.{opens-none, opens-then}
-use borrow.Author.Rules.{rules}
 use Rattle.opening.proofs.opening.open_on.Goals as goal
 
 pub loop-here-init : goal.loop-here-init

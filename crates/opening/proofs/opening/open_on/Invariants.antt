@@ -1,12 +1,9 @@
 -- The invariant: it is a run from where it began.
 use Prim.Native.Nat.{◌-◌}
-use mathlib.Core.Path.{◌≡◌, refl, ◌∙◌}
-use native.Mathlib.Omega.{arith}
+use mathlib.Core.Path.{◌≡◌}
 use lib.ListN.{length}
 use Rattle.setting.specs.Views.{setting_as}
 use Rattle.opening.specs.Opening.{Opens}
-use Rattle.opening.proofs.Opens.{opens-none, opens-then}
-use borrow.Author.Rules.{rules}
 use Rattle.opening.proofs.opening.open_on.Given as goal
 
 abbrev pub invariant-loop-here : goal.invariant-loop-here

@@ -18,7 +18,6 @@ use Rattle.reader.specs.declared.reading.Read.{Read as CodeRead}
 use Rattle.state.specs.Standing.{Stands, Lent}
 use Rattle.ruling.proofs.Turns.{context_is}
 use Rattle.opening.proofs.Opens.{opens-none}
-use borrow.Author.Rules.{rules}
 use Rattle.opening.proofs.opening.open_one.Goals.{After-operator_at}
 use Rattle.opening.proofs.opening.open_one.Goals as goal
 
@@ -52,5 +51,8 @@ returns-in-Ended c = record { attrs_len_unchanged = c.operator_at.ensures.attrs_
 pub returns-in-Operator : goal.returns-in-Operator
 returns-in-Operator c = let a = c.args in
     let w = rw c.in-Operator.is at c.operator_at.ensures.within in
-    record { attrs_len_unchanged = c.operator_at.ensures.attrs_len_unchanged; opens = λ z. c.pass.ensures a.job.now (setting_as a.set) (c.at_rest.ensures (not-false _ c.if-not-at_rest.false-raw))
-          (record { long = c.operator_at.ensures.attrs_len_unchanged ∙ z; few = w.4 }) w (λ list₀ l d s. read_is (goal.at.returns-in-Operator c).After-operator_at _ c.in-Operator.is list₀ l d z s) }
+    record {
+      attrs_len_unchanged = c.operator_at.ensures.attrs_len_unchanged;
+      opens = λ z. c.pass.ensures a.job.now (setting_as a.set) (c.at_rest.ensures (not-false _ c.if-not-at_rest.false-raw))
+          (record { long = c.operator_at.ensures.attrs_len_unchanged ∙ z; few = w.4 }) w (λ list₀ l d s. read_is (goal.at.returns-in-Operator c).After-operator_at _ c.in-Operator.is list₀ l d z s);
+    }

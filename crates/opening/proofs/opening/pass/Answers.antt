@@ -14,7 +14,6 @@ use Rattle.listed.proofs.Listed.{room-is}
 use Rattle.reader.specs.Reads.{operator_as}
 use Rattle.ruling.proofs.Turns.{read-bytes}
 use Rattle.opening.proofs.Opens.{opens-none, opens_still, one_more}
-use borrow.Author.Rules.{rules}
 use Rattle.opening.proofs.opening.pass.Goals.{Else-not-list_operator}
 use Rattle.opening.proofs.opening.pass.Goals as goal
 

@@ -1,7 +1,6 @@
 -- `place_past`: a session begins, or one that rests goes on or ends.
 -- Assumes nothing.
 use Rattle.opening.proofs.Edges.{begun, past-rests}
-use borrow.Author.Rules.{rules}
 use Rattle.opening.proofs.opening.place_past.Goals as goal
 
 pub returns-in-Outside : goal.returns-in-Outside

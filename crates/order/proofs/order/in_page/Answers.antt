@@ -2,7 +2,6 @@
 -- Assumes nothing.
 use borrow.Author.Tests.{eq-eqb, ne_eqb}
 use Rattle.scope.specs.Order.{may_come}
-use borrow.Author.Rules.{rules}
 use Rattle.order.proofs.order.in_page.Goals as goal
 
 pub returns-then-tag-eq-END_PAGE : goal.returns-then-tag-eq-END_PAGE

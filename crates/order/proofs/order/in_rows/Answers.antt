@@ -1,7 +1,6 @@
 -- `in_rows` meets its contract.
 -- Assumes nothing.
 use borrow.Author.Tests.{eq-eqb, ne_eqb}
-use borrow.Author.Rules.{rules}
 use Rattle.order.proofs.order.in_rows.Goals as goal
 
 pub returns-then-tag-end : goal.returns-then-tag-end

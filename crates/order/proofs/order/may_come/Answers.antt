@@ -1,7 +1,6 @@
 -- `may_come` meets its contract.
 -- Assumes nothing.
 use Rattle.scope.specs.Order.{may_come}
-use borrow.Author.Rules.{rules}
 use Rattle.order.proofs.order.may_come.Goals as goal
 
 pub returns-in-BetweenSessions : goal.returns-in-BetweenSessions

@@ -1,7 +1,6 @@
 -- `begin` meets its contract: field by field.
 -- Assumes nothing.
 use Rattle.scope.specs.Motif.{begun}
-use borrow.Author.Rules.{rules}
 use Rattle.order.proofs.picture.begin.Goals as goal
 
 pub returns : goal.returns

@@ -1,7 +1,6 @@
 -- `hatch_of` meets its contract: field by field.
 -- Assumes nothing.
 use Rattle.scope.specs.Motif.{hatch_of}
-use borrow.Author.Rules.{rules}
 use Rattle.order.proofs.picture.hatch_of.Goals as goal
 
 pub returns : goal.returns

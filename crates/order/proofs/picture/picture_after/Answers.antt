@@ -4,7 +4,6 @@ use mathlib.Core.Path.{sym, ◌∙◌}
 use borrow.Author.Tests.{eq-eqb, ne_eqb}
 use Rattle.order.specs.Pictures.{picture_for}
 use Rattle.order.proofs.Pictures.{rows_in}
-use borrow.Author.Rules.{rules}
 use Rattle.order.proofs.picture.picture_after.Goals as goal
 
 pub returns-then-tag-eq-BEGIN_IMAGE : goal.returns-then-tag-eq-BEGIN_IMAGE

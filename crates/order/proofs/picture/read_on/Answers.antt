@@ -2,7 +2,6 @@
 -- Assumes nothing.
 use mathlib.Core.Path.{refl}
 use Rattle.scope.specs.Motif.{read_on}
-use borrow.Author.Rules.{rules}
 use Rattle.order.proofs.picture.read_on.Goals as goal
 
 pub returns-in-Nothing : goal.returns-in-Nothing

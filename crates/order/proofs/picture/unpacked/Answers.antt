@@ -1,7 +1,6 @@
 -- `unpacked`: part by part.
 -- Assumes nothing.
 use mathlib.Core.Path.{refl}
-use borrow.Author.Rules.{rules}
 use Rattle.order.specs.Pictures.{hatch_in}
 use Rattle.order.proofs.picture.unpacked.Goals as goal
 

@@ -1,6 +1,5 @@
 -- `with_rows` meets its contract.
 -- Assumes nothing.
-use borrow.Author.Rules.{rules}
 use Rattle.order.proofs.picture.with_rows.Goals as goal
 
 pub returns : goal.returns

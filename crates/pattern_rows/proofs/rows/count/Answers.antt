@@ -4,7 +4,6 @@ use Prim.Native.Nat.{◌<◌}
 use mathlib.Core.Path.{sym, ◌∙◌}
 use native.Mathlib.Omega.{arith}
 use Rattle.pattern_rows.proofs.Cells.{in_length}
-use borrow.Author.Rules.{rules}
 use Rattle.pattern_rows.proofs.rows.count.Goals as goal
 
 pub returns : goal.returns

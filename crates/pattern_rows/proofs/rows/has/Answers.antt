@@ -4,9 +4,7 @@ use Prim.Native.Nat.{◌*◌, ◌<◌}
 use mathlib.Core.Path.{◌≡◌, sym, ap, ◌∙◌}
 use native.Mathlib.Omega.{arith}
 use Rattle.scope.specs.Choice.{among}
-use Rattle.pattern_rows.specs.Numbers.{numbers_to, numbers_in}
 use Rattle.pattern_rows.proofs.Cells.{in_to, among-here, among_next, among_none}
-use borrow.Author.Rules.{rules}
 use Rattle.pattern_rows.proofs.rows.has.Goals as goal
 
 pub loop-i-init : goal.loop-i-init

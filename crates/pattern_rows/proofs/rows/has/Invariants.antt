@@ -1,11 +1,8 @@
 -- `has`: what is left to look at are the first i numbers, and those looked at are others.
 use Prim.Native.Nat.{◌*◌, ◌<◌}
-use mathlib.Core.Path.{◌≡◌, sym, ap, ◌∙◌}
-use native.Mathlib.Omega.{arith}
+use mathlib.Core.Path.{◌≡◌}
 use Rattle.scope.specs.Choice.{among}
 use Rattle.pattern_rows.specs.Numbers.{numbers_to, numbers_in}
-use Rattle.pattern_rows.proofs.Cells.{in_to, among-here, among_next, among_none}
-use borrow.Author.Rules.{rules}
 use Rattle.pattern_rows.proofs.rows.has.Given as goal
 
 abbrev pub invariant-loop-i : goal.invariant-loop-i

@@ -4,7 +4,6 @@ use mathlib.Core.Path.{◌≡◌, sym, ◌∙◌}
 use mathlib.Core.Bool.{true, false}
 use Rattle.scope.specs.Choice.{among}
 use Rattle.pattern_rows.specs.Numbers.{OfPage, numbers_in}
-use borrow.Author.Rules.{rules}
 use Rattle.pattern_rows.proofs.rows.is_defined.Goals as goal
 
 pub returns-then-has : goal.returns-then-has

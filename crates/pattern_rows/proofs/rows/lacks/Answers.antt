@@ -5,9 +5,8 @@ use mathlib.Core.Path.{◌≡◌, sym, ap, ◌∙◌}
 use native.Mathlib.Omega.{arith}
 use borrow.Author.Tests.{not-true, not-false}
 use Rattle.scope.specs.Judge.{some_missing}
-use Rattle.pattern_rows.specs.Numbers.{OfPage, OfSession, numbers_to, numbers_in}
+use Rattle.pattern_rows.specs.Numbers.{OfPage, OfSession, numbers_in}
 use Rattle.pattern_rows.proofs.Cells.{in_to, missing-here, missing-next, missing-none}
-use borrow.Author.Rules.{rules}
 use Rattle.pattern_rows.proofs.rows.lacks.Goals as goal
 
 pub loop-i-init : goal.loop-i-init

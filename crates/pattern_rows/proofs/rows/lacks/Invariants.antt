@@ -1,12 +1,8 @@
 -- `lacks`: what is left to look at are the first i numbers, and those looked at are defined.
 use Prim.Native.Nat.{◌*◌, ◌<◌}
-use mathlib.Core.Path.{◌≡◌, sym, ap, ◌∙◌}
-use native.Mathlib.Omega.{arith}
-use borrow.Author.Tests.{not-true, not-false}
+use mathlib.Core.Path.{◌≡◌}
 use Rattle.scope.specs.Judge.{some_missing}
 use Rattle.pattern_rows.specs.Numbers.{OfPage, OfSession, numbers_to, numbers_in}
-use Rattle.pattern_rows.proofs.Cells.{in_to, missing-here, missing-next, missing-none}
-use borrow.Author.Rules.{rules}
 use Rattle.pattern_rows.proofs.rows.lacks.Given as goal
 
 abbrev pub invariant-loop-i : goal.invariant-loop-i

@@ -1,7 +1,6 @@
 -- `selecting`: by the test.
 -- Assumes nothing.
 use borrow.Author.Tests.{not-false, eqb-true}
-use borrow.Author.Rules.{rules}
 use Rattle.pattern_rows.proofs.rows.selecting.Goals as goal
 
 pub returns : goal.returns

@@ -3,7 +3,6 @@
 use mathlib.Core.Path.{◌∙◌}
 use Rattle.patterns.proofs.Copies.{rows-others}
 use Rattle.patterns.proofs.Forgets.{rows-too}
-use borrow.Author.Rules.{rules}
 use Rattle.patterns.proofs.known.clear.Goals as goal
 
 pub returns : goal.returns

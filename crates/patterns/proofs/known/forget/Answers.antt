@@ -1,10 +1,10 @@
 -- `forget`: after i turns no call of the first i motifs is known.
 -- Assumes nothing.
-use Prim.Native.Nat.{◌+◌, ◌-◌, ◌≤◌, ◌<◌}
+use Prim.Native.Nat.{◌+◌, ◌-◌, ◌<◌}
 use mathlib.Core.Path.{◌≡◌}
 use lib.ListN.{length}
 use native.Mathlib.Omega.{arith}
-use Rattle.patterns.proofs.Forgets.{Forgotten, forgotten_none, forgotten_more}
+use Rattle.patterns.proofs.Forgets.{forgotten_none, forgotten_more}
 use borrow.Author.Rules.{rules}
 use Rattle.patterns.proofs.known.forget.Goals as goal
 

@@ -1,10 +1,6 @@
 -- `forget`: after i turns no call of the first i motifs is known.
-use Prim.Native.Nat.{◌+◌, ◌-◌, ◌≤◌, ◌<◌}
-use mathlib.Core.Path.{◌≡◌}
-use lib.ListN.{length}
-use native.Mathlib.Omega.{arith}
-use Rattle.patterns.proofs.Forgets.{Forgotten, forgotten_none, forgotten_more}
-use borrow.Author.Rules.{rules}
+use Prim.Native.Nat.{◌-◌, ◌≤◌}
+use Rattle.patterns.proofs.Forgets.{Forgotten}
 use Rattle.patterns.proofs.known.forget.Given as goal
 
 abbrev pub invariant-loop-i : goal.invariant-loop-i

@@ -1,7 +1,6 @@
 -- `is_known_lem`: by the test.
 -- Assumes nothing.
 use borrow.Author.Tests.{not-true, eqb-false}
-use borrow.Author.Rules.{rules}
 use Rattle.patterns.proofs.known.is_known.Goals as goal
 
 pub returns : goal.returns

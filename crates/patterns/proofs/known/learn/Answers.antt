@@ -1,7 +1,6 @@
 -- `learn`: a cell behind the mark is no cell of a row.
 -- Assumes nothing.
 use Rattle.patterns.proofs.Forgets.{known_same, known-other}
-use borrow.Author.Rules.{rules}
 use Rattle.patterns.proofs.known.learn.Goals as goal
 
 pub returns : goal.returns

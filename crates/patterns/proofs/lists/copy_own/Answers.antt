@@ -6,7 +6,7 @@ use lib.ListN.{length, get_or}
 use native.Mathlib.Omega.{arith}
 use Rattle.pattern_rows.specs.Numbers.{OfMotif}
 use Rattle.patterns.proofs.Cells.{in_none}
-use Rattle.patterns.proofs.Copies.{Copied, copied_none, copied_more, rows-others, quiet-cleared, row-marked, others-marked, quiet-marked}
+use Rattle.patterns.proofs.Copies.{copied_none, copied_more, rows-others, quiet-cleared, row-marked, others-marked, quiet-marked}
 use borrow.Author.Rules.{rules}
 use Rattle.patterns.proofs.lists.copy_own.Goals as goal
 

@@ -1,12 +1,6 @@
 -- `copy_own`: a row without numbers, or the first k cells are copied; the mark is no cell of a row.
-use Prim.Native.Nat.{◌+◌, ◌-◌, ◌*◌, ◌≤◌, ◌<◌}
-use mathlib.Core.Path.{◌≡◌, sym, ◌∙◌}
-use lib.ListN.{length, get_or}
-use native.Mathlib.Omega.{arith}
-use Rattle.pattern_rows.specs.Numbers.{OfMotif}
-use Rattle.patterns.proofs.Cells.{in_none}
-use Rattle.patterns.proofs.Copies.{Copied, copied_none, copied_more, rows-others, quiet-cleared, row-marked, others-marked, quiet-marked}
-use borrow.Author.Rules.{rules}
+use Prim.Native.Nat.{◌-◌, ◌*◌, ◌≤◌}
+use Rattle.patterns.proofs.Copies.{Copied}
 use Rattle.patterns.proofs.lists.copy_own.Given as goal
 
 abbrev pub invariant-loop-k : goal.invariant-loop-k

@@ -8,7 +8,6 @@ use native.Mathlib.Omega.{arith}
 use Rattle.scope.specs.Choice.{among}
 use Rattle.pattern_rows.specs.Numbers.{numbers_in}
 use Rattle.patterns.proofs.Cells.{noted-there, noted-full, others-none, more-noted, more-others, more-selecting}
-use borrow.Author.Rules.{rules}
 use Rattle.patterns.proofs.lists.define.Goals as goal
 
 pub returns-then-has : goal.returns-then-has

@@ -1,12 +1,12 @@
 -- `take_own`: a row without numbers, or the first i cells are copied.
 -- Assumes nothing.
-use Prim.Native.Nat.{◌+◌, ◌-◌, ◌≤◌, ◌<◌}
+use Prim.Native.Nat.{◌+◌, ◌-◌, ◌<◌}
 use mathlib.Core.Path.{◌≡◌, sym, ap, ◌∙◌}
 use lib.ListN.{length, get_or}
 use native.Mathlib.Omega.{arith}
 use Rattle.pattern_rows.specs.Numbers.{OfMotif}
 use Rattle.patterns.proofs.Cells.{in_none}
-use Rattle.patterns.proofs.Copies.{Copied, copied_none, copied_more, copied_row, copied_others, copied_selecting}
+use Rattle.patterns.proofs.Copies.{copied_none, copied_more, copied_row, copied_others, copied_selecting}
 use borrow.Author.Rules.{rules}
 use Rattle.patterns.proofs.lists.take_own.Goals as goal
 

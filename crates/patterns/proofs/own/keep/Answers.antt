@@ -4,7 +4,6 @@ use Prim.Native.Nat.{◌<◌}
 use mathlib.Core.Path.{◌∙◌}
 use native.Mathlib.Omega.{arith}
 use Rattle.patterns.proofs.Forgets.{rows-too, quiet-too}
-use borrow.Author.Rules.{rules}
 use Rattle.patterns.proofs.own.keep.Goals as goal
 
 pub returns : goal.returns

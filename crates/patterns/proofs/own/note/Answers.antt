@@ -1,6 +1,5 @@
 -- `note`: one number more in row 0, and no row beside it.
 -- Assumes nothing.
-use borrow.Author.Rules.{rules}
 use Rattle.patterns.proofs.own.note.Goals as goal
 
 pub returns : goal.returns

@@ -1,7 +1,6 @@
 -- `place::opened_in` meets its contract: case by case.
 -- Assumes nothing.
 use Rattle.place.proofs.Standing.{outer-opened, inner-opened}
-use borrow.Author.Rules.{rules}
 use Rattle.place.proofs.place.opened_in.Goals as goal
 
 pub returns-in-Outside : goal.returns-in-Outside

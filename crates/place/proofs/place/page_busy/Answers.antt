@@ -1,7 +1,6 @@
 -- `place::page_busy` meets its contract: case by case.
 -- Assumes nothing.
 use Rattle.place.proofs.Standing.{rest-page, stream_page, drawn-page}
-use borrow.Author.Rules.{rules}
 use Rattle.place.proofs.place.page_busy.Goals as goal
 
 pub returns-in-Resting : goal.returns-in-Resting

@@ -1,7 +1,6 @@
 -- `place::page_in` meets its contract: case by case.
 -- Assumes nothing.
 use Rattle.place.proofs.Standing.{outer-page, inner-page}
-use borrow.Author.Rules.{rules}
 use Rattle.place.proofs.place.page_in.Goals as goal
 
 pub returns-in-Outside : goal.returns-in-Outside

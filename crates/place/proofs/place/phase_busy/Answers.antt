@@ -1,7 +1,6 @@
 -- `place::phase_busy` meets its contract: case by case.
 -- Assumes nothing.
 use Rattle.place.proofs.Standing.{rest-phase, stream_phase}
-use borrow.Author.Rules.{rules}
 use Rattle.place.proofs.place.phase_busy.Goals as goal
 
 pub returns-in-Resting : goal.returns-in-Resting

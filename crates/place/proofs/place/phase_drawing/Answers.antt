@@ -1,7 +1,6 @@
 -- `place::phase_drawing` meets its contract: case by case.
 -- Assumes nothing.
 use Rattle.place.proofs.Standing.{page-phase, image-phase, pattern-phase}
-use borrow.Author.Rules.{rules}
 use Rattle.place.proofs.place.phase_drawing.Goals as goal
 
 pub returns-in-Nothing : goal.returns-in-Nothing

@@ -1,7 +1,6 @@
 -- `place::phase_of` meets its contract: case by case.
 -- Assumes nothing.
 use Rattle.place.proofs.Standing.{outer-phase, inner-phase}
-use borrow.Author.Rules.{rules}
 use Rattle.place.proofs.place.phase_of.Goals as goal
 
 pub returns-in-Outside : goal.returns-in-Outside

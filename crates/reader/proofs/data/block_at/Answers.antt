@@ -2,7 +2,6 @@
 -- Assumes nothing.
 use borrow.Author.Tests.{le-leb, lt-leb, eq-eqb, ne_eqb}
 use Rattle.scope.specs.Data.{block_at}
-use borrow.Author.Rules.{rules}
 use Rattle.reader.proofs.data.block_at.Goals as goal
 
 pub returns-then-s-p : goal.returns-then-s-p

@@ -5,7 +5,6 @@ use mathlib.Core.Path.{◌≡◌, sym, ap, ◌∙◌}
 use Prim.Native.Nat.{◌+◌}
 use Rattle.scope.specs.Number.{number}
 use Rattle.reader.proofs.Blocks.{cut, other, short, there}
-use borrow.Author.Rules.{rules}
 use Rattle.reader.proofs.data.block_of.Goals.{After-number_at-told}
 use Rattle.reader.proofs.data.block_of.Goals as goal
 

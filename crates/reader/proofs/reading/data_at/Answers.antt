@@ -8,7 +8,6 @@ use native.Mathlib.Omega.{arith}
 use Rattle.scope.proofs.Ends.{after-le}
 use Rattle.reader.specs.Reads.{data_at}
 use Rattle.reader.proofs.Blocks.{placed-from}
-use borrow.Author.Rules.{rules}
 use Rattle.reader.proofs.reading.data_at.Goals as goal
 
 pub returns-then-lacks : goal.returns-then-lacks

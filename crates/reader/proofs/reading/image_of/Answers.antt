@@ -1,6 +1,5 @@
 -- `image_of` meets its contract.
 -- Assumes nothing.
-use borrow.Author.Rules.{rules}
 use Rattle.reader.proofs.reading.image_of.Goals as goal
 
 pub returns-in-BetweenSessions : goal.returns-in-BetweenSessions

@@ -7,7 +7,6 @@ use Rattle.setting.specs.Views.{class_as}
 use Rattle.table.specs.Lines.{is_line}
 use Rattle.rules.proofs.Briefs.{line_known}
 use Rattle.reader.specs.Reads.{line_at}
-use borrow.Author.Rules.{rules}
 use Rattle.reader.proofs.reading.line_at.Goals.{After-is_known}
 use Rattle.reader.proofs.reading.line_at.Goals as goal
 

@@ -24,7 +24,6 @@ use Rattle.reader.specs.Reads.{found_as, context_as}
 use Rattle.due.specs.declared.due.Due.{Due}
 use Rattle.reader.specs.declared.data.Found.{Found}
 use Rattle.reader.proofs.Lines.{after_line, line_after, rows-after, data_after}
-use borrow.Author.Rules.{rules}
 use Rattle.reader.proofs.reading.operator_at.Goals.{After-data_at, After-due_of, After-line_at, After-rows_fit, After-scan_at, In-At, In-Tagged}
 use Rattle.reader.proofs.reading.operator_at.Goals as goal
 

@@ -6,7 +6,6 @@ use native.Mathlib.Omega.{arith}
 use lib.ListN.{length}
 use Rattle.number.specs.Widths.{bytes_of}
 use Rattle.number.proofs.Digits.{past}
-use borrow.Author.Rules.{rules}
 use Rattle.reals.proofs.reading.behind.Goals as goal
 
 pub returns-then-s-first : goal.returns-then-s-first

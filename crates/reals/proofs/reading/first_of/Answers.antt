@@ -2,7 +2,6 @@
 -- Assumes nothing.
 use borrow.Author.Tests.{eq-eqb, ne_eqb}
 use native.Mathlib.Omega.{arith}
-use borrow.Author.Rules.{rules}
 use Rattle.reals.proofs.reading.first_of.Goals as goal
 
 pub returns-then-tag-eq192 : goal.returns-then-tag-eq192

@@ -1,7 +1,6 @@
 -- `long_at`: a number of four bytes, or as `first_of`.
 -- Assumes nothing.
 use borrow.Author.Tests.{eq-eqb, ne_eqb}
-use borrow.Author.Rules.{rules}
 use Rattle.reals.proofs.reading.long_at.Goals as goal
 
 pub returns-then-tag-eq194 : goal.returns-then-tag-eq194

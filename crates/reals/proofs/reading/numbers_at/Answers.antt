@@ -3,7 +3,6 @@
 use borrow.Author.Tests.{eq-eqb, ne_eqb}
 use Rattle.scope.specs.Attributes.{two_at}
 use Rattle.reals.specs.Reals.{reads_whole}
-use borrow.Author.Rules.{rules}
 use Rattle.reals.proofs.reading.numbers_at.Goals as goal
 
 pub returns-then-tag-eq213 : goal.returns-then-tag-eq213

@@ -8,7 +8,6 @@ use borrow.Author.Tests.{not-true, not-false}
 use Rattle.scope.specs.Attributes.{finite}
 use Rattle.reals.specs.Reals.{reads_real, reads_neither}
 use Rattle.reals.proofs.Halves.{not-nan_bits, not-nan, bits_back}
-use borrow.Author.Rules.{rules}
 use Rattle.reals.proofs.reading.reals_of.Goals.{Else-not-is_finite, Else-not-is_finite-2}
 use Rattle.reals.proofs.reading.reals_of.Goals as goal
 

@@ -2,7 +2,6 @@
 -- Assumes nothing.
 use lib.Dec.{lit<}
 use Rattle.reals.proofs.Halves.{whole-whole, whole-real, whole-neither}
-use borrow.Author.Rules.{rules}
 use Rattle.reals.proofs.reading.whole.Goals as goal
 
 pub returns-in-Whole : goal.returns-in-Whole

@@ -1,6 +1,5 @@
 -- No row behind those in use is looked at; each turn brings the end one nearer.
 use Prim.Native.Nat.{◌≤◌, ◌-◌}
-use borrow.Author.Rules.{rules}
 use Rattle.rings.proofs.near.nearest.Given as goal
 
 abbrev pub invariant-loop-row : goal.invariant-loop-row

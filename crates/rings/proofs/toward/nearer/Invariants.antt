@@ -1,6 +1,5 @@
 -- No row behind those in use is looked at; each turn brings the end one nearer.
 use Prim.Native.Nat.{◌≤◌, ◌-◌}
-use borrow.Author.Rules.{rules}
 use Rattle.rings.proofs.toward.nearer.Given as goal
 
 abbrev pub invariant-loop-y : goal.invariant-loop-y

@@ -1,6 +1,5 @@
 -- No row behind those in use is marked; each turn brings the end one nearer.
 use Prim.Native.Nat.{◌≤◌, ◌-◌}
-use borrow.Author.Rules.{rules}
 use Rattle.rings.proofs.toward.round.Given as goal
 
 abbrev pub invariant-loop-x : goal.invariant-loop-x

@@ -1,6 +1,5 @@
 -- There are 32 rounds; each turn brings the end one nearer.
 use Prim.Native.Nat.{◌≤◌, ◌-◌}
-use borrow.Author.Rules.{rules}
 use Rattle.rings.proofs.toward.rounds.Given as goal
 
 abbrev pub invariant-loop-t : goal.invariant-loop-t

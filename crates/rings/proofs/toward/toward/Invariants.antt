@@ -1,6 +1,5 @@
 -- No number behind the 64 is set; each turn brings the end one nearer.
 use Prim.Native.Nat.{◌≤◌, ◌-◌}
-use borrow.Author.Rules.{rules}
 use Rattle.rings.proofs.toward.toward.Given as goal
 
 abbrev pub invariant-loop-x : goal.invariant-loop-x

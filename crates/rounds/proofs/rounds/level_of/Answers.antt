@@ -1,6 +1,6 @@
 -- `level_of`: up to this round the motif has no level; the first that it gets stays.
 -- Assumes nothing.
-use Prim.Native.Nat.{suc, ◌+◌, ◌-◌, ◌≤◌, ◌<◌}
+use Prim.Native.Nat.{suc, ◌+◌, ◌-◌, ◌<◌}
 use mathlib.Core.Path.{◌≡◌, refl, sym, ap, ◌∙◌}
 use mathlib.Core.Bool.{false}
 use mathlib.Core.List.{List}
@@ -13,7 +13,6 @@ use Rattle.motif.specs.Held.{Keeps, InRow, level_in}
 use Rattle.motif.specs.Tables.{calls_row, Noted, level_of}
 use Rattle.rounds.specs.Rounds.{next_of, LevelsBut}
 use Rattle.rounds.proofs.Rounded.{next-alone, level-stays}
-use borrow.Author.Rules.{rules}
 use Rattle.rounds.proofs.rounds.level_of.Goals.{After-next-level}
 use Rattle.rounds.proofs.rounds.level_of.Goals as goal
 

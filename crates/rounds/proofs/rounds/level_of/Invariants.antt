@@ -1,18 +1,12 @@
 -- `level_of`: up to this round the motif has no level; the first that it gets stays.
-use Prim.Native.Nat.{suc, ◌+◌, ◌-◌, ◌≤◌, ◌<◌}
-use mathlib.Core.Path.{◌≡◌, refl, sym, ap, ◌∙◌}
+use Prim.Native.Nat.{◌-◌, ◌≤◌, ◌<◌}
+use mathlib.Core.Path.{◌≡◌}
 use mathlib.Core.Bool.{false}
 use mathlib.Core.List.{List}
-use native.Mathlib.Omega.{arith}
-use lib.Dec.{eqb}
-use borrow.Author.Tests.{ne_eqb}
 use Rattle.scope.specs.Motif.{Motif}
-use Rattle.motif.specs.Search.{few}
 use Rattle.motif.specs.Held.{Keeps, InRow, level_in}
 use Rattle.motif.specs.Tables.{calls_row, Noted, level_of}
-use Rattle.rounds.specs.Rounds.{next_of, LevelsBut}
-use Rattle.rounds.proofs.Rounded.{next-alone, level-stays}
-use borrow.Author.Rules.{rules}
+use Rattle.rounds.specs.Rounds.{LevelsBut}
 use Rattle.rounds.proofs.rounds.level_of.Given as goal
 
 abbrev pub invariant-loop-t : goal.invariant-loop-t

@@ -2,7 +2,6 @@
 -- Assumes nothing.
 use borrow.Author.Tests.{le-leb, lt-leb, eq-eqb, ne_eqb}
 use Rattle.rounds.specs.Rounds.{next_of}
-use borrow.Author.Rules.{rules}
 use Rattle.rounds.proofs.rounds.next.Goals as goal
 
 pub returns-then-i-ge-MOTIFS_MOST : goal.returns-then-i-ge-MOTIFS_MOST
@@ -20,21 +19,21 @@ returns-then-motifs-i-ne0 c = rw (lt-leb _ _ c.if-i-ge-MOTIFS_MOST.false, eq-eqb
 pub returns-then-ready : goal.returns-then-ready
 unfolding next_of
 returns-then-ready c = rw (
-      lt-leb _ _ c.if-i-ge-MOTIFS_MOST.false,
-      eq-eqb _ _ c.if-level-ne0.false,
-      eq-eqb _ _ c.if-motifs-i-ne0.false,
-      ← c.in_use-n.ensures.value,
-      ← c.ready.ensures,
-      c.if-ready.true,
-    )
+  lt-leb _ _ c.if-i-ge-MOTIFS_MOST.false,
+  eq-eqb _ _ c.if-level-ne0.false,
+  eq-eqb _ _ c.if-motifs-i-ne0.false,
+  ← c.in_use-n.ensures.value,
+  ← c.ready.ensures,
+  c.if-ready.true,
+)
 
 pub returns-else-ready : goal.returns-else-ready
 unfolding next_of
 returns-else-ready c = rw (
-      lt-leb _ _ c.if-i-ge-MOTIFS_MOST.false,
-      eq-eqb _ _ c.if-level-ne0.false,
-      eq-eqb _ _ c.if-motifs-i-ne0.false,
-      ← c.in_use-n.ensures.value,
-      ← c.ready.ensures,
-      c.if-ready.false,
-    )
+  lt-leb _ _ c.if-i-ge-MOTIFS_MOST.false,
+  eq-eqb _ _ c.if-level-ne0.false,
+  eq-eqb _ _ c.if-motifs-i-ne0.false,
+  ← c.in_use-n.ensures.value,
+  ← c.ready.ensures,
+  c.if-ready.false,
+)

@@ -1,6 +1,6 @@
 -- `ready`: down the rows; what is left to test decides.
 -- Assumes nothing.
-use Prim.Native.Nat.{◌≤◌, ◌<◌, ◌-◌}
+use Prim.Native.Nat.{◌<◌, ◌-◌}
 use mathlib.Core.Path.{◌≡◌, refl, sym, ◌∙◌}
 use mathlib.Core.Bool.{true, false}
 use native.Mathlib.Omega.{arith}
@@ -9,7 +9,6 @@ use Rattle.key.specs.Mark.{mark}
 use Rattle.motif.specs.Held.{level_in, calls_in}
 use Rattle.rounds.specs.Rounds.{earlier_of, ready_of}
 use Rattle.rounds.proofs.Rounded.{ready_down}
-use borrow.Author.Rules.{rules}
 use Rattle.rounds.proofs.rounds.ready.Goals.{After-earlier}
 use Rattle.rounds.proofs.rounds.ready.Goals as goal
 

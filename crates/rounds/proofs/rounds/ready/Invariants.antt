@@ -1,14 +1,7 @@
 -- `ready`: down the rows; what is left to test decides.
-use Prim.Native.Nat.{◌≤◌, ◌<◌, ◌-◌}
-use mathlib.Core.Path.{◌≡◌, refl, sym, ◌∙◌}
-use mathlib.Core.Bool.{true, false}
-use native.Mathlib.Omega.{arith}
-use borrow.Author.Tests.{not-true, not-false}
-use Rattle.key.specs.Mark.{mark}
-use Rattle.motif.specs.Held.{level_in, calls_in}
-use Rattle.rounds.specs.Rounds.{earlier_of, ready_of}
-use Rattle.rounds.proofs.Rounded.{ready_down}
-use borrow.Author.Rules.{rules}
+use Prim.Native.Nat.{◌≤◌, ◌-◌}
+use mathlib.Core.Path.{◌≡◌}
+use Rattle.rounds.specs.Rounds.{ready_of}
 use Rattle.rounds.proofs.rounds.ready.Given as goal
 
 abbrev pub invariant-loop-j : goal.invariant-loop-j

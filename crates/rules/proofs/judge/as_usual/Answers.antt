@@ -3,7 +3,6 @@
 use mathlib.Core.Path.{sym, ◌∙◌}
 use borrow.Author.Tests.{eq-eqb, ne_eqb}
 use Rattle.rules.proofs.Faults.{usual_one, usual_two, usual_not}
-use borrow.Author.Rules.{rules}
 use Rattle.rules.proofs.judge.as_usual.Goals as goal
 
 pub returns-then-n-eq1 : goal.returns-then-n-eq1

@@ -11,7 +11,6 @@ use Rattle.table.specs.Lines.{up_to_no, takes_of, rule_of}
 use Rattle.values.specs.Views.{attribute_as}
 use Rattle.rules.proofs.Numbered.{listed-none, listed-is}
 use Rattle.rules.proofs.Faults.{code-11, code-12, code-15, code-16}
-use borrow.Author.Rules.{rules}
 use Rattle.rules.proofs.judge.attribute_code.Goals.{Else-number-eq-NO}
 use Rattle.rules.proofs.judge.attribute_code.Goals as goal
 

@@ -3,7 +3,6 @@
 use mathlib.Core.Path.{sym, ◌∙◌}
 use Rattle.items.specs.Rows.{rows_of}
 use Rattle.rules.proofs.Faults.{usual_fine}
-use borrow.Author.Rules.{rules}
 use Rattle.rules.proofs.judge.line_code.Goals as goal
 
 pub returns-then-as_usual : goal.returns-then-as_usual

@@ -1,16 +1,13 @@
 -- `rules::judge::one_by_one` meets its contract: the loop goes attribute by attribute.
 use Prim.Native.Nat.{◌-◌, ◌≤◌}
-use mathlib.Core.Path.{◌≡◌, sym, ap, ◌∙◌}
+use mathlib.Core.Path.{◌≡◌}
 use mathlib.Core.List.{List, []}
-use native.Mathlib.Omega.{arith}
 use lib.ListN.{length}
-use borrow.Author.Tests.{eq-eqb, ne_eqb}
 use Rattle.scope.specs.Table.{Rule}
-use Rattle.scope.specs.Attributes.{one_by_one, attribute_code}
-use Rattle.items.specs.Rows.{row_at, rows_from, rows_of, Sized}
+use Rattle.scope.specs.Attributes.{one_by_one}
+use Rattle.items.specs.Rows.{rows_from, rows_of}
 use Rattle.setting.specs.Views.{class_as}
 use Rattle.rules.specs.Judging.{Stands}
-use Rattle.rules.proofs.Faults.{stands-ruled, one_more, one_end}
 use borrow.Author.Rules.{rules}
 use Rattle.rules.proofs.judge.one_by_one.Given as goal
 

@@ -1,15 +1,9 @@
 -- `rules::line::all_there` meets its contract: the loop goes number by number.
-use Prim.Native.Nat.{◌+◌, ◌-◌, ◌≤◌}
-use mathlib.Core.Path.{◌≡◌, sym, ◌∙◌}
-use mathlib.Core.Bool.{Bool, true, false}
-use native.Mathlib.Omega.{arith}
-use lib.ListN.{length, take, drop}
-use borrow.Author.Tests.{not-true, not-false}
-use Rattle.scope.specs.Choice.{pick}
+use Prim.Native.Nat.{◌-◌, ◌≤◌}
+use mathlib.Core.Path.{◌≡◌}
+use lib.ListN.{take, drop}
 use Rattle.items.specs.Rows.{rows_of, Sized}
 use Rattle.rules.specs.Judging.{all_in}
-use Rattle.rules.proofs.Numbered.{all-step, all_end}
-use borrow.Author.Rules.{rules}
 use Rattle.rules.proofs.line.all_there.Given as goal
 
 abbrev pub invariant-loop-i : goal.invariant-loop-i

@@ -1,10 +1,10 @@
 -- `rules::line::how_many` meets its contract: the loop goes number by number.
 -- Assumes nothing.
-use Prim.Native.Nat.{◌+◌, ◌-◌, ◌≤◌}
+use Prim.Native.Nat.{◌+◌, ◌-◌}
 use mathlib.Core.Path.{◌≡◌, sym, ap, ◌∙◌}
 use native.Mathlib.Omega.{arith}
 use lib.ListN.{length, drop}
-use Rattle.items.specs.Rows.{rows_of, Sized}
+use Rattle.items.specs.Rows.{rows_of}
 use Rattle.table.specs.Lines.{up_to_no}
 use native.Mathlib.Nat.{add-zero, zero-add}
 use Rattle.scope.specs.Choice.{pick}

@@ -1,15 +1,10 @@
 -- `rules::line::how_many` meets its contract: the loop goes number by number.
 use Prim.Native.Nat.{◌+◌, ◌-◌, ◌≤◌}
-use mathlib.Core.Path.{◌≡◌, sym, ap, ◌∙◌}
-use native.Mathlib.Omega.{arith}
-use lib.ListN.{length, drop}
+use mathlib.Core.Path.{◌≡◌}
+use lib.ListN.{drop}
 use Rattle.items.specs.Rows.{rows_of, Sized}
 use Rattle.table.specs.Lines.{up_to_no}
-use native.Mathlib.Nat.{add-zero, zero-add}
-use Rattle.scope.specs.Choice.{pick}
 use Rattle.rules.specs.Judging.{many_in}
-use Rattle.rules.proofs.Numbered.{numbers-no, numbers-end, many-step, many-on}
-use borrow.Author.Rules.{rules}
 use Rattle.rules.proofs.line.how_many.Given as goal
 
 abbrev pub invariant-loop-i : goal.invariant-loop-i

@@ -1,14 +1,9 @@
 -- `rules::line::listed` meets its contract: the loop goes number by number, up to the one that is equal.
 use Prim.Native.Nat.{◌-◌, ◌≤◌}
-use mathlib.Core.Path.{◌≡◌, sym, ap, ◌∙◌}
-use mathlib.Core.Bool.{true, false}
-use native.Mathlib.Omega.{arith}
-use lib.ListN.{length, drop}
-use borrow.Author.Tests.{eq-eqb, ne_eqb}
+use mathlib.Core.Path.{◌≡◌}
+use lib.ListN.{drop}
 use Rattle.scope.specs.Choice.{among}
 use Rattle.table.specs.Lines.{up_to_no}
-use Rattle.rules.proofs.Numbered.{numbers-no, numbers-end, among-step}
-use borrow.Author.Rules.{rules}
 use Rattle.rules.proofs.line.listed.Given as goal
 
 abbrev pub invariant-loop-i : goal.invariant-loop-i

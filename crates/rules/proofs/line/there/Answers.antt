@@ -2,7 +2,6 @@
 -- Assumes nothing.
 use mathlib.Core.Path.{sym}
 use Rattle.attributes.proofs.Rowed.{row-there}
-use borrow.Author.Rules.{rules}
 use Rattle.rules.proofs.line.there.Goals as goal
 
 pub returns-then-attrs-i : goal.returns-then-attrs-i

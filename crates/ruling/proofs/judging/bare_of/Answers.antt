@@ -2,7 +2,6 @@
 -- Assumes nothing.
 use Rattle.scope.specs.Judge.{some_missing}
 use Rattle.ruling.proofs.Selecting.{one-missing}
-use borrow.Author.Rules.{rules}
 use Rattle.ruling.proofs.judging.bare_of.Goals as goal
 
 pub returns-in-Nothing : goal.returns-in-Nothing

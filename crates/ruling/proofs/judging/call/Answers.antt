@@ -3,7 +3,6 @@
 use mathlib.Core.Path.{refl}
 use Rattle.scope.specs.Session.{session_of}
 use Rattle.ruling.proofs.Ruling.{call-judged}
-use borrow.Author.Rules.{rules}
 use Rattle.ruling.proofs.judging.call.Goals as goal
 
 pub returns : goal.returns

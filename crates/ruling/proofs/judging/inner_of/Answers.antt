@@ -6,7 +6,6 @@ use native.Mathlib.Omega.{arith}
 use Rattle.scope.specs.Judge.{Case}
 use Rattle.early.specs.Earlier.{Earlies, early_no}
 use Rattle.early.specs.declared.early.Early.TheVariants.{No}
-use borrow.Author.Rules.{rules}
 use Rattle.ruling.proofs.judging.inner_of.Goals as goal
 
 fits : {t p : List ℕ} {c : Case} {code inner : ℕ} → Earlies t p c (No code inner) → inner < 4_294_967_296

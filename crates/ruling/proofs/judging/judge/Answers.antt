@@ -21,7 +21,6 @@ use Rattle.early.specs.declared.early.Early.TheVariants as early_is
 use Rattle.early.specs.contracts.early.Early.{the_type}
 use Rattle.ruling.specs.Judged.{Judgement, inner_of}
 use Rattle.ruling.proofs.Ruling.{early-judged, fine-call, held-no_call}
-use borrow.Author.Rules.{rules}
 use Rattle.ruling.proofs.judging.judge.Goals as goal
 
 pub returns-in-No : goal.returns-in-No

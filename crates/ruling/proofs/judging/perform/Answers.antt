@@ -10,7 +10,6 @@ use Rattle.scope.specs.Session.{session_of}
 use Rattle.act.proofs.Operators.{act-is, plain-keeps}
 use Rattle.ruling.proofs.Ruling.{plain-judged}
 use Rattle.ruling.proofs.Selecting.{selects-none, bare-is}
-use borrow.Author.Rules.{rules}
 use Rattle.ruling.proofs.judging.perform.Goals as goal
 
 pub returns-then-is_plain : goal.returns-then-is_plain

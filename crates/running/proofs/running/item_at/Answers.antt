@@ -7,7 +7,6 @@ use native.Mathlib.Omega.{arith}
 use borrow.Author.Tests.{le-leb, lt-leb, ne_eqb}
 use Rattle.scope.specs.Item.{white}
 use Rattle.white.proofs.Spaces.{after-black}
-use borrow.Author.Rules.{rules}
 use Rattle.running.proofs.running.item_at.Goals as goal
 
 black : (b : ℕ) → 0x41 ≤ b → white b ≡ false

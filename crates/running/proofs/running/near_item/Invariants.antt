@@ -1,12 +1,8 @@
 -- The invariant: the first place that is not white is the same from p on as from the start.
 use Prim.Native.Nat.{◌-◌}
-use mathlib.Core.Path.{◌≡◌, refl, sym, ◌∙◌}
-use native.Mathlib.Omega.{arith}
-use borrow.Author.Tests.{not-true, not-false}
+use mathlib.Core.Path.{◌≡◌}
 use lib.ListN.{length}
 use Rattle.scope.specs.Item.{after}
-use Rattle.white.proofs.Spaces.{after-white, after-black}
-use borrow.Author.Rules.{rules}
 use Rattle.running.proofs.running.near_item.Given as goal
 
 abbrev pub invariant-loop-p : goal.invariant-loop-p

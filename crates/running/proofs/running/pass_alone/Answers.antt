@@ -9,7 +9,6 @@ use borrow.Author.Tests.{leb-true, not-true, not-false}
 use lib.ListN.{length}
 use Rattle.scope.proofs.Ends.{after-le}
 use Rattle.running.proofs.Runs.{runs_none, runs-still, one-alone}
-use borrow.Author.Rules.{rules}
 use Rattle.running.proofs.running.pass_alone.Goals.{Else-not-list_alone}
 use Rattle.running.proofs.running.pass_alone.Goals as goal
 
@@ -32,7 +31,9 @@ returns-in-No c = record { further = tt; runs = λ high opened kept. runs_none }
 pub returns-else-not-list_alone : goal.returns-else-not-list_alone
 returns-else-not-list_alone c = let a = c.args in
     let w = after-le true a.job.now a.from.at in
-    let f : c.list_alone.result ≡ true = not-false _ c.if-not-list_alone.false-raw in record { further = (omega arith, omega arith); runs = λ high opened kept.
+    let f : c.list_alone.result ≡ true = not-false _ c.if-not-list_alone.false-raw in record {
+      further = (omega arith, omega arith);
+      runs = λ high opened kept.
           record {
             long = omega arith;
             on = omega arith;
@@ -41,4 +42,5 @@ returns-else-not-list_alone c = let a = c.args in
             leads = λ list₀ table patterns work set d order e h.
                 one-alone a.job.now list₀ table patterns work a.list.now c.list_alone.new.list set opened kept a.from a.at c.in-To.next _ c.requires.0 (omega arith) refl (omega arith) e
                 (sym f ∙ c.list_alone.ensures.value) (rw f at c.list_alone.ensures.list_after) (rw c.in-To.is at c.past.ensures) d h;
-          } }
+          };
+    }

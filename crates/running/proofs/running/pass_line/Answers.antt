@@ -10,7 +10,6 @@ use lib.ListN.{length}
 use Rattle.end_point.specs.EndPoint.{Line}
 use Rattle.scope.proofs.Ends.{after-le}
 use Rattle.running.proofs.Runs.{runs-still, one_line}
-use borrow.Author.Rules.{rules}
 use Rattle.running.proofs.running.pass_line.Goals.{Else-not-list_one, In-At}
 use Rattle.running.proofs.running.pass_line.Goals as goal
 
@@ -55,7 +54,9 @@ overflow_add-result-3 c = let h = room (goal.at.overflow_add-result-3 c).Else-no
 pub returns : goal.returns
 returns c = let a = c.args in
     let f : c.list_one.result ≡ true = not-false _ c.if-not-list_one.false-raw in
-    let w = within (goal.at.returns c).In-At in record { further = (omega arith, omega arith); runs = λ opened kept.
+    let w = within (goal.at.returns c).In-At in record {
+      further = (omega arith, omega arith);
+      runs = λ opened kept.
           record {
             long = omega arith;
             on = omega arith;
@@ -64,4 +65,5 @@ returns c = let a = c.args in
             leads = λ list₀ table patterns work set d order e h.
                 one_line a.job.now list₀ table patterns work a.list.now c.list_one.new.list set opened kept a.from a.at c.in-At.op c.requires.0 (rw (sym order) at (found (goal.at.returns c).In-At)) (omega arith)
                 (not-false _ c.if-not-page.false) e (sym f ∙ c.list_one.ensures.value) (rw f at c.list_one.ensures.list_after) d h;
-          } }
+          };
+    }

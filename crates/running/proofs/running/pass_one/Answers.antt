@@ -1,6 +1,5 @@
 -- `pass_one`: the end, the limit, white space up to the end, an operator, or a line; an operator that is its tag alone is the same in either byte order.
 -- Assumes nothing.
-use borrow.Author.Rules.{rules}
 use Rattle.running.proofs.running.pass_one.Goals as goal
 
 pub pass_alone-requires : goal.pass_alone-requires

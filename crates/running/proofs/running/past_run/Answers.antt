@@ -3,7 +3,6 @@
 use mathlib.Core.Path.{◌≡◌, subst⁻¹}
 use Rattle.running.specs.Running.{in_session, Runs}
 use Rattle.state.specs.declared.state.State.{State}
-use borrow.Author.Rules.{rules}
 use Rattle.running.proofs.running.past_run.Goals as goal
 
 pub returns : goal.returns

@@ -2,13 +2,9 @@
 -- Assumes nothing.
 use Prim.Native.Nat.{◌-◌}
 use mathlib.Core.Path.{◌∙◌}
-use mathlib.Core.Bool.{Bool, true}
+use mathlib.Core.Bool.{true}
 use native.Mathlib.Omega.{arith}
-use lib.ListN.{length}
-use Rattle.motif.specs.declared.kept.Kept.{Kept}
-use Rattle.running.specs.Running.{Runs, in_session}
 use Rattle.running.proofs.Runs.{runs_none, runs_then}
-use borrow.Author.Rules.{rules}
 use Rattle.running.proofs.running.run_from.Goals as goal
 
 pub loop-on-init : goal.loop-on-init

@@ -1,13 +1,9 @@
 -- The invariant: it is a run from where it began.
 use Prim.Native.Nat.{◌-◌}
-use mathlib.Core.Path.{◌∙◌}
-use mathlib.Core.Bool.{Bool, true}
-use native.Mathlib.Omega.{arith}
+use mathlib.Core.Bool.{Bool}
 use lib.ListN.{length}
 use Rattle.motif.specs.declared.kept.Kept.{Kept}
 use Rattle.running.specs.Running.{Runs, in_session}
-use Rattle.running.proofs.Runs.{runs_none, runs_then}
-use borrow.Author.Rules.{rules}
 use Rattle.running.proofs.running.run_from.Given as goal
 
 abbrev pub invariant-loop-on : goal.invariant-loop-on

@@ -1,7 +1,6 @@
 -- `run_on`: elsewhere the run stands still.
 -- Assumes nothing.
 use Rattle.running.proofs.Runs.{runs_none}
-use borrow.Author.Rules.{rules}
 use Rattle.running.proofs.running.run_on.Goals as goal
 
 pub returns-then-not-may_start : goal.returns-then-not-may_start

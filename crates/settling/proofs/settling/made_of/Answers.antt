@@ -1,7 +1,6 @@
 -- `made_of`: by the judgement.
 -- Assumes nothing.
 use Rattle.settling.proofs.Reading.{valid-makes, faulty-none}
-use borrow.Author.Rules.{rules}
 use Rattle.settling.proofs.settling.made_of.Goals as goal
 
 pub returns-in-Valid : goal.returns-in-Valid

@@ -1,16 +1,9 @@
 -- `note_all`: row after row.
 -- Assumes nothing.
-use Prim.Native.Nat.{◌-◌, ◌≤◌}
+use Prim.Native.Nat.{◌-◌}
 use mathlib.Core.Path.{◌≡◌, refl, ◌∙◌}
-use mathlib.Core.List.{List}
 use native.Mathlib.Omega.{arith}
-use lib.ListN.{length}
-use Rattle.setting.specs.Views.{setting_as}
-use Rattle.scope.specs.Motif.{Motif}
-use Rattle.motif.specs.Held.{Keeps}
-use Rattle.settling.specs.Making.{InStore, NotedTo}
 use Rattle.settling.proofs.Noting.{noted-none}
-use borrow.Author.Rules.{rules}
 use Rattle.settling.proofs.settling.note_all.Goals as goal
 
 pub loop-i-init : goal.loop-i-init

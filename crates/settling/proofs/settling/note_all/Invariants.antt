@@ -1,15 +1,12 @@
 -- `note_all`: row after row.
 use Prim.Native.Nat.{◌-◌, ◌≤◌}
-use mathlib.Core.Path.{◌≡◌, refl, ◌∙◌}
+use mathlib.Core.Path.{◌≡◌}
 use mathlib.Core.List.{List}
-use native.Mathlib.Omega.{arith}
 use lib.ListN.{length}
 use Rattle.setting.specs.Views.{setting_as}
 use Rattle.scope.specs.Motif.{Motif}
 use Rattle.motif.specs.Held.{Keeps}
 use Rattle.settling.specs.Making.{InStore, NotedTo}
-use Rattle.settling.proofs.Noting.{noted-none}
-use borrow.Author.Rules.{rules}
 use Rattle.settling.proofs.settling.note_all.Given as goal
 
 abbrev pub invariant-loop-i : goal.invariant-loop-i

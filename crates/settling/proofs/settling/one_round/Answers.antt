@@ -1,17 +1,11 @@
 -- `one_round`: the motifs before i have had their turn.
 -- Assumes nothing.
-use Prim.Native.Nat.{ℕ, suc, ◌-◌, ◌≤◌, ◌<◌}
+use Prim.Native.Nat.{◌-◌, ◌<◌}
 use mathlib.Core.Path.{◌≡◌, refl, ap, ◌∙◌}
-use mathlib.Core.List.{List}
 use native.Mathlib.Omega.{arith}
-use lib.ListN.{length}
-use Rattle.setting.specs.Views.{setting_as}
-use Rattle.scope.specs.Motif.{Motif}
 use Rattle.motif.specs.Search.{few}
 use Rattle.rounds.specs.Rounds.{next_of}
-use Rattle.settling.specs.Making.{InStore, Rounded, Turned}
 use Rattle.settling.proofs.Turning.{turned-length, turned_none, turned_more, turned-all}
-use borrow.Author.Rules.{rules}
 use Rattle.settling.proofs.settling.one_round.Goals as goal
 
 pub loop-i-init : goal.loop-i-init

@@ -5,7 +5,6 @@ use mathlib.Core.Path.{◌≡◌}
 use native.Mathlib.Omega.{arith}
 use Rattle.motif.specs.Held.{start_in, long_in}
 use Rattle.settling.proofs.Reading.{lies_within, reads-valid}
-use borrow.Author.Rules.{rules}
 use Rattle.settling.proofs.settling.read.Goals as goal
 
 pub returns-then-work-start : goal.returns-then-work-start

@@ -1,16 +1,12 @@
 -- `remake`: after t - 1 rounds.
 -- Assumes nothing.
-use Prim.Native.Nat.{suc, ◌+◌, ◌-◌, ◌≤◌, ◌<◌}
+use Prim.Native.Nat.{suc, ◌+◌, ◌-◌, ◌<◌}
 use mathlib.Core.Path.{◌≡◌, refl, ◌∙◌}
-use mathlib.Core.List.{List}
 use native.Mathlib.Omega.{arith}
-use lib.ListN.{length}
 use Rattle.setting.specs.Views.{setting_as}
-use Rattle.scope.specs.Motif.{Motif}
-use Rattle.settling.specs.Making.{InStore, Rounded}
+use Rattle.settling.specs.Making.{InStore}
 use Rattle.settling.proofs.Noting.{noted-all}
 use Rattle.settling.proofs.Turning.{made}
-use borrow.Author.Rules.{rules}
 use Rattle.settling.proofs.settling.remake.Goals as goal
 
 pub loop-t-init : goal.loop-t-init
@@ -28,8 +24,11 @@ returns c = let l = c.loop-t in
     let v = c.note_all in
     let u = c.in_use-n in
     let a = c.args in
-    let z : l.t - 1 ≡ 32 = omega arith in record { motifs_len_unchanged = l.invariant.2 ∙ v.ensures.motifs_len_unchanged; tables = λ ms k s o.
+    let z : l.t - 1 ≡ 32 = omega arith in record {
+      motifs_len_unchanged = l.invariant.2 ∙ v.ensures.motifs_len_unchanged;
+      tables = λ ms k s o.
           let e : u.result ≡ a.held = u.ensures.value_2 k.most in
           let y : InStore (setting_as a.set) a.work.now ms = record { stores = s; sound = o } in
           let q = l.invariant.3 ms y (noted-all _ _ ms (v.ensures.noted_to ms y (rw e k))) in
-          made (rw (z, e) at q) }
+          made (rw (z, e) at q);
+    }

@@ -1,15 +1,11 @@
 -- `remake`: after t - 1 rounds.
-use Prim.Native.Nat.{suc, ◌+◌, ◌-◌, ◌≤◌, ◌<◌}
-use mathlib.Core.Path.{◌≡◌, refl, ◌∙◌}
+use Prim.Native.Nat.{◌-◌, ◌≤◌, ◌<◌}
+use mathlib.Core.Path.{◌≡◌}
 use mathlib.Core.List.{List}
-use native.Mathlib.Omega.{arith}
 use lib.ListN.{length}
 use Rattle.setting.specs.Views.{setting_as}
 use Rattle.scope.specs.Motif.{Motif}
 use Rattle.settling.specs.Making.{InStore, Rounded}
-use Rattle.settling.proofs.Noting.{noted-all}
-use Rattle.settling.proofs.Turning.{made}
-use borrow.Author.Rules.{rules}
 use Rattle.settling.proofs.settling.remake.Given as goal
 
 abbrev pub invariant-loop-t : goal.invariant-loop-t

@@ -1,7 +1,6 @@
 -- `sum_next`: by the tests.
 -- Assumes nothing.
 use mathlib.Core.Path.{refl}
-use borrow.Author.Rules.{rules}
 use Rattle.settling.proofs.settling.sum_next.Goals as goal
 
 pub returns-then-motifs-i-ne0 : goal.returns-then-motifs-i-ne0

@@ -2,7 +2,6 @@
 -- Assumes nothing.
 use mathlib.Core.Path.{sym, ◌∙◌}
 use Rattle.state.proofs.Ends.{end-outside, end-inside}
-use borrow.Author.Rules.{rules}
 use Rattle.state.proofs.ending.end_code.Goals as goal
 
 pub returns-in-Outside : goal.returns-in-Outside

@@ -1,7 +1,6 @@
 -- `stop` meets its contract.
 -- Assumes nothing.
 use mathlib.Core.Path.{◌∙◌}
-use borrow.Author.Rules.{rules}
 use Rattle.state.proofs.ending.stop.Goals as goal
 
 pub returns : goal.returns

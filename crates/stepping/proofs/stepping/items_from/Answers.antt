@@ -15,7 +15,6 @@ use Rattle.running.specs.Running.{Reaches}
 use Rattle.ruling.proofs.Turns.{turned-stop}
 use Rattle.advancing.proofs.Ending.{steps-end}
 use Rattle.stepping.proofs.Starting.{stands-first, none_first}
-use borrow.Author.Rules.{rules}
 use Rattle.stepping.proofs.stepping.items_from.Goals.{After-open_on-st}
 use Rattle.stepping.proofs.stepping.items_from.Goals as goal
 
@@ -43,10 +42,13 @@ returns-then-is_over c = let a = c.args in
     let d = g.there in
     let h = g.stands in
     let p = past (goal.at.returns-then-is_over c).After-open_on-st in
-    let l : Lent = record { table = zeros 704; patterns = zeros 4487; work = a.work.now; list = c.open_on-st.new.list } in record { lasts = record { work_long = refl; list_long = c.open_on-st.ensures.long; rest = refl }; judged_to = turned-stop a.job.now a.list.now set (judged_from every set a.job.now (length a.list.now) (scope.starting a.next)) l c.stop.result d g.judged
+    let l : Lent = record { table = zeros 704; patterns = zeros 4487; work = a.work.now; list = c.open_on-st.new.list } in record {
+      lasts = record { work_long = refl; list_long = c.open_on-st.ensures.long; rest = refl };
+      judged_to = turned-stop a.job.now a.list.now set (judged_from every set a.job.now (length a.list.now) (scope.starting a.next)) l c.stop.result d g.judged
           (steps-end set d c.stop.result _ (omega (arith, c.is_over.ensures c.if-is_over.true, h.at)) h.listed
           (c.end_code.ensures d.place _ _ _ _ _ h.place)
-          (c.stop.ensures d (omega (arith, c.requires)) (omega (arith, c.requires, p)) h.records h.performed)) }
+          (c.stop.ensures d (omega (arith, c.requires)) (omega (arith, c.requires, p)) h.records h.performed));
+    }
 
 pub with_tables-requires : goal.with_tables-requires
 with_tables-requires c = let p = past (goal.at.with_tables-requires c).After-open_on-st in

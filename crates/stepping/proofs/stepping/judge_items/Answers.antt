@@ -2,7 +2,6 @@
 -- Assumes nothing.
 use mathlib.Core.Path.{refl}
 use native.Mathlib.Omega.{arith}
-use borrow.Author.Rules.{rules}
 use Rattle.stepping.proofs.stepping.judge_items.Goals as goal
 
 pub returns-then-job-gt-JOB_MOST : goal.returns-then-job-gt-JOB_MOST

@@ -5,7 +5,6 @@ use borrow.Author.Tests.{not-true, not-false}
 use Rattle.within.specs.Judging.{judges_faulty}
 use Rattle.stream.proofs.Walking.{faulty-valid}
 use Rattle.scope.specs.Motif.{motif_of, motif_from}
-use borrow.Author.Rules.{rules}
 use Rattle.stream.proofs.judging.judge_noting.Goals as goal
 
 pub returns-then-not-same_class : goal.returns-then-not-same_class

@@ -1,15 +1,10 @@
 -- The invariant: the definition stands somewhere that the code follows, judging from there is judging from the start, and what was selected since is noted.
 -- Assumes nothing.
-use Prim.Native.Nat.{◌-◌, ◌≤◌}
-use mathlib.Core.Path.{◌≡◌, refl, ◌∙◌}
-use mathlib.Core.List.{List}
+use Prim.Native.Nat.{◌-◌}
+use mathlib.Core.Path.{refl, ◌∙◌}
 use native.Mathlib.Omega.{arith}
-use lib.ListN.{length}
 use Rattle.setting.specs.Views.{setting_as}
-use Rattle.scope.specs.Motif.{Motif, judged_inside}
-use Rattle.motif.specs.Held.{Keeps}
-use Rattle.stream.proofs.Walking.{starting, starts, none-noted, same_noted, Stands, turned-go, turned-stop, turned-notes}
-use borrow.Author.Rules.{rules}
+use Rattle.stream.proofs.Walking.{starting, starts, none-noted, same_noted, turned-go, turned-stop, turned-notes}
 use Rattle.stream.proofs.judging.operators.Goals as goal
 
 pub loop-on-init : goal.loop-on-init
@@ -50,13 +45,18 @@ loop-on-preserved c = let l = c.loop-on in
 pub returns-in-Stop : goal.returns-in-Stop
 returns-in-Stop c = let l = c.loop-on in
     let a = c.args in
-    record { attrs_len_unchanged = c.advance.ensures.attrs_len_unchanged ∙ l.invariant.0; judges = λ ms z k.
-            let w = l.invariant.4 ms z k in
-            let v = c.past_run-from.ensures.by_index a.motifs.now ms w.stands w.follows in
-            turned-stop a.motifs.now ms (setting_as a.set) a.s.now _ _ v.stands (v.judged ∙ w.judged)
-            (rw c.in-Stop.is at (c.advance.ensures.turns ms v.stands (l.invariant.0 ∙ z) k v.follows)); own_len_unchanged = c.advance.ensures.own_len_unchanged ∙ l.invariant.3; notes = λ ms ops z k h q.
-              let w = l.invariant.4 ms z k in
-              let v = c.past_run-from.ensures.by_index a.motifs.now ms w.stands w.follows in
-              turned-notes a.motifs.now ms (setting_as a.set) a.s.now l.own _ _ ops v.stands (v.judged ∙ w.judged ∙ q)
-              (rw c.in-Stop.is at (c.advance.ensures.turns ms v.stands (l.invariant.0 ∙ z) k v.follows))
-              (same_noted l.own w.stands.ops v.stands.ops v.selects (w.notes h)) (c.advance.ensures.notes_on ms v.stands (l.invariant.0 ∙ z) v.follows) }
+    record {
+      attrs_len_unchanged = c.advance.ensures.attrs_len_unchanged ∙ l.invariant.0;
+      judges = λ ms z k.
+          let w = l.invariant.4 ms z k in
+          let v = c.past_run-from.ensures.by_index a.motifs.now ms w.stands w.follows in
+          turned-stop a.motifs.now ms (setting_as a.set) a.s.now _ _ v.stands (v.judged ∙ w.judged)
+          (rw c.in-Stop.is at (c.advance.ensures.turns ms v.stands (l.invariant.0 ∙ z) k v.follows));
+      own_len_unchanged = c.advance.ensures.own_len_unchanged ∙ l.invariant.3;
+      notes = λ ms ops z k h q.
+          let w = l.invariant.4 ms z k in
+          let v = c.past_run-from.ensures.by_index a.motifs.now ms w.stands w.follows in
+          turned-notes a.motifs.now ms (setting_as a.set) a.s.now l.own _ _ ops v.stands (v.judged ∙ w.judged ∙ q)
+          (rw c.in-Stop.is at (c.advance.ensures.turns ms v.stands (l.invariant.0 ∙ z) k v.follows))
+          (same_noted l.own w.stands.ops v.stands.ops v.selects (w.notes h)) (c.advance.ensures.notes_on ms v.stands (l.invariant.0 ∙ z) v.follows);
+    }

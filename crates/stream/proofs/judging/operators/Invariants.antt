@@ -1,14 +1,12 @@
 -- The invariant: the definition stands somewhere that the code follows, judging from there is judging from the start, and what was selected since is noted.
 use Prim.Native.Nat.{◌-◌, ◌≤◌}
-use mathlib.Core.Path.{◌≡◌, refl, ◌∙◌}
+use mathlib.Core.Path.{◌≡◌}
 use mathlib.Core.List.{List}
-use native.Mathlib.Omega.{arith}
 use lib.ListN.{length}
 use Rattle.setting.specs.Views.{setting_as}
 use Rattle.scope.specs.Motif.{Motif, judged_inside}
 use Rattle.motif.specs.Held.{Keeps}
-use Rattle.stream.proofs.Walking.{starting, starts, none-noted, same_noted, Stands, turned-go, turned-stop, turned-notes}
-use borrow.Author.Rules.{rules}
+use Rattle.stream.proofs.Walking.{starting, Stands}
 use Rattle.stream.proofs.judging.operators.Given as goal
 
 abbrev pub invariant-loop-on : goal.invariant-loop-on

@@ -8,7 +8,6 @@ use native.Mathlib.Omega.{arith}
 use lib.ListN.{length}
 use Rattle.end_point.specs.EndPoint.{Line}
 use Rattle.stream.specs.Lines.{strip_line, strip_quiet}
-use borrow.Author.Rules.{rules}
 use Rattle.stream.proofs.lines.pass_one.Goals.{In-At}
 use Rattle.stream.proofs.lines.pass_one.Goals as goal
 

@@ -1,10 +1,8 @@
 -- The invariant: a run from the start leads to where the loop stands.
 -- Assumes nothing.
-use Prim.Native.Nat.{◌-◌, ◌≤◌}
+use Prim.Native.Nat.{◌-◌}
 use native.Mathlib.Omega.{arith}
-use lib.ListN.{length}
-use Rattle.stream.specs.Lines.{Strip, strip_none}
-use borrow.Author.Rules.{rules}
+use Rattle.stream.specs.Lines.{strip_none}
 use Rattle.stream.proofs.lines.run_from.Goals as goal
 
 pub loop-on-init : goal.loop-on-init

@@ -1,9 +1,7 @@
 -- The invariant: a run from the start leads to where the loop stands.
 use Prim.Native.Nat.{◌-◌, ◌≤◌}
-use native.Mathlib.Omega.{arith}
 use lib.ListN.{length}
-use Rattle.stream.specs.Lines.{Strip, strip_none}
-use borrow.Author.Rules.{rules}
+use Rattle.stream.specs.Lines.{Strip}
 use Rattle.stream.proofs.lines.run_from.Given as goal
 
 abbrev pub invariant-loop-on : goal.invariant-loop-on

@@ -1,7 +1,6 @@
 -- `unpacked` meets its contract.
 -- Assumes nothing.
 use Rattle.summary.specs.Sums.{summary_of, SumsAs}
-use borrow.Author.Rules.{rules}
 use Rattle.summary.proofs.summary.unpacked.Goals as goal
 
 pub returns : goal.returns

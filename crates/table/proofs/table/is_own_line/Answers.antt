@@ -2,7 +2,6 @@
 -- Assumes nothing.
 use borrow.Author.Tests.{ne_eqb}
 use Rattle.scope.specs.Choice.{among}
-use borrow.Author.Rules.{rules}
 use Rattle.table.proofs.table.is_own_line.Goals as goal
 
 pub returns-in-67 : goal.returns-in-67

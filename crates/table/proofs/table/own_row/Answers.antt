@@ -10,7 +10,6 @@ use mathlib.Core.Bool.{Bool}
 use Rattle.scope.specs.Choice.{pick, among}
 use Rattle.scope.specs.Table.{table_two, line_in}
 use Rattle.table.specs.Lines.{own_lines, must_in, numbers_in, up_to_no}
-use borrow.Author.Rules.{rules}
 use Rattle.table.proofs.table.own_row.Goals as goal
 
 last : (tag : ℕ) → eqb tag 0x43 ≡ false → eqb tag 0xb1 ≡ false → eqb tag 0xb4 ≡ false → among own_lines tag ≡ true → tag ≡ 0x57

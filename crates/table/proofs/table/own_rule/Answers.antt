@@ -10,7 +10,6 @@ use mathlib.Core.Bool.{Bool}
 use Rattle.scope.specs.Choice.{pick, among}
 use Rattle.scope.specs.Table.{table_two, table, rule_in}
 use Rattle.table.specs.Lines.{own_rules, rules_in, rule_of}
-use borrow.Author.Rules.{rules}
 use Rattle.table.proofs.table.own_rule.Goals as goal
 
 last : (n : ℕ) → eqb n 40 ≡ false → eqb n 37 ≡ false → eqb n 39 ≡ false → eqb n 110 ≡ false → among own_rules n ≡ true → n ≡ 111

@@ -3,7 +3,6 @@
 use mathlib.Core.Path.{sym, ◌∙◌}
 use Rattle.setting.specs.Views.{class_as}
 use Rattle.table.proofs.Classes.{line-shared, line-own}
-use borrow.Author.Rules.{rules}
 use Rattle.table.proofs.table.row_of.Goals as goal
 
 pub returns-then-is_own_line : goal.returns-then-is_own_line

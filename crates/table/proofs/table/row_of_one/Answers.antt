@@ -7,7 +7,6 @@ use Rattle.scope.specs.Choice.{among}
 use Rattle.scope.specs.Table.{table_one, line_in}
 use Rattle.table.specs.Lines.{must_in, numbers_in, up_to_no}
 use Rattle.table.proofs.Keys.{within, ops_in, no_line}
-use borrow.Author.Rules.{rules}
 use Rattle.table.proofs.table.row_of_one.Goals as goal
 
 -- the keys of the arms, the last one first

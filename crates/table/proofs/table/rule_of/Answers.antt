@@ -3,7 +3,6 @@
 use mathlib.Core.Path.{sym, ◌∙◌}
 use Rattle.setting.specs.Views.{class_as}
 use Rattle.table.proofs.Classes.{rule-shared, rule-own}
-use borrow.Author.Rules.{rules}
 use Rattle.table.proofs.table.rule_of.Goals as goal
 
 pub returns-then-is_own_rule : goal.returns-then-is_own_rule

@@ -7,7 +7,6 @@ use Rattle.scope.specs.Choice.{among}
 use Rattle.scope.specs.Table.{table_one, table, rule_in}
 use Rattle.table.specs.Lines.{numbers_in, rules_in, rule_of}
 use Rattle.table.proofs.Keys.{within, no-rule}
-use borrow.Author.Rules.{rules}
 use Rattle.table.proofs.table.rule_of_one.Goals as goal
 
 -- the keys of the arms, the last one first

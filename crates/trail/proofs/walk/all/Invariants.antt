@@ -1,5 +1,4 @@
 -- Nothing has to hold from turn to turn; each turn brings the end one nearer.
-use borrow.Author.Rules.{rules}
 use Rattle.trail.proofs.walk.all.Given as goal
 
 abbrev pub invariant-loop-turns : goal.invariant-loop-turns

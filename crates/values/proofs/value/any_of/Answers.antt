@@ -1,7 +1,6 @@
 -- `values::value::any_of` meets its contract: the first or either of the others.
 -- Assumes nothing.
 use borrow.Author.Tests.{eq-eqb, ne_eqb}
-use borrow.Author.Rules.{rules}
 use Rattle.values.proofs.value.any_of.Goals as goal
 
 pub returns-then-t-a : goal.returns-then-t-a

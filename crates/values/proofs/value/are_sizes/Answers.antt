@@ -1,7 +1,6 @@
 -- `are_sizes`: an arm for each answer; what was read as a real is a number, so its bits can be asked for.
 -- Assumes nothing.
 use Rattle.reals.proofs.Halves.{sizes_whole, sizes_real, sizes_neither}
-use borrow.Author.Rules.{rules}
 use Rattle.values.proofs.value.are_sizes.Goals as goal
 
 pub both_above-requires : goal.both_above-requires

@@ -2,7 +2,6 @@
 -- Assumes nothing.
 use mathlib.Core.Path.{sym, ◌∙◌}
 use borrow.Author.Tests.{not-true, not-false}
-use borrow.Author.Rules.{rules}
 use Rattle.values.proofs.value.both_above.Goals as goal
 
 pub returns-then-not-is_above : goal.returns-then-not-is_above

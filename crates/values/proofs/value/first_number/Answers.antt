@@ -1,7 +1,6 @@
 -- `first_number`: the same number, wider.
 -- Assumes nothing.
 use Rattle.scope.specs.Attributes.{first_of, two_at}
-use borrow.Author.Rules.{rules}
 use Rattle.values.proofs.value.first_number.Goals as goal
 
 pub returns : goal.returns

@@ -1,7 +1,6 @@
 -- `values::value::in_range` meets its contract: an arm for each kind.
 -- Assumes nothing.
 use Rattle.scope.specs.Attributes.{in_range, two_at}
-use borrow.Author.Rules.{rules}
 use Rattle.values.proofs.value.in_range.Goals as goal
 
 pub are_sizes-requires : goal.are_sizes-requires

@@ -2,7 +2,6 @@
 -- Assumes nothing.
 use Rattle.scope.specs.Attributes.{above}
 use Rattle.reals.proofs.Halves.{not-zero}
-use borrow.Author.Rules.{rules}
 use Rattle.values.proofs.value.is_above.Goals as goal
 
 pub returns-then-bits-eq0 : goal.returns-then-bits-eq0

@@ -1,7 +1,6 @@
 -- `is_point`: an arm for each answer.
 -- Assumes nothing.
 use Rattle.reals.proofs.Halves.{point-whole, point_real, point-neither}
-use borrow.Author.Rules.{rules}
 use Rattle.values.proofs.value.is_point.Goals as goal
 
 pub returns-in-Whole : goal.returns-in-Whole

@@ -1,7 +1,6 @@
 -- `values::value::media_size` meets its contract: one range or the other.
 -- Assumes nothing.
 use mathlib.Core.Path.{sym, ◌∙◌}
-use borrow.Author.Rules.{rules}
 use Rattle.values.proofs.value.media_size.Goals as goal
 
 pub returns-then-within : goal.returns-then-within

@@ -3,7 +3,6 @@
 use mathlib.Core.Path.{refl, sym, ◌∙◌}
 use borrow.Author.Tests.{eq-eqb, ne_eqb}
 use Rattle.scope.specs.Attributes.{in_range}
-use borrow.Author.Rules.{rules}
 use Rattle.values.proofs.value.media_size_two.Goals as goal
 
 pub returns-then-a-eq200 : goal.returns-then-a-eq200

@@ -1,7 +1,6 @@
 -- `point_type`: the first or any of the others.
 -- Assumes nothing.
 use borrow.Author.Tests.{eq-eqb, ne_eqb}
-use borrow.Author.Rules.{rules}
 use Rattle.values.proofs.value.point_type.Goals as goal
 
 pub returns-then-t-eq208 : goal.returns-then-t-eq208

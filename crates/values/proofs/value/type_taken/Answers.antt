@@ -1,7 +1,6 @@
 -- `values::value::type_taken` meets its contract: an arm for each kind.
 -- Assumes nothing.
 use Rattle.scope.specs.Attributes.{type_taken}
-use borrow.Author.Rules.{rules}
 use Rattle.values.proofs.value.type_taken.Goals as goal
 
 pub returns-in-E : goal.returns-in-E

@@ -1,13 +1,10 @@
 -- The invariant: the first place that is not white is the same from next on as from the start.
 -- Assumes nothing.
 use Prim.Native.Nat.{◌+◌, ◌-◌}
-use mathlib.Core.Path.{◌≡◌, refl, sym, ◌∙◌}
+use mathlib.Core.Path.{refl, sym, ◌∙◌}
 use native.Mathlib.Omega.{arith}
 use borrow.Author.Tests.{not-false}
-use lib.ListN.{length}
-use Rattle.scope.specs.Item.{after}
 use Rattle.white.specs.White.{Passed}
-use borrow.Author.Rules.{rules}
 use Rattle.white.proofs.white.after_fours.Goals.{Else-not-four_white}
 use Rattle.white.proofs.white.after_fours.Goals as goal
 

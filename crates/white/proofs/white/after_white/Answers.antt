@@ -3,7 +3,6 @@
 use mathlib.Core.Path.{sym, ◌∙◌}
 use borrow.Author.Tests.{not-true}
 use Rattle.white.proofs.Spaces.{after-black, after-end}
-use borrow.Author.Rules.{rules}
 use Rattle.white.proofs.white.after_white.Goals as goal
 
 pub returns-then-s-at : goal.returns-then-s-at

@@ -1,11 +1,8 @@
 -- The invariant: the first place that is not white is the same from p on as from the start.
 use borrow.Author.Tests.{not-true, not-false}
 use Rattle.white.proofs.Spaces.{after-white, after-black, after-end}
-use Rattle.scope.specs.Item.{after}
-use lib.ListN.{length}
-use mathlib.Core.Path.{◌≡◌, sym, ◌∙◌}
+use mathlib.Core.Path.{sym, ◌∙◌}
 use Prim.Native.Nat.{◌-◌}
-use borrow.Author.Rules.{rules}
 use Rattle.white.proofs.white.behind_white.Goals as goal
 
 pub loop-p-init : goal.loop-p-init

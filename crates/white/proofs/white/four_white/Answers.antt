@@ -9,7 +9,6 @@ use borrow.Author.Tests.{eqb-true}
 use lib.ListN.{get_or}
 use Rattle.scope.specs.Item.{white}
 use Rattle.white.proofs.Spaces.{after-four, all-20, all-00}
-use borrow.Author.Rules.{rules}
 use Rattle.white.proofs.white.four_white.Goals.{After-shared_slice_known-4-1}
 use Rattle.white.proofs.white.four_white.Goals as goal
 

@@ -3,7 +3,6 @@
 use mathlib.Core.Path.{sym, ◌∙◌}
 use borrow.Author.Tests.{eq-eqb, ne_eqb}
 use Rattle.scope.specs.Item.{white}
-use borrow.Author.Rules.{rules}
 use Rattle.white.proofs.white.is_white.Goals as goal
 
 pub returns-then-b-eq0 : goal.returns-then-b-eq0

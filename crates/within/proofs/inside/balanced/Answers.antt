@@ -4,7 +4,6 @@ use mathlib.Core.Path.{◌≡◌, sym, ◌∙◌}
 use borrow.Author.Tests.{eq-eqb, ne_eqb}
 use Rattle.within.proofs.Turning.{ended-even}
 use Rattle.within.specs.Judging.{judges_faulty}
-use borrow.Author.Rules.{rules}
 use Rattle.within.proofs.inside.balanced.Goals as goal
 
 pub returns-then-inside-ne0 : goal.returns-then-inside-ne0

@@ -8,7 +8,6 @@ use lib.ListN.{take, drop}
 use native.Mathlib.Omega.{arith}
 use Rattle.reader.specs.Reads.{operator_as}
 use Rattle.within.proofs.Turning.{call_none, call_at}
-use borrow.Author.Rules.{rules}
 use Rattle.within.proofs.inside.call.Goals.{In-At}
 use Rattle.within.proofs.inside.call.Goals as goal
 
@@ -36,10 +35,16 @@ pub bounds-motifs-i : goal.bounds-motifs-i
 bounds-motifs-i c = omega (arith, few (goal.at.bounds-motifs-i c).In-At)
 
 pub returns-in-Nowhere : goal.returns-in-Nowhere
-returns-in-Nowhere c = let a = c.args in record { at_value = (c.called.ensures.at, more a.inside.saved _ c.called.ensures.saved); follows = λ set ms w z k t g. call_none a.motifs.now ms set a.s.now (operator_as a.o a.attrs.now) w t _ (part a.s.now c.name_in-name.result.first c.name_in-name.result.count (c.name_in-name.ensures.s_value z)) a.inside _ g
-          c.in-Nowhere.is (c.find.ensures.finds ms k) c.called.ensures }
+returns-in-Nowhere c = let a = c.args in record {
+  at_value = (c.called.ensures.at, more a.inside.saved _ c.called.ensures.saved);
+  follows = λ set ms w z k t g. call_none a.motifs.now ms set a.s.now (operator_as a.o a.attrs.now) w t _ (part a.s.now c.name_in-name.result.first c.name_in-name.result.count (c.name_in-name.ensures.s_value z)) a.inside _ g
+      c.in-Nowhere.is (c.find.ensures.finds ms k) c.called.ensures;
+}
 
 pub returns-in-At : goal.returns-in-At
 returns-in-At c = let a = c.args in
-    record { at_value = (c.called-in-At.ensures.at, more a.inside.saved _ c.called-in-At.ensures.saved); follows = λ set ms w z k t g. call_at a.motifs.now ms set a.s.now (operator_as a.o a.attrs.now) w t _ (part a.s.now c.name_in-name.result.first c.name_in-name.result.count (c.name_in-name.ensures.s_value z)) a.inside _ g
-          _ _ c.in-At.is (c.find.ensures.finds ms k) (c.with_mark.ensures (few (goal.at.returns-in-At c).In-At)) c.called-in-At.ensures }
+    record {
+      at_value = (c.called-in-At.ensures.at, more a.inside.saved _ c.called-in-At.ensures.saved);
+      follows = λ set ms w z k t g. call_at a.motifs.now ms set a.s.now (operator_as a.o a.attrs.now) w t _ (part a.s.now c.name_in-name.result.first c.name_in-name.result.count (c.name_in-name.ensures.s_value z)) a.inside _ g
+          _ _ c.in-At.is (c.find.ensures.finds ms k) (c.with_mark.ensures (few (goal.at.returns-in-At c).In-At)) c.called-in-At.ensures;
+    }

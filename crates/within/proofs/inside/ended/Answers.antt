@@ -4,7 +4,6 @@ use Rattle.due.specs.Views.{image_as}
 use Rattle.order.specs.Pictures.{picture_as}
 use mathlib.Core.Path.{sym, ap, ◌∙◌}
 use Rattle.within.proofs.Turning.{ended-open, ended-hatching, ended-closed}
-use borrow.Author.Rules.{rules}
 use Rattle.within.proofs.inside.ended.Goals as goal
 
 pub returns-in-Being : goal.returns-in-Being

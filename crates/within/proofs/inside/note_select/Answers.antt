@@ -1,7 +1,6 @@
 -- `note_select` meets its contract.
 -- Assumes nothing.
 use mathlib.Core.Path.{refl}
-use borrow.Author.Rules.{rules}
 use Rattle.within.proofs.inside.note_select.Goals as goal
 
 pub returns-in-Nothing : goal.returns-in-Nothing

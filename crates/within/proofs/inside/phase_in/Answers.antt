@@ -1,7 +1,6 @@
 -- `phase_in` meets its contract.
 -- Assumes nothing.
 use Rattle.scope.specs.Motif.{phase_in}
-use borrow.Author.Rules.{rules}
 use Rattle.within.proofs.inside.phase_in.Goals as goal
 
 pub returns-in-Nothing : goal.returns-in-Nothing

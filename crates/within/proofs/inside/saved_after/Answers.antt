@@ -3,7 +3,6 @@
 use native.Mathlib.Numerals.{add-one}
 use borrow.Author.Tests.{eq-eqb, ne_eqb}
 use Rattle.scope.specs.Motif.{saved_after}
-use borrow.Author.Rules.{rules}
 use Rattle.within.proofs.inside.saved_after.Goals as goal
 
 pub returns-then-tag-eq-PUSH_GS : goal.returns-then-tag-eq-PUSH_GS

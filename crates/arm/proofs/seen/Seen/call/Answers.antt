@@ -8,7 +8,6 @@ use lib.ListN.{length}
 use Prim.Native.Nat.{◌+◌}
 use mathlib.Core.Bool.{true, ◌||◌}
 use mathlib.Core.Path.{ap, ◌∙◌}
-use borrow.Author.Rules.{rules}
 use Rattle.arm.proofs.seen.Seen.call.Goals as goal
 
 pub returns : goal.returns

@@ -3,7 +3,6 @@
 use borrow.Author.Tests.{le-leb, lt-leb}
 use Rattle.arm.proofs.Keeping.{code-kept}
 use mathlib.Core.Path.{sym, ◌∙◌}
-use borrow.Author.Rules.{rules}
 use Rattle.arm.proofs.seen.Seen.code.Goals as goal
 
 pub returns-then-lacks : goal.returns-then-lacks

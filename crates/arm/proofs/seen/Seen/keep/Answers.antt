@@ -4,7 +4,6 @@ use mathlib.Core.Path.{refl, ap, ◌∙◌}
 use mathlib.Core.Bool.{◌||◌}
 use lib.ListN.{length}
 use Rattle.arm.proofs.Kept.{keep_holds}
-use borrow.Author.Rules.{rules}
 use Rattle.arm.proofs.seen.Seen.keep.Goals as goal
 
 pub returns : goal.returns

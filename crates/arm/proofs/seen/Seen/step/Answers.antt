@@ -4,7 +4,6 @@ use Rattle.arm.proofs.Keeping.{step-holds}
 use mathlib.Core.Bool.{◌||◌}
 use native.Mathlib.Omega.{arith}
 use mathlib.Core.Path.{ap, ◌∙◌}
-use borrow.Author.Rules.{rules}
 use Rattle.arm.proofs.seen.Seen.step.Goals as goal
 
 pub returns : goal.returns

@@ -1,7 +1,6 @@
 -- `Both::fresh` meets its contract.
 -- Assumes nothing.
 use Rattle.scope.specs.Arm.{walk}
-use borrow.Author.Rules.{rules}
 use Rattle.both.proofs.both.Both.fresh.Goals as goal
 
 pub returns : goal.returns

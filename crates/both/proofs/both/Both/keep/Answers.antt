@@ -6,7 +6,6 @@ use mathlib.Core.Bool.{true, false}
 use Rattle.summary.specs.Sums.{fresh}
 use Rattle.scope.specs.Arm.{walk}
 use Rattle.arm.proofs.Rows.{walk-append}
-use borrow.Author.Rules.{rules}
 use Rattle.both.proofs.both.Both.keep.Goals as goal
 
 pub returns : goal.returns

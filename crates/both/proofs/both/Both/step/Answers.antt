@@ -4,13 +4,12 @@ use Rattle.arm.proofs.Rows.{walk-append}
 use mathlib.Core.Bool.{true, false}
 use mathlib.Core.List.{[], ◌∷◌}
 use Rattle.summary.specs.Sums.{fresh}
-use Rattle.scope.specs.Arm.{walk, step}
-use borrow.Author.Rules.{rules}
+use Rattle.scope.specs.Arm.{walk}
 use Rattle.both.proofs.both.Both.step.Goals as goal
 
 pub returns : goal.returns
 unfolding walk
 returns c row x h e = record {
-      a = rw (walk-append row (x ∷ []) (fresh true), e) (c.step-c.ensures (walk row (fresh true)) h.a);
-      b = rw (walk-append row (x ∷ []) (fresh false), e) (c.step-d.ensures (walk row (fresh false)) h.b);
-    }
+  a = rw (walk-append row (x ∷ []) (fresh true), e) (c.step-c.ensures (walk row (fresh true)) h.a);
+  b = rw (walk-append row (x ∷ []) (fresh false), e) (c.step-d.ensures (walk row (fresh false)) h.b);
+}

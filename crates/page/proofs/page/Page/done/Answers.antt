@@ -4,7 +4,6 @@ use Rattle.page.proofs.Stacks.{stack-length}
 use Rattle.page.proofs.Saves.{pushed_done, popped_done}
 use Rattle.scope.specs.Arm.{risen}
 use native.Mathlib.Omega.{arith}
-use borrow.Author.Rules.{rules}
 use Rattle.page.proofs.page.Page.done.Goals as goal
 
 pub returns-in-Push : goal.returns-in-Push

@@ -6,7 +6,6 @@ use native.Mathlib.Omega.{arith}
 use Rattle.scope.specs.Arm.{done, risen, put, kept, to, push, pop}
 use Rattle.page.specs.Alone.{alone_close, alone_new, alone_paint, leaves_no}
 use Rattle.page.proofs.Saves.{leaves, alone-out, pushed_leaves, popped_leaves}
-use borrow.Author.Rules.{rules}
 use Rattle.page.proofs.page.Page.past.Goals as goal
 
 pub returns-then-tag-eq-CLOSE_SUB_PATH : goal.returns-then-tag-eq-CLOSE_SUB_PATH

@@ -5,7 +5,6 @@ use Rattle.page.specs.Views.{stack}
 use Rattle.scope.specs.Arm.{done}
 use native.Mathlib.Omega.{arith}
 use mathlib.Core.Path.{◌≡◌, refl}
-use borrow.Author.Rules.{rules}
 use Rattle.page.proofs.page.Page.pop.Goals as goal
 
 pub returns-then-depth-eq0 : goal.returns-then-depth-eq0

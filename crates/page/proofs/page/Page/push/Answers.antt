@@ -6,7 +6,6 @@ use Rattle.page.proofs.Stacks.{stack_push, bits_small}
 use Rattle.scope.specs.Arm.{done}
 use native.Mathlib.Omega.{arith}
 use mathlib.Core.Path.{refl}
-use borrow.Author.Rules.{rules}
 use Rattle.page.proofs.page.Page.push.Goals as goal
 
 pub returns-then-depth-ge-SAVED_MOST : goal.returns-then-depth-ge-SAVED_MOST

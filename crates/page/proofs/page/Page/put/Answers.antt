@@ -2,7 +2,6 @@
 -- Assumes nothing.
 use Rattle.scope.specs.Arm.{done}
 use mathlib.Core.Path.{refl}
-use borrow.Author.Rules.{rules}
 use Rattle.page.proofs.page.Page.put.Goals as goal
 
 pub returns : goal.returns

@@ -3,7 +3,6 @@
 use Rattle.page.proofs.Stacks.{stack-length}
 use Rattle.scope.specs.Arm.{risen}
 use native.Mathlib.Omega.{arith}
-use borrow.Author.Rules.{rules}
 use Rattle.page.proofs.page.Page.risen.Goals as goal
 
 pub returns-in-Push : goal.returns-in-Push

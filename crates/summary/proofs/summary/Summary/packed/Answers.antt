@@ -2,7 +2,6 @@
 -- Assumes nothing.
 use Rattle.summary.proofs.Packs.{packs}
 use mathlib.Core.Path.{refl}
-use borrow.Author.Rules.{rules}
 use Rattle.summary.proofs.summary.Summary.packed.Goals as goal
 
 pub returns : goal.returns
