@@ -4,6 +4,7 @@
 use mathlib.Core.Path.{◌≡◌, refl, sym}
 use mathlib.Core.Bool.{true, false, true≢false}
 use lib.Dec.{eqb}
+use borrow.Author.Rules.{rules}
 use borrow.Author.Tests.{ne_eqb, eqb-true}
 use Prim.Native.Nat.{ℕ}
 use mathlib.Core.Bool.{Bool}
@@ -22,7 +23,7 @@ last tag a b d t = eqb-true tag 0x57 (by (eqb tag 0x57) (rw (a, b, d) at t))
 
 pub returns-in-67 : goal.returns-in-67
 unfolding table_two line_in must_in numbers_in up_to_no
-returns-in-67 c = λ t. rw (c.in-67.is, c.may_four.ensures)
+returns-in-67 c = λ t. rw c.in-67.is (search rules)
 
 pub returns-in-177 : goal.returns-in-177
 unfolding table_two line_in must_in numbers_in up_to_no
