@@ -1,7 +1,7 @@
 /* Dieuvakhop: judges one job for the pen arm before the pen moves.
  *
  * Link with libdieuvakhop.a (x86-64), made by `examples/library`.
- * The promise below is proved of the function in crates/checker/src/entry.rt,
+ * The promise below is proved of the function in crates/checker_c/src/lib.rt,
  * for every content and every length of the three buffers, and both starts.
  */
 #ifndef DIEUVAKHOP_H
