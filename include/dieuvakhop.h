@@ -172,7 +172,8 @@ struct dieuvakhop_verdict {
  * The same job with buffers of the same lengths and the same start gets the
  * same verdict and the same records. Nothing is kept from one call to the next.
  *
- * What it takes of the machine (`examples/measure` measures it):
+ * What it takes of the machine (`examples/measure` measures it; these are of
+ * the kit that the library was first written for):
  *   - stack: 19,192 bytes at most over the jobs of crates/explain/data; there is
  *     no recursion, and no memory but what is lent;
  *   - code and constants: 33,649 bytes; no data that is written;
