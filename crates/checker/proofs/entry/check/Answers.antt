@@ -5,7 +5,6 @@ use lib.Dec.{lit<}
 use mathlib.Core.Path.{◌∙◌}
 use Rattle.buffer.proofs.Parts.{cleared-alike}
 use Rattle.checker.proofs.Entering.{short_work, long_job, lets_in, early, whole}
-use borrow.Author.Rules.{rules}
 use Rattle.checker.proofs.entry.check.Goals as goal
 
 pub returns-then-work-lt-WORK_LEAST : goal.returns-then-work-lt-WORK_LEAST

@@ -5,7 +5,6 @@ use mathlib.Core.Path.{refl, sym}
 use native.Mathlib.Omega.{arith}
 use Rattle.scope.proofs.Placed.{header-placed}
 use Rattle.checker.proofs.Entering.{header-no, header_is}
-use borrow.Author.Rules.{rules}
 use Rattle.checker.proofs.entry.judge_job.Goals as goal
 
 pub returns-in-No : goal.returns-in-No
