@@ -1,6 +1,5 @@
 -- `stepping::advance` meets its contract: at the end of the job the definition reads nothing; before it both read the same.
 -- Assumes nothing.
--- where the reading of an operator started
 use Prim.Native.Nat.{ℕ}
 use lib.ListN.{length}
 use mathlib.Core.List.{List}

@@ -1,6 +1,5 @@
 -- `after::drawn_on` meets its contract: EndPage, an operator that is of no image and no pattern, or another.
 -- Assumes nothing.
--- the tags of images and patterns are b0 to b5
 use Prim.Native.Nat.{ℕ, ◌<◌}
 use mathlib.Core.Path.{◌≡◌, refl, sym}
 use mathlib.Core.Bool.{Bool}
@@ -14,6 +13,7 @@ use Rattle.place.specs.Places.{resting_holds, drawing_holds}
 use borrow.Author.Tests.{eq-eqb, ne_eqb}
 use Rattle.after.proofs.after.drawn_on.Goals as goal
 
+-- the tags of images and patterns are b0 to b5
 no-image : (high : Bool) (s : List ℕ) (tag : ℕ) (l : List Attribute) (p : Def.Picture) → tag < 0xb0 → picture_for high s tag l p ≡ p
 unfolding picture_for reads_rows
 no-image high s tag l p h =

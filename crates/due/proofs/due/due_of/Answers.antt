@@ -1,6 +1,5 @@
 -- `due_of`: by the operator.
 -- Assumes nothing.
--- where points are read, the tag is one of a line's two
 use mathlib.Core.Path.{◌≡◌, sym, ◌∙◌}
 use mathlib.Core.Bool.{true, ◌||◌}
 use lib.Dec.{eqb}
@@ -10,6 +9,7 @@ use Rattle.due.specs.Views.{points_due}
 use Rattle.due.proofs.due.due_of.Goals.{Joined-tag-ne-LINE_PATH, then-tag-ne-LINE_PATH+else-tag-ne-LINE_REL_PATH, else-tag-ne-LINE_PATH}
 use Rattle.due.proofs.due.due_of.Goals as goal
 
+-- where points are read, the tag is one of a line's two
 is-line : (c : Joined-tag-ne-LINE_PATH) → let tag = c.args.tag in (eqb tag 0x9b || eqb tag 0x9d) ≡ true
 is-line c =
     elim c.if-tag-ne-LINE_PATH.branch [

@@ -1,6 +1,5 @@
 -- `class_of`: the second digit, then the first.
 -- Assumes nothing.
--- a second digit that is no 1
 use Prim.Native.Nat.{ℕ}
 use mathlib.Core.Path.{◌≡◌, refl, sym, ap, ◌∙◌}
 use mathlib.Core.Bool.{Bool, true, false, ◌&&◌}
@@ -12,6 +11,7 @@ use Rattle.scope.specs.Header.{Header, classed}
 use Rattle.header.proofs.header.class_of.Goals.{After-byte_at-2}
 use Rattle.header.proofs.header.class_of.Goals as goal
 
+-- a second digit that is no 1
 neither : (a b : Bool) (x y z : Header) → pick (a && false) x (pick (b && false) y z) ≡ z
 neither true true x y z = refl
 neither true false x y z = refl

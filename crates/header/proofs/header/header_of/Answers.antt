@@ -1,6 +1,5 @@
 -- `header_of` meets its contract.
 -- Assumes nothing.
--- the first byte, once it was tested
 use Prim.Native.Nat.{ℕ}
 use mathlib.Core.Path.{◌≡◌, refl, sym, ap, ◌∙◌}
 use mathlib.Core.Bool.{true, false}
@@ -12,6 +11,7 @@ use Rattle.header.specs.Headers.{form_as}
 use Rattle.header.proofs.header.header_of.Goals.{Else-byte_at-eq39}
 use Rattle.header.proofs.header.header_of.Goals as goal
 
+-- the first byte, once it was tested
 first : (c : Else-byte_at-eq39) → eqb (get_or c.args.s.now 0 0) 0x27 ≡ false
 first c = ap (λ (x : ℕ). eqb x 0x27) (sym c.byte_at.ensures) ∙ ne_eqb _ _ c.if-byte_at-eq39.false
 

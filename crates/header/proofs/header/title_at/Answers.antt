@@ -1,11 +1,11 @@
 -- `title_at` meets its contract.
 -- Assumes nothing.
--- of ten places the one that is none of the first nine
 use Prim.Native.Nat.{ℕ, ◌<◌}
 use mathlib.Core.Path.{◌≡◌}
 use native.Mathlib.Omega.{arith}
 use Rattle.header.proofs.header.title_at.Goals as goal
 
+-- of ten places the one that is none of the first nine
 low : (k : ℕ) → (k ≡ 0 → ⊥) → (k ≡ 1 → ⊥) → (k ≡ 2 → ⊥) → (k ≡ 3 → ⊥) → (k ≡ 4 → ⊥) → 4 < k
 low k h₀ h₁ h₂ h₃ h₄ = omega arith
 

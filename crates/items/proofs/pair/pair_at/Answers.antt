@@ -1,6 +1,5 @@
 -- `pair_at`: the value, then its number right behind it or after white space.
 -- Assumes nothing.
--- what the start of a value that was found says: how many numbers and where they start, and that there is room for a row
 use Prim.Native.Nat.{◌+◌, ◌*◌, ◌≤◌, ◌<◌}
 use mathlib.Core.Path.{◌≡◌, refl, sym, ap, ◌∙◌}
 use native.Mathlib.Omega.{arith}
@@ -11,6 +10,7 @@ use Rattle.items.proofs.Pairs.{numbers-short, numbers-all, mark-within, mark-nex
 use Rattle.items.proofs.pair.pair_at.Goals.{After-byte_at, After-width_in, In-From}
 use Rattle.items.proofs.pair.pair_at.Goals as goal
 
+-- what the start of a value that was found says: how many numbers and where they start, and that there is room for a row
 starts : (c : In-From) → (c.in-From.count ≤ 1024) × (c.in-From.first ≤ c.args.at + 6)
 starts c = rw c.in-From.is at c.value_at.ensures.starts
 

@@ -1,6 +1,5 @@
 -- `kind_of` meets its contract.
 -- Assumes nothing.
--- a tag of a group of values, whose first is a multiple of 8, says the type by its last three bits
 use Prim.Native.Nat.{ℕ, ◌+◌, ◌-◌, ◌%◌, ◌≤◌}
 use mathlib.Core.Path.{◌≡◌, refl, sym, ap, ◌∙◌}
 use mathlib.Core.Bool.{false}
@@ -11,6 +10,7 @@ use Rattle.number.specs.Widths.{width_in}
 use Rattle.items.proofs.value.kind_of.Goals.{Else-between, Else-between-2, Else-between-3}
 use Rattle.items.proofs.value.kind_of.Goals as goal
 
+-- a tag of a group of values, whose first is a multiple of 8, says the type by its last three bits
 width-from : (t low : ℕ) → low % 8 ≡ 0 → (low ≤ t) × (t ≤ low + 5) → width_in t ≡ width_of (t - low)
 unfolding width_in
 width-from t low e h = let d : t % 8 ≡ t - low = omega arith in ap width_of d

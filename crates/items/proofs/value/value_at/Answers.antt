@@ -1,6 +1,5 @@
 -- `value_at` meets its contract.
 -- Assumes nothing.
--- the kind that was found, as the definitions have it
 use Prim.Native.Nat.{ℕ, ◌<◌}
 use mathlib.Core.Path.{◌≡◌, sym}
 use native.Mathlib.Omega.{arith}
@@ -15,6 +14,7 @@ use Rattle.items.specs.declared.value.Value.TheVariants.{From, No}
 use Rattle.items.proofs.value.value_at.Goals.{After-kind_of}
 use Rattle.items.proofs.value.value_at.Goals as goal
 
+-- the kind that was found, as the definitions have it
 kind : (c : After-kind_of) (k : Kind) → c.kind_of.result ≡ k
     → kind_of (get_or c.args.s.now c.args.at 0)
     ≡ kind_as (width_in (get_or c.args.s.now c.args.at 0)) k

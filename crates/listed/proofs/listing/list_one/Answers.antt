@@ -1,6 +1,5 @@
 -- `list_one`: the operator's record right after its attribute's.
 -- Assumes nothing.
--- past the test there is room
 use borrow.Author.Tests.{not-true, not-false, le-leb}
 use mathlib.Core.Path.{sym, refl, ◌∙◌}
 use Prim.Native.Nat.{◌+◌, ◌*◌, ◌≤◌}
@@ -10,6 +9,7 @@ use Rattle.listed.proofs.Listed.{room-few, room-is, one-listed}
 use Rattle.listed.proofs.listing.list_one.Goals.{Else-not-has_room}
 use Rattle.listed.proofs.listing.list_one.Goals as goal
 
+-- past the test there is room
 room : (c : Else-not-has_room)
     → let a = c.args in
     (a.records + 2) * 16 ≤ length a.list.now

@@ -1,6 +1,5 @@
 -- `list_operator`: the operator's record right after its attributes'.
 -- Assumes nothing.
--- past the test there is room
 use borrow.Author.Tests.{not-true, not-false}
 use mathlib.Core.Path.{◌≡◌, refl, sym, ◌∙◌}
 use mathlib.Core.Bool.{true, false}
@@ -14,6 +13,7 @@ use Rattle.listed.proofs.Listed.{room-is, operator-listed, listed-whole}
 use Rattle.listed.proofs.listing.list_operator.Goals.{Else-not-has_room}
 use Rattle.listed.proofs.listing.list_operator.Goals as goal
 
+-- past the test there is room
 room : (c : Else-not-has_room)
     → let a = c.args in
     (a.n ≤ 16) × ((a.records + suc a.n) * 16 ≤ length a.list.now)

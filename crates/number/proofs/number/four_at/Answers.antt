@@ -1,6 +1,5 @@
 -- `four_at`: two halves, by the one fact over width and byte order.
 -- Assumes nothing.
--- the number by its halves
 use Prim.Native.Nat.{ℕ, ◌+◌, ◌*◌}
 use mathlib.Core.Path.{◌≡◌, refl}
 use mathlib.Core.Bool.{Bool}
@@ -11,6 +10,7 @@ use Rattle.scope.specs.Number.{number}
 use Rattle.number.proofs.Digits.{halves}
 use Rattle.number.proofs.number.four_at.Goals as goal
 
+-- the number by its halves
 by-halves : (high : Bool) (s : List ℕ) (at : ℕ) → number high 4 s at ≡ pick high (number high 2 s at * 65536 + number high 2 s (at + 2)) (number high 2 s (at + 2) * 65536 + number high 2 s at)
 by-halves high s at = halves high 2 s at
 

@@ -1,6 +1,5 @@
 -- `two_at`: two halves, by the one fact over width and byte order.
 -- Assumes nothing.
--- the number by its halves
 use Prim.Native.Nat.{ℕ, ◌+◌, ◌*◌}
 use mathlib.Core.Path.{◌≡◌, refl, ◌∙◌}
 use mathlib.Core.Bool.{Bool}
@@ -12,6 +11,7 @@ use Rattle.scope.specs.Number.{number}
 use Rattle.number.proofs.Digits.{halves, one-digit}
 use Rattle.number.proofs.number.two_at.Goals as goal
 
+-- the number by its halves
 by-halves : (high : Bool) (s : List ℕ) (at : ℕ) → number high 2 s at ≡ pick high (get_or s at 0 * 256 + get_or s (at + 1) 0) (get_or s (at + 1) 0 * 256 + get_or s at 0)
 by-halves high s at = halves high 1 s at ∙ rw (one-digit high s at, one-digit high s (at + 1)) refl
 

@@ -1,6 +1,5 @@
 -- `open_one`: what was read is what the definition reads where it stands; else the job stands still.
 -- Assumes nothing.
--- where the reading of an operator started
 use Prim.Native.Nat.{ℕ}
 use mathlib.Core.Path.{◌≡◌, refl, sym, ap, ◌∙◌}
 use mathlib.Core.List.{List}

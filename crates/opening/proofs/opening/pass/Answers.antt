@@ -1,6 +1,5 @@
 -- `pass`: where nothing is done the job stands still, else it is one operator more.
 -- Assumes nothing.
--- past the test there is room for its records
 use Prim.Native.Nat.{suc, ◌+◌, ◌*◌, ◌≤◌}
 use mathlib.Core.Path.{◌≡◌, refl, sym, ◌∙◌}
 use mathlib.Core.Bool.{true, false}
@@ -17,6 +16,7 @@ use Rattle.opening.proofs.Opens.{opens-none, opens_still, one_more}
 use Rattle.opening.proofs.opening.pass.Goals.{Else-not-list_operator}
 use Rattle.opening.proofs.opening.pass.Goals as goal
 
+-- past the test there is room for its records
 room : (c : Else-not-list_operator)
     → let a = c.args in
     (a.o.count ≤ 16) × ((a.st.records + suc a.o.count) * 16 ≤ length a.list.now)

@@ -1,6 +1,5 @@
 -- `operator_at` meets its contract.
 -- Assumes nothing.
--- what is read, and the array as the scan left it
 use Prim.Native.Nat.{ℕ, ◌+◌, ◌≤◌, ◌<◌}
 use mathlib.Core.Path.{◌≡◌, sym, ap, ◌∙◌}
 use mathlib.Core.Bool.{Bool, true, false}
@@ -27,6 +26,7 @@ use Rattle.reader.proofs.Lines.{after_line, line_after, rows-after, data_after}
 use Rattle.reader.proofs.reading.operator_at.Goals.{After-data_at, After-due_of, After-line_at, After-rows_fit, After-scan_at, In-At, In-Tagged}
 use Rattle.reader.proofs.reading.operator_at.Goals as goal
 
+-- what is read, and the array as the scan left it
 abbrev context : After-scan_at → Context
 context c = context_as c.args.c
 

@@ -1,6 +1,5 @@
 -- `pass_alone`: where nothing is done the run stands still, else it is one operator more.
 -- Assumes nothing.
--- past the test there is room for one record more
 use Prim.Native.Nat.{◌+◌, ◌*◌, ◌≤◌}
 use mathlib.Core.Path.{◌≡◌, refl, sym, ◌∙◌}
 use mathlib.Core.Bool.{true, false}
@@ -12,6 +11,7 @@ use Rattle.running.proofs.Runs.{runs_none, runs-still, one-alone}
 use Rattle.running.proofs.running.pass_alone.Goals.{Else-not-list_alone}
 use Rattle.running.proofs.running.pass_alone.Goals as goal
 
+-- past the test there is room for one record more
 room : (c : Else-not-list_alone)
     → let a = c.args in
     (a.from.records + 1) * 16 ≤ length a.list.now

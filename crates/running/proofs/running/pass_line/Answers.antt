@@ -1,6 +1,5 @@
 -- `pass_line`: where nothing is done the run stands still, else it is one line more.
 -- Assumes nothing.
--- there is a line up to the operator that was found
 use Prim.Native.Nat.{◌+◌, ◌*◌, ◌≤◌, ◌<◌}
 use mathlib.Core.Path.{◌≡◌, sym, ◌∙◌}
 use mathlib.Core.Bool.{true, false}
@@ -13,6 +12,7 @@ use Rattle.running.proofs.Runs.{runs-still, one_line}
 use Rattle.running.proofs.running.pass_line.Goals.{Else-not-list_one, In-At}
 use Rattle.running.proofs.running.pass_line.Goals as goal
 
+-- there is a line up to the operator that was found
 found : (c : In-At)
     → let a = c.args in
     Line a.high a.job.now a.at c.in-At.op

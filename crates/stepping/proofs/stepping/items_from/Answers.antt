@@ -1,6 +1,5 @@
 -- `items_from`: what opens the job leads where the definition comes to from its start; there the job is over, or it goes on with the tables.
 -- Assumes nothing.
--- where the opening started
 use Prim.Native.Nat.{◌*◌, ◌≤◌}
 use mathlib.Core.Path.{refl, sym, ◌∙◌}
 use native.Mathlib.Omega.{arith}

@@ -1,6 +1,5 @@
 -- `own_row`: each of its own lines is the line of the table with its operator, by computing.
 -- Assumes nothing.
--- the last of them is SetDefaultGS
 use mathlib.Core.Path.{◌≡◌, refl, sym}
 use mathlib.Core.Bool.{true, false, true≢false}
 use lib.Dec.{eqb}
@@ -13,6 +12,7 @@ use Rattle.scope.specs.Table.{table_two, line_in}
 use Rattle.table.specs.Lines.{own_lines, must_in, numbers_in, up_to_no}
 use Rattle.table.proofs.table.own_row.Goals as goal
 
+-- the last of them is SetDefaultGS
 last : (tag : ℕ) → eqb tag 0x43 ≡ false → eqb tag 0xb1 ≡ false → eqb tag 0xb4 ≡ false → among own_lines tag ≡ true → tag ≡ 0x57
 unfolding among
 last tag a b d t = eqb-true tag 0x57 (by (eqb tag 0x57) (rw (a, b, d) at t))

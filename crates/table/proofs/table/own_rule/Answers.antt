@@ -1,6 +1,5 @@
 -- `own_rule`: each of its own attributes has the values that the table gives it, by computing.
 -- Assumes nothing.
--- the last of them is BlockByteLength
 use mathlib.Core.Path.{◌≡◌, refl, sym}
 use mathlib.Core.Bool.{true, false, true≢false}
 use lib.Dec.{eqb}
@@ -12,6 +11,7 @@ use Rattle.scope.specs.Table.{table_two, table, rule_in}
 use Rattle.table.specs.Lines.{own_rules, rules_in, rule_of}
 use Rattle.table.proofs.table.own_rule.Goals as goal
 
+-- the last of them is BlockByteLength
 last : (n : ℕ) → eqb n 40 ≡ false → eqb n 37 ≡ false → eqb n 39 ≡ false → eqb n 110 ≡ false → among own_rules n ≡ true → n ≡ 111
 unfolding among
 last n a b c d t = eqb-true n 111 (by (eqb n 111) (rw (a, b, c, d) at t))

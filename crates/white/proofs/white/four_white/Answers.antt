@@ -1,6 +1,5 @@
 -- `four_white`: four bytes whose number is that of four white ones are these.
 -- Assumes nothing.
--- each of the four is a byte
 use Prim.Native.Nat.{◌+◌, ◌<◌}
 use mathlib.Core.Path.{refl}
 use mathlib.Core.Bool.{false≢true}
@@ -12,6 +11,7 @@ use Rattle.white.proofs.Spaces.{after-four, all-20, all-00}
 use Rattle.white.proofs.white.four_white.Goals.{After-shared_slice_known-4-1}
 use Rattle.white.proofs.white.four_white.Goals as goal
 
+-- each of the four is a byte
 bytes : (c : After-shared_slice_known-4-1)
     → let a = c.args in
     (get_or a.s.now a.p 0 < 256) × (get_or a.s.now (a.p + 1) 0 < 256) × (get_or a.s.now (a.p + 2) 0 < 256) × (get_or a.s.now (a.p + 3) 0 < 256)

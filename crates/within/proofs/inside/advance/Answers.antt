@@ -1,6 +1,5 @@
 -- `advance` meets its contract.
 -- Assumes nothing.
--- what was read is what the definition reads where it stands
 use lib.ListN.{length}
 use mathlib.Core.List.{List}
 use mathlib.Core.Path.{refl, sym, ◌∙◌, ◌≡◌}
@@ -17,6 +16,7 @@ use Rattle.within.proofs.Noting.{call-notes}
 use Rattle.within.proofs.inside.advance.Goals.{After-operator_at}
 use Rattle.within.proofs.inside.advance.Goals as goal
 
+-- what was read is what the definition reads where it stands
 read_is : (c : After-operator_at) (ms : List Motif) (w : scope.Inside) → length c.args.attrs.now ≡ 80
     → Follows c.args.motifs.now ms c.args.inside w
     → operator_at (context_in (setting_as c.args.set) w) c.args.s.now w.at ≡ read_as c.operator_at.result c.operator_at.new.attrs

@@ -1,6 +1,5 @@
 -- `call`: the search finds the row of the name, which the table sums up; or none, and then the name performs nothing.
 -- Assumes nothing.
--- the row that was found is one of 64
 use Prim.Native.Nat.{ℕ, ◌+◌, ◌-◌, ◌≤◌, ◌<◌}
 use mathlib.Core.Path.{◌≡◌}
 use mathlib.Core.List.{List}
@@ -11,6 +10,7 @@ use Rattle.within.proofs.Turning.{call_none, call_at}
 use Rattle.within.proofs.inside.call.Goals.{In-At}
 use Rattle.within.proofs.inside.call.Goals as goal
 
+-- the row that was found is one of 64
 few : (c : In-At) → c.in-At.i < 64
 few c = rw c.in-At.is at c.find.ensures.row
 
