@@ -172,11 +172,10 @@ struct dieuvakhop_verdict {
  * The same job with buffers of the same lengths and the same start gets the
  * same verdict and the same records. Nothing is kept from one call to the next.
  *
- * What it takes of the machine (`examples/measure` measures it; these are of
- * the kit that the library was first written for):
- *   - stack: 19,192 bytes at most over the jobs of crates/explain/data; there is
+ * What it takes of the machine (`examples/measure` measures it):
+ *   - stack: 19,256 bytes at most over the jobs of crates/explain/data; there is
  *     no recursion, and no memory but what is lent;
- *   - code and constants: 33,649 bytes; no data that is written;
+ *   - code and constants: 37,104 bytes; no data that is written;
  *   - alignment: none, each buffer may begin at any address;
  *   - re-entrant: it may run in several threads at once, or be interrupted by
  *     another call, as long as no two calls share `work` or `list`;
