@@ -28,61 +28,37 @@ enum Word {
     Name,
 }
 
-// What four letters are.
-fn four(a: u8, b: u8, c: u8, d: u8) -> Word {
-    if a != b'l' {
-        return Word::Name;
-    }
-    if b != b'i' {
-        return Word::Name;
-    }
-    if c != b's' {
-        return Word::Name;
-    }
-    if d == b't' { Word::List } else { Word::Name }
-}
-
-// What three letters are.
-fn three(a: u8, b: u8, c: u8) -> Word {
-    if a != b'r' {
-        return Word::Name;
-    }
-    if b != b'g' {
-        return Word::Name;
-    }
-    if c == b'b' { Word::Rgb } else { Word::Name }
-}
-
-// What argument i is.
+// What argument i is; what is longer than the words is a name.
 fn word_at<E: Env>(rt: &E, i: usize) -> Word {
-    let mut w = [0u8; 5];
-    match rt.arg(i, &mut w) {
-        Ok(3) => three(w[0], w[1], w[2]),
-        Ok(4) => four(w[0], w[1], w[2], w[3]),
-        _ => Word::Name,
+    let mut room = [0u8; 5];
+    match rt.arg(i, &mut room) {
+        Ok(n) => match &room[..n] {
+            b"list" => Word::List,
+            b"rgb" => Word::Rgb,
+            _ => Word::Name,
+        },
+        Err(_) => Word::Name,
     }
 }
 
 // What is asked for behind argument i.
 pub fn behind<E: Env>(rt: &E, asked: Asked, i: usize) -> Asked {
-    let listed = asked.listed;
-    let gray = asked.gray;
     match word_at(rt, i) {
-        Word::List => Asked { listed: true, gray },
-        Word::Rgb => Asked {
-            listed,
-            gray: false,
+        Word::List => Asked {
+            listed: true,
+            ..asked
         },
-        Word::Name => Asked { listed, gray },
+        Word::Rgb => Asked {
+            gray: false,
+            ..asked
+        },
+        Word::Name => asked,
     }
 }
 
 // Whether argument i is a name.
 pub fn is_name<E: Env>(rt: &E, i: usize) -> bool {
-    match word_at(rt, i) {
-        Word::Name => true,
-        _ => false,
-    }
+    matches!(word_at(rt, i), Word::Name)
 }
 
 // Says how to ask for the other start, in which a job has no fault of its colours.

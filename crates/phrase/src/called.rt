@@ -1,344 +1,247 @@
 // The names of operators and attributes as text.
 use std::io;
-use text::line;
+use text::say;
 use words::{AttributeName, OperatorName};
 
-// How many names there are.
-const OPERATORS: usize = 32;
-
-const ATTRIBUTES: usize = 37;
-
-// The line of an operator's name in the text below.
-fn operator_line(name: OperatorName) -> usize {
-    match name {
-        OperatorName::BeginSession => 0,
-        OperatorName::EndSession => 1,
-        OperatorName::BeginPage => 2,
-        OperatorName::EndPage => 3,
-        OperatorName::Comment => 4,
-        OperatorName::OpenDataSource => 5,
-        OperatorName::CloseDataSource => 6,
-        OperatorName::SetDefaultGS => 7,
-        OperatorName::BeginStream => 8,
-        OperatorName::ReadStream => 9,
-        OperatorName::EndStream => 10,
-        OperatorName::ExecStream => 11,
-        OperatorName::PopGS => 12,
-        OperatorName::PushGS => 13,
-        OperatorName::SetBrushSource => 14,
-        OperatorName::SetColorSpace => 15,
-        OperatorName::SetCursor => 16,
-        OperatorName::SetCursorRel => 17,
-        OperatorName::SetPenSource => 18,
-        OperatorName::SetPenWidth => 19,
-        OperatorName::CloseSubPath => 20,
-        OperatorName::NewPath => 21,
-        OperatorName::PaintPath => 22,
-        OperatorName::LinePath => 23,
-        OperatorName::LineRelPath => 24,
-        OperatorName::Rectangle => 25,
-        OperatorName::BeginImage => 26,
-        OperatorName::ReadImage => 27,
-        OperatorName::EndImage => 28,
-        OperatorName::BeginRastPattern => 29,
-        OperatorName::ReadRastPattern => 30,
-        OperatorName::EndRastPattern => 31,
-        OperatorName::Unknown => OPERATORS,
-    }
+// An operator of the table by its name.
+fn operator_text(name: OperatorName) -> Option<&'static str> {
+    Some(match name {
+        OperatorName::BeginSession => "BeginSession",
+        OperatorName::EndSession => "EndSession",
+        OperatorName::BeginPage => "BeginPage",
+        OperatorName::EndPage => "EndPage",
+        OperatorName::Comment => "Comment",
+        OperatorName::OpenDataSource => "OpenDataSource",
+        OperatorName::CloseDataSource => "CloseDataSource",
+        OperatorName::SetDefaultGS => "SetDefaultGS",
+        OperatorName::BeginStream => "BeginStream",
+        OperatorName::ReadStream => "ReadStream",
+        OperatorName::EndStream => "EndStream",
+        OperatorName::ExecStream => "ExecStream",
+        OperatorName::PopGS => "PopGS",
+        OperatorName::PushGS => "PushGS",
+        OperatorName::SetBrushSource => "SetBrushSource",
+        OperatorName::SetColorSpace => "SetColorSpace",
+        OperatorName::SetCursor => "SetCursor",
+        OperatorName::SetCursorRel => "SetCursorRel",
+        OperatorName::SetPenSource => "SetPenSource",
+        OperatorName::SetPenWidth => "SetPenWidth",
+        OperatorName::CloseSubPath => "CloseSubPath",
+        OperatorName::NewPath => "NewPath",
+        OperatorName::PaintPath => "PaintPath",
+        OperatorName::LinePath => "LinePath",
+        OperatorName::LineRelPath => "LineRelPath",
+        OperatorName::Rectangle => "Rectangle",
+        OperatorName::BeginImage => "BeginImage",
+        OperatorName::ReadImage => "ReadImage",
+        OperatorName::EndImage => "EndImage",
+        OperatorName::BeginRastPattern => "BeginRastPattern",
+        OperatorName::ReadRastPattern => "ReadRastPattern",
+        OperatorName::EndRastPattern => "EndRastPattern",
+        OperatorName::Unknown => return None,
+    })
 }
 
-// The line of an attribute's name in the text below.
-fn attribute_line(name: AttributeName) -> usize {
-    match name {
-        AttributeName::ColorSpace => 0,
-        AttributeName::NullBrush => 1,
-        AttributeName::NullPen => 2,
-        AttributeName::PatternSelectID => 3,
-        AttributeName::GrayLevel => 4,
-        AttributeName::RGBColor => 5,
-        AttributeName::MediaSize => 6,
-        AttributeName::MediaSource => 7,
-        AttributeName::MediaType => 8,
-        AttributeName::Orientation => 9,
-        AttributeName::PageCopies => 10,
-        AttributeName::BoundingBox => 11,
-        AttributeName::EndPoint => 12,
-        AttributeName::PenWidth => 13,
-        AttributeName::Point => 14,
-        AttributeName::NumberOfPoints => 15,
-        AttributeName::PointType => 16,
-        AttributeName::ColorDepth => 17,
-        AttributeName::BlockHeight => 18,
-        AttributeName::ColorMapping => 19,
-        AttributeName::CompressMode => 20,
-        AttributeName::DestinationSize => 21,
-        AttributeName::PatternPersistence => 22,
-        AttributeName::PatternDefineID => 23,
-        AttributeName::SourceHeight => 24,
-        AttributeName::SourceWidth => 25,
-        AttributeName::StartLine => 26,
-        AttributeName::PadBytesMultiple => 27,
-        AttributeName::BlockByteLength => 28,
-        AttributeName::CommentData => 29,
-        AttributeName::DataOrg => 30,
-        AttributeName::Measure => 31,
-        AttributeName::SourceType => 32,
-        AttributeName::UnitsPerMeasure => 33,
-        AttributeName::StreamName => 34,
-        AttributeName::StreamDataLength => 35,
-        AttributeName::ErrorReport => 36,
-        AttributeName::Unknown => ATTRIBUTES,
-    }
+// An attribute of the table by its name.
+fn attribute_text(name: AttributeName) -> Option<&'static str> {
+    Some(match name {
+        AttributeName::ColorSpace => "ColorSpace",
+        AttributeName::NullBrush => "NullBrush",
+        AttributeName::NullPen => "NullPen",
+        AttributeName::PatternSelectID => "PatternSelectID",
+        AttributeName::GrayLevel => "GrayLevel",
+        AttributeName::RGBColor => "RGBColor",
+        AttributeName::MediaSize => "MediaSize",
+        AttributeName::MediaSource => "MediaSource",
+        AttributeName::MediaType => "MediaType",
+        AttributeName::Orientation => "Orientation",
+        AttributeName::PageCopies => "PageCopies",
+        AttributeName::BoundingBox => "BoundingBox",
+        AttributeName::EndPoint => "EndPoint",
+        AttributeName::PenWidth => "PenWidth",
+        AttributeName::Point => "Point",
+        AttributeName::NumberOfPoints => "NumberOfPoints",
+        AttributeName::PointType => "PointType",
+        AttributeName::ColorDepth => "ColorDepth",
+        AttributeName::BlockHeight => "BlockHeight",
+        AttributeName::ColorMapping => "ColorMapping",
+        AttributeName::CompressMode => "CompressMode",
+        AttributeName::DestinationSize => "DestinationSize",
+        AttributeName::PatternPersistence => "PatternPersistence",
+        AttributeName::PatternDefineID => "PatternDefineID",
+        AttributeName::SourceHeight => "SourceHeight",
+        AttributeName::SourceWidth => "SourceWidth",
+        AttributeName::StartLine => "StartLine",
+        AttributeName::PadBytesMultiple => "PadBytesMultiple",
+        AttributeName::BlockByteLength => "BlockByteLength",
+        AttributeName::CommentData => "CommentData",
+        AttributeName::DataOrg => "DataOrg",
+        AttributeName::Measure => "Measure",
+        AttributeName::SourceType => "SourceType",
+        AttributeName::UnitsPerMeasure => "UnitsPerMeasure",
+        AttributeName::StreamName => "StreamName",
+        AttributeName::StreamDataLength => "StreamDataLength",
+        AttributeName::ErrorReport => "ErrorReport",
+        AttributeName::Unknown => return None,
+    })
 }
 
-fn operator_names<P: Print>(out: &P, k: usize) -> io::Result<()> {
-    line(
-        out,
-        b"BeginSession
-EndSession
-BeginPage
-EndPage
-Comment
-OpenDataSource
-CloseDataSource
-SetDefaultGS
-BeginStream
-ReadStream
-EndStream
-ExecStream
-PopGS
-PushGS
-SetBrushSource
-SetColorSpace
-SetCursor
-SetCursorRel
-SetPenSource
-SetPenWidth
-CloseSubPath
-NewPath
-PaintPath
-LinePath
-LineRelPath
-Rectangle
-BeginImage
-ReadImage
-EndImage
-BeginRastPattern
-ReadRastPattern
-EndRastPattern
-",
-        k,
-    )
+// One of the reference's other operators.
+fn foreign_operator(tag: u8) -> Option<&'static str> {
+    Some(match tag {
+        0x4f => "BeginFontHeader",
+        0x50 => "ReadFontHeader",
+        0x51 => "EndFontHeader",
+        0x52 => "BeginChar",
+        0x53 => "ReadChar",
+        0x54 => "EndChar",
+        0x55 => "RemoveFont",
+        0x56 => "SetCharAttributes",
+        0x58 => "SetColorTreatment",
+        0x5f => "RemoveStream",
+        0x62 => "SetClipReplace",
+        0x64 => "SetCharAngle",
+        0x65 => "SetCharScale",
+        0x66 => "SetCharShear",
+        0x67 => "SetClipIntersect",
+        0x68 => "SetClipRectangle",
+        0x69 => "SetClipToPage",
+        0x6d => "SetHalftoneMethod",
+        0x6e => "SetFillMode",
+        0x6f => "SetFont",
+        0x70 => "SetLineDash",
+        0x71 => "SetLineCap",
+        0x72 => "SetLineJoin",
+        0x73 => "SetMiterLimit",
+        0x74 => "SetPageDefaultCTM",
+        0x75 => "SetPageOrigin",
+        0x76 => "SetPageRotation",
+        0x77 => "SetPageScale",
+        0x78 => "SetPatternTxMode",
+        0x7b => "SetROP",
+        0x7c => "SetSourceTxMode",
+        0x7d => "SetCharBoldValue",
+        0x7f => "SetClipMode",
+        0x80 => "SetPathToClip",
+        0x81 => "SetCharSubMode",
+        0x91 => "ArcPath",
+        0x93 => "BezierPath",
+        0x95 => "BezierRelPath",
+        0x96 => "Chord",
+        0x97 => "ChordPath",
+        0x98 => "Ellipse",
+        0x99 => "EllipsePath",
+        0x9e => "Pie",
+        0x9f => "PiePath",
+        0xa1 => "RectanglePath",
+        0xa2 => "RoundRectangle",
+        0xa3 => "RoundRectanglePath",
+        0xa8 => "Text",
+        0xa9 => "TextPath",
+        0xb6 => "BeginScan",
+        0xb8 => "EndScan",
+        0xb9 => "ScanLineRel",
+        _ => return None,
+    })
 }
 
-fn attribute_names<P: Print>(out: &P, k: usize) -> io::Result<()> {
-    line(
-        out,
-        b"ColorSpace
-NullBrush
-NullPen
-PatternSelectID
-GrayLevel
-RGBColor
-MediaSize
-MediaSource
-MediaType
-Orientation
-PageCopies
-BoundingBox
-EndPoint
-PenWidth
-Point
-NumberOfPoints
-PointType
-ColorDepth
-BlockHeight
-ColorMapping
-CompressMode
-DestinationSize
-PatternPersistence
-PatternDefineID
-SourceHeight
-SourceWidth
-StartLine
-PadBytesMultiple
-BlockByteLength
-CommentData
-DataOrg
-Measure
-SourceType
-UnitsPerMeasure
-StreamName
-StreamDataLength
-ErrorReport
-",
-        k,
-    )
-}
-
-// The reference's other operators, each behind its tag.
-fn foreign_operator<P: Print>(out: &P, tag: u8) -> io::Result<bool> {
-    text::keyed(
-        out,
-        b"\x4fBeginFontHeader
-\x50ReadFontHeader
-\x51EndFontHeader
-\x52BeginChar
-\x53ReadChar
-\x54EndChar
-\x55RemoveFont
-\x56SetCharAttributes
-\x58SetColorTreatment
-\x5fRemoveStream
-\x62SetClipReplace
-\x64SetCharAngle
-\x65SetCharScale
-\x66SetCharShear
-\x67SetClipIntersect
-\x68SetClipRectangle
-\x69SetClipToPage
-\x6dSetHalftoneMethod
-\x6eSetFillMode
-\x6fSetFont
-\x70SetLineDash
-\x71SetLineCap
-\x72SetLineJoin
-\x73SetMiterLimit
-\x74SetPageDefaultCTM
-\x75SetPageOrigin
-\x76SetPageRotation
-\x77SetPageScale
-\x78SetPatternTxMode
-\x7bSetROP
-\x7cSetSourceTxMode
-\x7dSetCharBoldValue
-\x7fSetClipMode
-\x80SetPathToClip
-\x81SetCharSubMode
-\x91ArcPath
-\x93BezierPath
-\x95BezierRelPath
-\x96Chord
-\x97ChordPath
-\x98Ellipse
-\x99EllipsePath
-\x9ePie
-\x9fPiePath
-\xa1RectanglePath
-\xa2RoundRectangle
-\xa3RoundRectanglePath
-\xa8Text
-\xa9TextPath
-\xb6BeginScan
-\xb8EndScan
-\xb9ScanLineRel
-",
-        tag,
-    )
-}
-
-// The reference's other attributes, each behind its number.
-fn foreign_attribute<P: Print>(out: &P, n: u8) -> io::Result<bool> {
-    text::keyed(
-        out,
-        b"\x02PaletteDepth
-\x06PaletteData
-\x0cPatternOrigin
-\x0dNewDestinationSize
-\x21DeviceMatrix
-\x22DitherMatrixDataType
-\x23DitherOrigin
-\x24MediaDestination
-\x29PageAngle
-\x2aPageOrigin
-\x2bPageScale
-\x2cROP3
-\x2dTxMode
-\x2fCustomMediaSize
-\x30CustomMediaSizeUnits
-\x32DitherMatrixSize
-\x33DitherMatrixDepth
-\x34SimplexPageMode
-\x35DuplexPageMode
-\x36DuplexPageSide
-\x41ArcDirection
-\x43DashOffset
-\x44EllipseDimension
-\x46FillMode
-\x47LineCapStyle
-\x48LineJoinStyle
-\x49MiterLength
-\x4aPenDashStyle
-\x4eSolidLine
-\x4fStartPoint
-\x51ControlPoint1
-\x52ControlPoint2
-\x53ClipRegion
-\x54ClipMode
-\x66DestinationBox
-\x71XStart
-\x72XEnd
-\x73NumberOfScanLines
-\xa1CharAngle
-\xa2CharCode
-\xa3CharDataSize
-\xa4CharScale
-\xa5CharShear
-\xa6CharSize
-\xa7FontHeaderLength
-\xa8FontName
-\xa9FontFormat
-\xaaSymbolSet
-\xabTextData
-\xacCharSubModeArray
-\xafXSpacingData
-\xb0YSpacingData
-\xb1CharBoldValue
-",
-        n,
-    )
+// One of the reference's other attributes.
+fn foreign_attribute(n: u8) -> Option<&'static str> {
+    Some(match n {
+        2 => "PaletteDepth",
+        6 => "PaletteData",
+        12 => "PatternOrigin",
+        13 => "NewDestinationSize",
+        33 => "DeviceMatrix",
+        34 => "DitherMatrixDataType",
+        35 => "DitherOrigin",
+        36 => "MediaDestination",
+        41 => "PageAngle",
+        42 => "PageOrigin",
+        43 => "PageScale",
+        44 => "ROP3",
+        45 => "TxMode",
+        47 => "CustomMediaSize",
+        48 => "CustomMediaSizeUnits",
+        50 => "DitherMatrixSize",
+        51 => "DitherMatrixDepth",
+        52 => "SimplexPageMode",
+        53 => "DuplexPageMode",
+        54 => "DuplexPageSide",
+        65 => "ArcDirection",
+        67 => "DashOffset",
+        68 => "EllipseDimension",
+        70 => "FillMode",
+        71 => "LineCapStyle",
+        72 => "LineJoinStyle",
+        73 => "MiterLength",
+        74 => "PenDashStyle",
+        78 => "SolidLine",
+        79 => "StartPoint",
+        81 => "ControlPoint1",
+        82 => "ControlPoint2",
+        83 => "ClipRegion",
+        84 => "ClipMode",
+        102 => "DestinationBox",
+        113 => "XStart",
+        114 => "XEnd",
+        115 => "NumberOfScanLines",
+        161 => "CharAngle",
+        162 => "CharCode",
+        163 => "CharDataSize",
+        164 => "CharScale",
+        165 => "CharShear",
+        166 => "CharSize",
+        167 => "FontHeaderLength",
+        168 => "FontName",
+        169 => "FontFormat",
+        170 => "SymbolSet",
+        171 => "TextData",
+        172 => "CharSubModeArray",
+        175 => "XSpacingData",
+        176 => "YSpacingData",
+        177 => "CharBoldValue",
+        _ => return None,
+    })
 }
 
 // Says a tag that the table does not have: its name, if the reference has one, and its byte.
 fn unknown_operator<P: Print>(out: &P, tag: u8) -> io::Result<()> {
-    if foreign_operator(out, tag)? {
-        text::say(out, b", ")?;
+    if let Some(name) = foreign_operator(tag) {
+        print!(out; "{name}, ")?;
     }
     text::byte(out, tag)
 }
 
 // Says the operator of a tag.
 pub fn operator<P: Print>(out: &P, tag: u8) -> io::Result<()> {
-    let k = operator_line(words::operator_of(tag));
-    if k == OPERATORS {
-        return unknown_operator(out, tag);
+    match operator_text(words::operator_of(tag)) {
+        Some(name) => out.print(name),
+        None => unknown_operator(out, tag),
     }
-    operator_names(out, k)
 }
 
 // Says an attribute's number that the table does not have: its name, if the reference has one, and the number.
 fn unknown_attribute<P: Print>(out: &P, n: u8) -> io::Result<()> {
-    if foreign_attribute(out, n)? {
-        text::say(out, b", ")?;
+    if let Some(name) = foreign_attribute(n) {
+        print!(out; "{name}, ")?;
     }
-    text::say(out, b"number ")?;
-    text::number(out, n as u32)
+    numbered(out, u16::from(n))
 }
 
-// Says the attribute of a number of one byte.
-fn known_attribute<P: Print>(out: &P, n: u8) -> io::Result<()> {
-    let k = attribute_line(words::attribute_of(n));
-    if k == ATTRIBUTES {
-        return unknown_attribute(out, n);
-    }
-    attribute_names(out, k)
+// Says an attribute by its number.
+fn numbered<P: Print>(out: &P, n: u16) -> io::Result<()> {
+    say(out, b"number ")?;
+    text::number(out, u32::from(n))
 }
 
 // Says an attribute; its number may have two bytes.
 pub fn attribute<P: Print>(out: &P, n: usize) -> io::Result<()> {
-    if n < 256 {
-        return known_attribute(out, (n % 256) as u8);
+    let Ok(short) = u8::try_from(n) else {
+        return numbered(out, (n % 65_536) as u16);
+    };
+    match attribute_text(words::attribute_of(short)) {
+        Some(name) => out.print(name),
+        None => unknown_attribute(out, short),
     }
-    text::say(out, b"number ")?;
-    text::number(out, (n % 65_536) as u32)
 }

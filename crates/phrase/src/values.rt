@@ -6,10 +6,7 @@ use text::{number, real, say};
 
 // The place k bytes on; a place that no job has stays as it is.
 pub fn after(at: usize, k: usize) -> usize {
-    if 1_000_000 < at {
-        return at;
-    }
-    if 1_000_000 < k {
+    if 1_000_000 < at || 1_000_000 < k {
         return at;
     }
     at + k
@@ -57,30 +54,18 @@ fn one<P: Print>(out: &P, s: &[u8], high: bool, tag: u8, at: usize) -> io::Resul
 fn numbers<P: Print>(out: &P, s: &[u8], tag: u8, count: u32, first: usize) -> io::Result<()> {
     let high = number::byte_at(s, 0) == 0x28;
     let mut at = first;
-    let mut i: u32 = 0;
-    while i < count {
+    for i in 0..count {
         if i != 0 {
             say(out, b" ")?;
         }
         at = one(out, s, high, tag, at)?;
-        i += 1;
     }
     Ok(())
 }
 
 // Whether a value is said by its numbers: few, and of a type that an attribute takes.
 fn is_short(tag: u8, count: u32) -> bool {
-    if 16 < count {
-        return false;
-    }
-    match tag % 8 {
-        0 => true,
-        1 => true,
-        2 => true,
-        3 => true,
-        5 => true,
-        _ => false,
-    }
+    count <= 16 && matches!(tag % 8, 0..=3 | 5)
 }
 
 // Says the value of so many numbers, whose first stands at a place.

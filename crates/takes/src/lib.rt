@@ -68,37 +68,26 @@ fn values<P: Print>(out: &P, kind: Kind, low: usize, high: usize) -> io::Result<
 // The values that an attribute takes in a class.
 pub fn takes<P: Print>(out: &P, class: Class, n: usize) -> io::Result<()> {
     let rule = table::rule_of(class, (n % 256) as u8);
-    let kind = rule.kind;
     attribute(out, n)?;
-    values(out, kind, rule.low, rule.high)
-}
-
-// Says an attribute of a line, if there is one, behind a comma if it is not the first; the answer is whether one was said.
-fn one<P: Print>(out: &P, n: u8, before: bool) -> io::Result<bool> {
-    if n == table::NO {
-        return Ok(before);
-    }
-    if before {
-        say(out, b", ")?;
-    }
-    attribute(out, n as usize)?;
-    Ok(true)
+    values(out, rule.kind, rule.low, rule.high)
 }
 
 // Says the attributes that an operator takes in a class.
 pub fn all_of<P: Print>(out: &P, class: Class, tag: u8) -> io::Result<()> {
     let row = table::row_of(class, tag);
-    let numbers = row.numbers;
     operator(out, tag)?;
     say(out, b" takes ")?;
-    let a = one(out, numbers[0], false)?;
-    let b = one(out, numbers[1], a)?;
-    let c = one(out, numbers[2], b)?;
-    let d = one(out, numbers[3], c)?;
-    let e = one(out, numbers[4], d)?;
-    let f = one(out, numbers[5], e)?;
-    let g = one(out, numbers[6], f)?;
-    if !one(out, numbers[7], g)? {
+    let mut before = false;
+    for n in row.numbers {
+        if n != table::NO {
+            if before {
+                say(out, b", ")?;
+            }
+            attribute(out, usize::from(n))?;
+            before = true;
+        }
+    }
+    if !before {
         say(out, b"no attribute")?;
     }
     Ok(())
@@ -110,13 +99,13 @@ fn rows_of<P: Print>(out: &P, class: Class) -> io::Result<()> {
         out,
         b"let StartLine be the rows so far, and send no more rows than SourceHeight",
     )?;
-    match class {
-        Class::One => Ok(()),
-        Class::Two => say(
+    if let Class::Two = class {
+        say(
             out,
             b"; let BlockByteLength, if it is there, be the length of the data",
-        ),
+        )?;
     }
+    Ok(())
 }
 
 // Says what an operator with a choice of attributes may have in a class.
@@ -127,8 +116,7 @@ pub fn choice<P: Print>(out: &P, class: Class, tag: u8) -> io::Result<()> {
             b"give one of RGBColor, GrayLevel, NullBrush and PatternSelectID",
         ),
         SET_PEN_SOURCE => say(out, b"give one of RGBColor, GrayLevel and NullPen"),
-        READ_IMAGE => rows_of(out, class),
-        READ_RAST_PATTERN => rows_of(out, class),
+        READ_IMAGE | READ_RAST_PATTERN => rows_of(out, class),
         _ => say(out, b"give EndPoint alone, or NumberOfPoints and PointType"),
     }
 }

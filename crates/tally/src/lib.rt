@@ -18,7 +18,8 @@ pub enum Outcome {
     Unread,
 }
 
-#[derive(Clone, Copy)]
+// How many files came to each.
+#[derive(Clone, Copy, PartialEq, Eq)]
 pub struct Tally {
     pub passed: u32,
     pub refused: u32,
@@ -36,59 +37,35 @@ pub fn none() -> Tally {
 
 // One more; past a million it stays.
 fn more(n: u32) -> u32 {
-    if n < 1_000_000 { n + 1 } else { n }
+    n.saturating_add(1).min(1_000_000)
 }
 
 // The tally with a file more.
 pub fn with(t: Tally, outcome: Outcome) -> Tally {
-    let passed = t.passed;
-    let refused = t.refused;
-    let unread = t.unread;
     match outcome {
         Outcome::Passed => Tally {
-            passed: more(passed),
-            refused,
-            unread,
+            passed: more(t.passed),
+            ..t
         },
         Outcome::Refused => Tally {
-            passed,
-            refused: more(refused),
-            unread,
+            refused: more(t.refused),
+            ..t
         },
         Outcome::Unread => Tally {
-            passed,
-            refused,
-            unread: more(unread),
+            unread: more(t.unread),
+            ..t
         },
     }
 }
 
 // No file was named.
 pub fn is_none(t: Tally) -> bool {
-    if t.passed != 0 {
-        return false;
-    }
-    if t.refused != 0 {
-        return false;
-    }
-    t.unread == 0
+    t == none()
 }
 
 // More than one file was named.
 pub fn are_several(t: Tally) -> bool {
-    if 1 < t.passed {
-        return true;
-    }
-    if 1 < t.refused {
-        return true;
-    }
-    if 1 < t.unread {
-        return true;
-    }
-    if t.passed == t.refused {
-        return t.passed == 1;
-    }
-    t.unread == 1
+    1 < u64::from(t.passed) + u64::from(t.refused) + u64::from(t.unread)
 }
 
 // The last line of several files.
@@ -107,31 +84,27 @@ pub fn total<P: Print>(out: &P, t: Tally) -> io::Result<()> {
 
 // The status for whoever started the program, as one digit on descriptor 3: 2 if a file was not read, 1 if one is refused, 0 if all pass.
 pub fn status<R: Files>(rt: &R, t: Tally) {
-    if t.unread != 0 {
-        digit(rt, b"2");
-        return;
-    }
-    if t.refused != 0 {
-        digit(rt, b"1");
-        return;
-    }
-    digit(rt, b"0");
+    let digit = if t.unread != 0 {
+        b'2'
+    } else if t.refused != 0 {
+        b'1'
+    } else {
+        b'0'
+    };
+    hand_on(rt, digit);
 }
 
 // A digit on descriptor 3; where that is not open for writing, or takes none, nothing.
-fn digit<R: Files>(rt: &R, one: &[u8]) {
+fn hand_on<R: Files>(rt: &R, digit: u8) {
     if !is_writable(rt, STATUS) {
         return;
     }
     if let Ok(mut to) = OpenOptions::new().append(true).open(rt, STATUS) {
-        let _ = to.write_all(one);
+        let _ = to.write_all(&[digit]);
     }
 }
 
 // Whether the descriptor of a path is open for writing: the link that stands for it has a bit that says so.
 fn is_writable<R: Files>(rt: &R, path: &str) -> bool {
-    match fs::symlink_metadata(rt, path) {
-        Ok(link) => !link.permissions().readonly(),
-        Err(_) => false,
-    }
+    fs::symlink_metadata(rt, path).is_ok_and(|link| !link.permissions().readonly())
 }

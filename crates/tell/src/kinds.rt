@@ -21,8 +21,7 @@ const ZEROS: usize = 65;
 fn begun(a: u8, b: u8) -> usize {
     match a {
         0x00 => ZEROS,
-        0x1b => PJL,
-        b'@' => PJL,
+        0x1b | b'@' => PJL,
         b'%' => PDF,
         0x89 => PNG,
         b'h' => notation(b),
@@ -43,7 +42,7 @@ fn in_header(b: u8) -> usize {
 
 // The line of code 2 at a place.
 pub fn kind_line(s: &[u8], at: usize) -> usize {
-    if s.len() == 0 {
+    if s.is_empty() {
         return EMPTY;
     }
     if at == 0 {

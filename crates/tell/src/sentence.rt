@@ -14,20 +14,19 @@ fn lasting<P: Print>(out: &P, session: bool) -> io::Result<()> {
 
 // Says the fact of a letter.
 fn fact<P: Print>(out: &P, s: &[u8], f: Facts, letter: u8) -> io::Result<()> {
-    let class = f.class;
     match letter {
         b'a' => phrase::attribute(out, f.number),
         b'b' => text::byte(out, f.byte),
-        b'c' => takes::choice(out, class, f.tag),
+        b'c' => takes::choice(out, f.class, f.tag),
         b'h' => text::many(out, f.height, b"row"),
-        b'k' => takes::all_of(out, class, f.tag),
+        b'k' => takes::all_of(out, f.class, f.tag),
         b'l' => lasting(out, f.lasting),
         b'm' => phrase::attribute(out, f.missing),
         b'n' => phrase::signed(out, f.pattern),
         b'o' => phrase::operator(out, f.tag),
         b'p' => text::plain(out, f.at),
-        b'q' => takes::takes(out, class, f.missing),
-        b'r' => takes::takes(out, class, f.number),
+        b'q' => takes::takes(out, f.class, f.missing),
+        b'r' => takes::takes(out, f.class, f.number),
         b's' => text::many(out, f.saved, b"state"),
         b't' => phrase::kind(out, f.byte),
         b'u' => text::part(out, s, f.letters, f.name),
@@ -38,31 +37,18 @@ fn fact<P: Print>(out: &P, s: &[u8], f: Facts, letter: u8) -> io::Result<()> {
     }
 }
 
-// Says a letter of a sentence, behind a percent sign or not; the answer is whether it is such a sign itself.
-fn letter<P: Print>(out: &P, s: &[u8], f: Facts, gap: bool, b: u8) -> io::Result<bool> {
-    if gap {
-        fact(out, s, f, b)?;
-        return Ok(false);
-    }
-    if b == b'%' {
-        return Ok(true);
-    }
-    let one = [b];
-    text::say(out, &one)?;
-    Ok(false)
-}
-
 // Says line k of a text, its gaps filled with the facts; names and values stand in s.
 pub fn sentence<P: Print>(out: &P, lines: &[u8], k: usize, s: &[u8], f: Facts) -> io::Result<()> {
     let mut gap = false;
-    let mut at = text::start_of(lines, k);
-    while at < lines.len() {
-        let b = lines[at];
-        if b == 0x0a {
-            return Ok(());
+    for b in text::line_of(lines, k) {
+        if gap {
+            fact(out, s, f, *b)?;
+            gap = false;
+        } else if *b == b'%' {
+            gap = true;
+        } else {
+            text::say(out, &[*b])?;
         }
-        gap = letter(out, s, f, gap, b)?;
-        at += 1;
     }
     Ok(())
 }

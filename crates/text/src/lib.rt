@@ -6,7 +6,7 @@ mod named;
 mod out;
 mod reals;
 
-pub use lines::{keyed, line, start_of};
+pub use lines::{keyed, line, line_of};
 pub use named::{name, part};
 pub use out::{byte, many, number, plain, say};
 pub use reals::real;

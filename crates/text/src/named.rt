@@ -1,102 +1,57 @@
 // Names of files and motifs, so that no byte of them steers a terminal.
-use std::io;
+ghost use Rattle.std.specs.Prelude.{◌<◌, IfOk, length};
 
-fn byte_at(s: &[u8], at: usize) -> u8 {
-    if at < s.len() { s[at] } else { 0 }
-}
+use std::io;
 
 // A byte after the first of a letter in UTF-8.
 fn is_tail(b: u8) -> bool {
-    if b < 0x80 {
-        return false;
-    }
-    b <= 0xbf
+    matches!(b, 0x80..=0xbf)
 }
 
 // Two bytes begin a letter of three: not a longer form of a shorter one, not the marks that turn the direction of writing.
 fn begins_three(a: u8, b: u8) -> bool {
-    if !is_tail(b) {
-        return false;
+    match a {
+        0xe0 => matches!(b, 0xa0..=0xbf),
+        0xe2 => matches!(b, 0x82..=0xbf),
+        0xe1 | 0xe3..=0xec => is_tail(b),
+        _ => false,
     }
-    if a == 0xe0 {
-        return 0xa0 <= b;
-    }
-    if a == 0xe2 {
-        return 0x82 <= b;
-    }
-    if a < 0xe0 {
-        return false;
-    }
-    a <= 0xec
 }
 
-// Two bytes are a letter: from 0xc3 on, since 0xc2 begins the further control characters.
-fn is_two(a: u8, b: u8) -> bool {
-    if a < 0xc3 {
-        return false;
+// How many bytes at the start are a letter that is printed as it is; 0 if the first byte begins none.
+// Of two bytes they begin from 0xc3 on, since 0xc2 begins the further control characters.
+fn letter(s: &[u8]) -> usize {
+    match s {
+        [0x20..=0x7e, ..] => 1,
+        [0xc3..=0xd7, b, ..] if is_tail(*b) => 2,
+        [a, b, c, ..] if begins_three(*a, *b) && is_tail(*c) => 3,
+        _ => 0,
     }
-    if 0xd7 < a {
-        return false;
-    }
-    is_tail(b)
 }
 
-// How many bytes are a letter that is printed as it is; 0 if the byte is not the first of one.
-fn letter(s: &[u8], at: usize) -> usize {
-    let a = byte_at(s, at);
-    if 0x20 <= a {
-        if a <= 0x7e {
-            return 1;
-        }
+// Says what a name begins with: a letter as it is, any other byte as its number. The answer is the rest.
+fn glyph<'a, P: Print>(out: &P, name: &'a [u8]) -> io::Result<&'a [u8]>
+    ensures { 0 < length name.now → IfOk result (λ rest. length rest.now < length name.now) }
+{
+    let Some((first, rest)) = name.split_first() else {
+        return Ok(name);
+    };
+    let Some((letter, behind)) = name.split_at_checked(letter(name)) else {
+        return Ok(rest);
+    };
+    if letter.is_empty() {
+        print!(out; "\\x{first:02x}")?;
+        return Ok(rest);
     }
-    if 1_000_000 < at {
-        return 0;
-    }
-    let b = byte_at(s, at + 1);
-    if is_two(a, b) {
-        return 2;
-    }
-    if !begins_three(a, b) {
-        return 0;
-    }
-    if is_tail(byte_at(s, at + 2)) { 3 } else { 0 }
-}
-
-// Says a byte that is no letter.
-fn escaped<P: Print>(out: &P, b: u8) -> io::Result<()> {
-    out.write_all(b"\\x")?;
-    print!(out; "{b:02x}")
-}
-
-// Says a byte as it is.
-fn raw<P: Print>(out: &P, b: u8) -> io::Result<()> {
-    let one = [b];
-    out.write_all(&one)
-}
-
-// Says the byte at a place, where so many of its letter are left; the answer is how many are left then.
-fn glyph<P: Print>(out: &P, s: &[u8], at: usize, left: usize) -> io::Result<usize> {
-    let b = byte_at(s, at);
-    if 0 < left {
-        raw(out, b)?;
-        return Ok(left - 1);
-    }
-    let n = letter(s, at);
-    if n == 0 {
-        escaped(out, b)?;
-        return Ok(0);
-    }
-    raw(out, b)?;
-    Ok(n - 1)
+    out.write_all(letter)?;
+    Ok(behind)
 }
 
 // Says a name: letters as they are, any other byte as its number.
 pub fn name<P: Print>(out: &P, s: &[u8]) -> io::Result<()> {
-    let mut left: usize = 0;
-    let mut i: usize = 0;
-    while i < s.len() {
-        left = glyph(out, s, i, left)?;
-        i += 1;
+    let mut rest = s;
+    while !rest.is_empty() {
+        rest = glyph(out, rest)?;
     }
     Ok(())
 }
@@ -104,9 +59,9 @@ pub fn name<P: Print>(out: &P, s: &[u8]) -> io::Result<()> {
 // Says the name of so many bytes from a place on, in quotes.
 pub fn part<P: Print>(out: &P, s: &[u8], count: usize, first: usize) -> io::Result<()> {
     out.write_all(b"'")?;
-    if first <= s.len() {
-        if count <= s.len() - first {
-            name(out, &s[first..first + count])?;
+    if let Some(behind) = s.get(first..) {
+        if let Some(named) = behind.get(..count) {
+            name(out, named)?;
         }
     }
     out.write_all(b"'")

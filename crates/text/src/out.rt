@@ -10,35 +10,16 @@ pub fn plain<P: Print>(out: &P, n: u32) -> io::Result<()> {
     out.print(n)
 }
 
-// Three digits behind a comma.
-fn group<P: Print>(out: &P, n: u32) -> io::Result<()> {
-    if n < 10 {
-        say(out, b",00")?;
-    } else if n < 100 {
-        say(out, b",0")?;
-    } else {
-        say(out, b",")?;
-    }
-    plain(out, n)
-}
-
-// A number below a million.
-fn short<P: Print>(out: &P, n: u32) -> io::Result<()> {
-    if n < 1_000 {
-        return plain(out, n);
-    }
-    plain(out, n / 1_000)?;
-    group(out, n % 1_000)
-}
-
 // A number with a comma between the thousands.
 pub fn number<P: Print>(out: &P, n: u32) -> io::Result<()> {
-    if n < 1_000_000 {
-        return short(out, n);
+    let (millions, thousands, ones) = (n / 1_000_000, n / 1_000 % 1_000, n % 1_000);
+    if 1_000_000 <= n {
+        print!(out; "{millions},{thousands:03},{ones:03}")
+    } else if 1_000 <= n {
+        print!(out; "{thousands},{ones:03}")
+    } else {
+        print!(out; "{n}")
     }
-    short(out, n / 1_000_000)?;
-    group(out, n / 1_000 % 1_000)?;
-    group(out, n % 1_000)
 }
 
 // So many things of a name, which gets an s unless there is one.
@@ -54,6 +35,5 @@ pub fn many<P: Print>(out: &P, n: u32, thing: &[u8]) -> io::Result<()> {
 
 // A byte as 01 writes it.
 pub fn byte<P: Print>(out: &P, b: u8) -> io::Result<()> {
-    say(out, b"0x")?;
-    print!(out; "{b:02x}")
+    print!(out; "0x{b:02x}")
 }

@@ -16,20 +16,21 @@ const MOST: u32 = 0x4e80_0000;
 // So many of these parts make 1: 2^33.
 const UNIT: u64 = 8_589_934_592;
 
-// Says a part of 1 behind the point, up to eleven digits: what is left out is too small to lead to another real.
+// As many digits behind the point tell each such real from every other.
+const DIGITS: u32 = 11;
+
+// Says a part of 1 behind the point: what is left out is too small to lead to another real.
 fn fraction<P: Print>(out: &P, part: u64) -> io::Result<()>
     requires { part < 8_589_934_592 }
 {
     let mut rest = part;
-    let mut left: u32 = 11;
-    while 0 < left {
+    for _ in 0..DIGITS {
         let ten = rest * 10;
         out.print(ten / UNIT)?;
         rest = ten % UNIT;
         if rest == 0 {
-            return Ok(());
+            break;
         }
-        left -= 1;
     }
     Ok(())
 }
@@ -54,8 +55,7 @@ fn sign<P: Print>(out: &P, bits: u32) -> io::Result<()> {
 
 // Says a real by its bits.
 fn as_bits<P: Print>(out: &P, bits: u32) -> io::Result<()> {
-    say(out, b"0x")?;
-    print!(out; "{bits:08x}")
+    print!(out; "0x{bits:08x}")
 }
 
 // Says a real.
@@ -69,10 +69,7 @@ pub fn real<P: Print>(out: &P, bits: u32) -> io::Result<()> {
         sign(out, bits)?;
         return say(out, b"inf");
     }
-    if size < LEAST {
-        return as_bits(out, bits);
-    }
-    if MOST <= size {
+    if size < LEAST || MOST <= size {
         return as_bits(out, bits);
     }
     sign(out, bits)?;

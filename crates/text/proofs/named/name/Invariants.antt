@@ -1,10 +1,7 @@
--- Nothing has to hold from turn to turn; each turn brings the end one nearer.
-use Prim.Native.Nat.{◌-◌}
-use lib.ListN.{length}
+-- Each glyph takes at least one byte off the rest.
+-- Assumes nothing.
+use Rattle.std.proofs.Common.{length}
 use Rattle.text.proofs.named.name.Given as goal
 
-abbrev pub invariant-loop-i : goal.invariant-loop-i
-invariant-loop-i g l = Unit {0}
-
-abbrev pub decreases-loop-i : goal.decreases-loop-i
-decreases-loop-i g l = length l.s - l.i
+abbrev pub decreases-loop-rest : goal.decreases-loop-rest
+decreases-loop-rest g l = length l.rest

@@ -1,9 +1,7 @@
--- What is left is a part of 1 still; each turn leaves one digit less to say.
-use Prim.Native.Nat.{◌<◌}
+-- What is left of a part of 1 stays a part of 1.
+-- Assumes nothing.
+use Rattle.std.proofs.Common.{◌<◌}
 use Rattle.text.proofs.reals.fraction.Given as goal
 
-abbrev pub invariant-loop-left : goal.invariant-loop-left
-invariant-loop-left g l = l.rest < 8_589_934_592
-
-abbrev pub decreases-loop-left : goal.decreases-loop-left
-decreases-loop-left g l = l.left
+abbrev pub invariant-loop : goal.invariant-loop
+invariant-loop g l = l.rest < 8_589_934_592
