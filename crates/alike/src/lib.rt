@@ -4,5 +4,4 @@
 mod likeness;
 mod search;
 
-pub use likeness::are_same;
 pub use search::{Other, look_for};

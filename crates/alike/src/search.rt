@@ -1,54 +1,37 @@
 // The search through a job's list.
-use crate::likeness::{are_alike, are_same};
-use listing::{field, field_four};
+use crate::likeness::are_alike;
+use listing::{Attribute, attribute_at, operator_at};
 use names::attributes::STREAM_NAME;
 use names::operators::{BEGIN_SESSION, BEGIN_STREAM};
 
-// A motif of the name in this session, one in an earlier session, one of a like name in this session, by its record, or none.
+// A motif of the name in this session, one in an earlier session, one of a like name in this session, by its StreamName, or none.
 #[derive(Clone, Copy)]
 pub enum Other {
     Here,
     Earlier,
-    Like(usize),
+    Like(Attribute),
     Nobody,
 }
 
-// The name of record i is alike, or the same.
-fn compared(job: &[u8], list: &[u8], i: usize, name: &[u8], whole: bool) -> bool {
-    let count = field_four(list, i, 8) as usize;
-    let first = field_four(list, i, 12) as usize;
-    if job.len() < first {
-        return false;
-    }
-    if job.len() - first < count {
-        return false;
-    }
-    if whole {
-        return are_same(&job[first..first + count], name);
-    }
-    are_alike(&job[first..first + count], name)
+// The letters of a name, as they stand in the job.
+fn letters(job: &[u8], name: Attribute) -> Option<&[u8]> {
+    job.get(name.first as usize..)?.get(..name.count as usize)
 }
 
 // Record i is the name of a motif that is defined, since BeginStream stands behind it.
-fn is_defined(list: &[u8], i: usize) -> bool {
-    if 100_000 < i {
-        return false;
+fn defined_at(list: &[u8], i: usize) -> Option<Attribute> {
+    let name = attribute_at(list, i)?;
+    let next = operator_at(list, i.checked_add(1)?)?;
+    if name.number == STREAM_NAME && next.tag == BEGIN_STREAM {
+        Some(name)
+    } else {
+        None
     }
-    if field(list, i, 1) != STREAM_NAME {
-        return false;
-    }
-    if field(list, i, 0) != 1 {
-        return false;
-    }
-    field(list, i + 1, 1) == BEGIN_STREAM
 }
 
 // Record i is BeginSession.
 fn is_session(list: &[u8], i: usize) -> bool {
-    if field(list, i, 0) != 2 {
-        return false;
-    }
-    field(list, i, 1) == BEGIN_SESSION
+    operator_at(list, i).is_some_and(|o| o.tag == BEGIN_SESSION)
 }
 
 // What record i makes of what was found before: a session that begins leaves no like name.
@@ -56,43 +39,28 @@ fn after(job: &[u8], list: &[u8], i: usize, name: &[u8], found: Other) -> Other 
     if is_session(list, i) {
         return begun(found);
     }
-    if !is_defined(list, i) {
+    let Some(other) = defined_at(list, i) else {
         return found;
-    }
-    if compared(job, list, i, name, true) {
-        return Other::Here;
-    }
+    };
+    let Some(letters) = letters(job, other) else {
+        return found;
+    };
     match found {
-        Other::Here => Other::Here,
-        Other::Earlier => Other::Earlier,
-        Other::Like(k) => Other::Like(k),
-        Other::Nobody => like(job, list, i, name),
+        _ if letters == name => Other::Here,
+        Other::Nobody if are_alike(letters, name) => Other::Like(other),
+        _ => found,
     }
 }
 
+// What a session that begins makes of it.
 fn begun(found: Other) -> Other {
     match found {
-        Other::Here => Other::Earlier,
-        Other::Earlier => Other::Earlier,
-        Other::Like(_) => Other::Nobody,
-        Other::Nobody => Other::Nobody,
+        Other::Here | Other::Earlier => Other::Earlier,
+        Other::Like(_) | Other::Nobody => Other::Nobody,
     }
-}
-
-fn like(job: &[u8], list: &[u8], i: usize, name: &[u8]) -> Other {
-    if compared(job, list, i, name, false) {
-        return Other::Like(i);
-    }
-    Other::Nobody
 }
 
 // Looks for a name that is not held through so many records.
 pub fn look_for(job: &[u8], list: &[u8], records: usize, name: &[u8]) -> Other {
-    let mut found = Other::Nobody;
-    let mut i: usize = 0;
-    while i < records {
-        found = after(job, list, i, name, found);
-        i += 1;
-    }
-    found
+    (0..records).fold(Other::Nobody, |found, i| after(job, list, i, name, found))
 }

@@ -7,4 +7,4 @@ mod records;
 
 pub use inside::{gather, say_name};
 pub use operators::line;
-pub use records::{field, field_four};
+pub use records::{Attribute, Operator, Record, attribute_at, operator_at, record_at};

@@ -1,10 +1,9 @@
 // The operators of a job with their attributes, a line each, indented by session, page and motif definition.
-use crate::records::{field, field_four};
+use crate::records::{Attribute, Operator, attribute_at, operator_at};
 use names::attributes::{COMMENT_DATA, STREAM_NAME};
 use names::operators::{
     BEGIN_PAGE, BEGIN_SESSION, BEGIN_STREAM, END_PAGE, END_SESSION, END_STREAM,
 };
-use phrase::value;
 use std::io;
 use text::say;
 
@@ -18,49 +17,29 @@ fn indent<P: Print>(out: &P, depth: u32) -> io::Result<()> {
 
 // The depth of an operator's own line.
 fn depth_at(tag: u8, depth: u32) -> u32 {
-    if depth == 0 {
-        return 0;
-    }
     match tag {
-        END_SESSION => depth - 1,
-        END_PAGE => depth - 1,
-        END_STREAM => depth - 1,
+        END_SESSION | END_PAGE | END_STREAM => depth.saturating_sub(1),
         _ => depth,
     }
 }
 
 // The depth of the lines behind it.
 fn depth_behind(tag: u8, depth: u32) -> u32 {
-    if 2 <= depth {
-        return depth;
-    }
     match tag {
-        BEGIN_SESSION => depth + 1,
-        BEGIN_PAGE => depth + 1,
-        BEGIN_STREAM => depth + 1,
+        BEGIN_SESSION | BEGIN_PAGE | BEGIN_STREAM if depth < 2 => depth + 1,
         _ => depth,
     }
 }
 
-// StreamName and CommentData are said as text.
-fn is_text(n: u8) -> bool {
-    if n == STREAM_NAME {
-        return true;
-    }
-    n == COMMENT_DATA
-}
-
-// The attribute of record j.
-fn attribute<P: Print>(out: &P, job: &[u8], list: &[u8], j: usize) -> io::Result<()> {
-    let n = field(list, j, 1);
-    let at = field_four(list, j, 12) as usize;
+// The attribute of a record; StreamName and CommentData are said as text.
+fn attribute<P: Print>(out: &P, job: &[u8], a: Attribute) -> io::Result<()> {
     say(out, b", ")?;
-    phrase::attribute(out, n as usize)?;
+    phrase::attribute(out, usize::from(a.number))?;
     say(out, b" ")?;
-    if is_text(n) {
-        return text::part(out, job, field_four(list, j, 8) as usize, at);
+    match a.number {
+        STREAM_NAME | COMMENT_DATA => text::part(out, job, a.count as usize, a.first as usize),
+        _ => phrase::value(out, job, a.tag, a.count, a.first as usize),
     }
-    value(out, job, field(list, j, 2), field_four(list, j, 8), at)
 }
 
 // The attributes of the operator of record i, which stand right before it.
@@ -71,13 +50,10 @@ fn attributes<P: Print>(
     i: usize,
     count: usize,
 ) -> io::Result<()> {
-    if i < count {
-        return Ok(());
-    }
-    let mut j = i - count;
-    while j < i {
-        attribute(out, job, list, j)?;
-        j += 1;
+    for j in i.saturating_sub(count)..i {
+        if let Some(a) = attribute_at(list, j) {
+            attribute(out, job, a)?;
+        }
     }
     Ok(())
 }
@@ -93,23 +69,22 @@ fn data<P: Print>(out: &P, length: u32) -> io::Result<()> {
 }
 
 // The line of the operator of record i.
-fn operator<P: Print>(out: &P, job: &[u8], list: &[u8], i: usize, tag: u8) -> io::Result<()> {
-    phrase::operator(out, tag)?;
+fn operator<P: Print>(out: &P, job: &[u8], list: &[u8], i: usize, o: Operator) -> io::Result<()> {
+    phrase::operator(out, o.tag)?;
     say(out, b" at byte ")?;
-    text::plain(out, field_four(list, i, 4))?;
-    attributes(out, job, list, i, field(list, i, 2) as usize)?;
-    data(out, field_four(list, i, 8))?;
+    text::plain(out, o.at)?;
+    attributes(out, job, list, i, usize::from(o.attributes))?;
+    data(out, o.length)?;
     say(out, b"\n")
 }
 
 // Says the line of record i, if it is an operator's; the answer is the depth behind it.
 pub fn line<P: Print>(out: &P, job: &[u8], list: &[u8], i: usize, depth: u32) -> io::Result<u32> {
-    if field(list, i, 0) != 2 {
+    let Some(o) = operator_at(list, i) else {
         return Ok(depth);
-    }
-    let tag = field(list, i, 1);
-    let own = depth_at(tag, depth);
+    };
+    let own = depth_at(o.tag, depth);
     indent(out, own)?;
-    operator(out, job, list, i, tag)?;
-    Ok(depth_behind(tag, own))
+    operator(out, job, list, i, o)?;
+    Ok(depth_behind(o.tag, own))
 }

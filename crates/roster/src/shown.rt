@@ -1,7 +1,7 @@
 // The lines of a job's list, and behind each session those of its motifs.
 use held::motifs_held;
 use keeping::{Keeping, MANY, keep};
-use listing::field;
+use listing::operator_at;
 use names::operators::END_SESSION;
 use setting::Setting;
 use std::io;
@@ -54,7 +54,7 @@ fn onward<P: Print>(
     st: &mut [usize; 16],
     walk: Walk,
 ) -> io::Result<Walk> {
-    if field(list, i, 0) != 2 {
+    if operator_at(list, i).is_none() {
         return Ok(walk);
     }
     let before = walk.held;

@@ -1,5 +1,4 @@
 // The search for a name behind the last operator of a job's list.
-use listing::field_four;
 use names::operators::{BEGIN_STREAM, END_SESSION};
 use trail::{COUNT, PLACE, is_high, tag_of};
 
@@ -11,13 +10,13 @@ pub enum Later {
     Nowhere,
 }
 
-// The place behind record i and its data.
+// The place behind the operator of record i and its data.
 fn end_of(list: &[u8], i: usize) -> usize {
-    let length = field_four(list, i, 8) as usize;
-    if length == 0 {
-        return phrase::after(field_four(list, i, 4) as usize, 1);
+    match listing::operator_at(list, i) {
+        Some(o) if o.length != 0 => phrase::after(o.first as usize, o.length as usize),
+        Some(o) => phrase::after(o.at as usize, 1),
+        None => 0,
     }
-    phrase::after(field_four(list, i, 12) as usize, length)
 }
 
 // The operator that a walk has come to defines a motif of the name.
@@ -26,15 +25,8 @@ fn is_defined(job: &[u8], name: &[u8], attrs: &[usize; 80], st: &[usize; 16]) ->
         return false;
     }
     let part = key::name_in(job, attrs, st[COUNT]);
-    let first = part.first;
-    let count = part.count;
-    if job.len() < first {
-        return false;
-    }
-    if job.len() - first < count {
-        return false;
-    }
-    alike::are_same(&job[first..first + count], name)
+    let end = part.first + part.count;
+    &job[part.first..end] == name
 }
 
 fn found(over: bool, place: usize) -> Later {

@@ -2,7 +2,7 @@
 use crate::behind::{Later, look_behind};
 use alike::Other;
 use facts::Facts;
-use listing::field_four;
+use listing::Attribute;
 use std::io;
 use text::say;
 
@@ -34,50 +34,20 @@ fn line<P: Print>(out: &P, k: usize, s: &[u8], f: Facts) -> io::Result<usize> {
     Ok(k)
 }
 
-// Says that there is a name that is nearly the same, by its record.
-fn like<P: Print>(
-    out: &P,
-    job: &[u8],
-    list: &[u8],
-    i: usize,
-    s: &[u8],
-    f: Facts,
-) -> io::Result<usize> {
+// Says that there is a name that is nearly the same.
+fn like<P: Print>(out: &P, job: &[u8], name: Attribute, s: &[u8], f: Facts) -> io::Result<usize> {
     tell::cause(out, UNHELD, s, f)?;
     say(out, b"; there is ")?;
-    text::part(
-        out,
-        job,
-        field_four(list, i, 8) as usize,
-        field_four(list, i, 12) as usize,
-    )?;
+    text::part(out, job, name.count as usize, name.first as usize)?;
     Ok(UNHELD)
 }
 
 // With no motif of the name later; one before in this session would be held.
-fn before<P: Print>(
-    out: &P,
-    job: &[u8],
-    list: &[u8],
-    other: Other,
-    s: &[u8],
-    f: Facts,
-) -> io::Result<usize> {
+fn before<P: Print>(out: &P, job: &[u8], other: Other, s: &[u8], f: Facts) -> io::Result<usize> {
     match other {
-        Other::Here => line(out, UNHELD, s, f),
+        Other::Here | Other::Nobody => line(out, UNHELD, s, f),
         Other::Earlier => line(out, EARLIER, s, f),
-        Other::Like(i) => like(out, job, list, i, s, f),
-        Other::Nobody => line(out, UNHELD, s, f),
-    }
-}
-
-// A motif of the name was found in an earlier session.
-fn is_told(other: Other) -> bool {
-    match other {
-        Other::Here => false,
-        Other::Earlier => true,
-        Other::Like(_) => false,
-        Other::Nobody => false,
+        Other::Like(name) => like(out, job, name, s, f),
     }
 }
 
@@ -85,14 +55,13 @@ fn is_told(other: Other) -> bool {
 fn elsewhere<P: Print>(
     out: &P,
     job: &[u8],
-    list: &[u8],
     other: Other,
     s: &[u8],
     f: Facts,
     place: usize,
 ) -> io::Result<usize> {
-    if is_told(other) {
-        return before(out, job, list, other, s, f);
+    if let Other::Earlier = other {
+        return before(out, job, other, s, f);
     }
     later_elsewhere(out, s, f, place)
 }
@@ -110,8 +79,8 @@ fn named<P: Print>(
     let other = alike::look_for(job, list, records, name);
     match look_behind(job, list, records, name) {
         Later::Here(place) => later(out, s, f, place),
-        Later::Elsewhere(place) => elsewhere(out, job, list, other, s, f, place),
-        Later::Nowhere => before(out, job, list, other, s, f),
+        Later::Elsewhere(place) => elsewhere(out, job, other, s, f, place),
+        Later::Nowhere => before(out, job, other, s, f),
     }
 }
 
