@@ -21,8 +21,8 @@ fn judge_job(job: &[u8], gray: bool, work: &mut [u8], list: &mut [u8]) -> Verdic
         × Listed list.old (judged_after gray every job.now (length list.old) (header_of job.now)).state.past list.new }
 {
     match header::header_of(job) {
-        Header::No(code, place) => told(code, place, OUTER, 0, 0),
-        Header::Is(class, high, next) => {
+        Err(refusal) => told(refusal.code.number(), refusal.place, OUTER, 0, 0),
+        Ok(Header { class, high, next }) => {
             let set = Setting { class, high, gray };
             judge_items(job, set, next, work, list)
         }

@@ -1,29 +1,28 @@
 -- What the code's answers on a header stand for in the definitions.
 -- Assumes nothing.
-use Rattle.std.specs.Prelude.{ℕ, ◌≤◌}
+use Rattle.std.specs.Prelude.{ℕ, ◌≤◌, ◌≡◌, Result, Ok, Err}
 use Rattle.scope.specs.Header.{Form, ends, breaks, Header}
 use Rattle.setting.specs.Views.{class_as}
-use Rattle.header.specs.declared.header.Form.{Form as CodeForm}
-use Rattle.header.specs.declared.header.Form.TheVariants.{Ends, Breaks}
+use Rattle.refusal.specs.Codes.{number_of}
+use Rattle.refusal.specs.declared.refusal.Refusal.{Refusal}
 use Rattle.header.specs.declared.header.Header.{Header as CodeHeader}
-use Rattle.header.specs.declared.header.Header.TheVariants.{Is, No}
 
--- the form that the code found
-abbrev pub form_as : CodeForm → Form
-form_as (Ends n) = ends n
-form_as (Breaks i) = breaks i
+-- the form that the code found: where it ends, or where it breaks
+abbrev pub form_as : Result ℕ Refusal → Form
+form_as (Ok n) = ends n
+form_as (Err r) = breaks r.place
 
--- a header that ends does so within the bytes
-abbrev pub FormWithin : ℕ → CodeForm → Type 0
-FormWithin len (Ends n) = n ≤ len
-FormWithin len (Breaks i) = Unit {0}
+-- a header that ends does so within the bytes; one that breaks is 2
+abbrev pub FormWithin : ℕ → Result ℕ Refusal → Type 0
+FormWithin len (Ok n) = n ≤ len
+FormWithin len (Err r) = number_of r.code ≡ 2
 
 -- the header that the code read
-abbrev pub header_as : CodeHeader → Header
-header_as (Is class high next) = Header.is (class_as class) high next
-header_as (No code place) = Header.no code place
+abbrev pub header_as : Result CodeHeader Refusal → Header
+header_as (Ok h) = Header.is (class_as h.class) h.high h.next
+header_as (Err r) = Header.no (number_of r.code) r.place
 
 -- the items begin within the bytes, or at their end
-abbrev pub HeaderWithin : ℕ → CodeHeader → Type 0
-HeaderWithin len (Is class high next) = next ≤ len
-HeaderWithin len (No code place) = Unit {0}
+abbrev pub HeaderWithin : ℕ → Result CodeHeader Refusal → Type 0
+HeaderWithin len (Ok h) = h.next ≤ len
+HeaderWithin len (Err r) = Unit {0}

@@ -12,7 +12,6 @@ ghost use Rattle.stream.specs.Lines.{Comes};
 
 use crate::lines::run_from;
 use both::both::Both;
-use header::Header;
 use order::Picture;
 use setting::{Class, Setting};
 use within::{Inside, Judged, Turn, advance};
@@ -115,18 +114,18 @@ pub fn judge_noting(
 {
     let mut attrs = [0usize; 80];
     match header::header_of(s) {
-        Header::No(code, place) => Judged::Faulty(code, place),
-        Header::Is(class, high, next) => {
+        Err(refusal) => Judged::Faulty(refusal.code.number(), refusal.place),
+        Ok(header) => {
             let of_job = set.class;
-            if !same_class(class, of_job) {
+            if !same_class(header.class, of_job) {
                 return Judged::Faulty(4, 12);
             }
             let of_motif = Setting {
                 class: of_job,
-                high,
+                high: header.high,
                 gray: set.gray,
             };
-            operators(s, of_motif, next, motifs, held, &mut attrs, own)
+            operators(s, of_motif, header.next, motifs, held, &mut attrs, own)
         }
     }
 }
