@@ -9,15 +9,13 @@ use borrow.Author.Tests.{le-leb, lt-leb, leb-true, leb-false}
 use lib.ListN.{length, get_or, get_or-eq_default}
 use lib.Dec.{leb}
 use Rattle.scope.specs.Choice.{between}
-use Rattle.scope.specs.Iterate.{onward}
+use Rattle.scope.specs.Iterate.{Next, go, stop, onward}
 use Rattle.scope.specs.Item.{Attribute, Kind, plain, array, other, kind_of, Value, numbers_at, value_of, Pair, numbered, number_at, pair_of, pair_at, Scan, white, after, ended_with, on_pair, scan_item, scan_step, scan_from}
 use Rattle.scope.proofs.Ends.{GoodPair, pair-good, after-le}
 use Rattle.scope.proofs.ExchangeEdges.{after-again}
 use Rattle.scope.proofs.Falls.{scan_step_lem}
 use Rattle.items.specs.Rows.{rows_of, with_pair}
-use Rattle.items.specs.Values.{answer_to}
-use Rattle.items.specs.declared.pair.Pair.{Pair as CodePair}
-use Rattle.items.specs.declared.pair.Pair.TheVariants.{Next, No, Waits}
+use Rattle.items.specs.Values.{told}
 use Rattle.items.proofs.Rows.{length-rows, rows-stored}
 use Rattle.white.proofs.Spaces.{after-white, after-black, after-end}
 
@@ -45,6 +43,9 @@ mark-next high s at count first p e =
     let black : white (get_or s p 0) ≡ false = rw e refl in
     rw (after-black s p h black, lt-leb (length s) p h, e)
 
+-- the pair of a value: cut, or its number right behind the value or after white space
+pub ruleset pair_by = (numbers-short, numbers-all, mark-within, mark-next)
+
 -- behind white space stands nothing white
 pub black-after : (s : List ℕ) (at p : ℕ) → p ≡ after s at → p < length s → white (get_or s p 0) ≡ false
 black-after s at p e h = by (white (get_or s p 0)) refl
@@ -67,13 +68,12 @@ IsNo (Pair.is r next) = ⊥
 IsNo (Pair.no code place) = Unit {0}
 IsNo Pair.waits = ⊥
 
--- by the code's answer: a pair that was read ends past its value's tag and within the bytes, and fewer than 16 come before it
-abbrev Ends : ℕ → ℕ → ℕ → CodePair → Type 0
-Ends len at n (Next next) = (at < next) × (next ≤ len) × (n < 16)
-Ends len at n (No code place) = Unit {0}
-Ends len at n Waits = Unit {0}
+-- by what is told of it: a pair that was read ends past its value's tag and within the bytes, and fewer than 16 come before it
+abbrev Ends : ℕ → ℕ → ℕ → Next ℕ Scan → Type 0
+Ends len at n (go next) = (at < next) × (next ≤ len) × (n < 16)
+Ends len at n (stop r) = Unit {0}
 
-ends : {len at n : ℕ} {p : Pair} → GoodPair len at p → (16 ≤ n → IsNo p) → Ends len at n (answer_to p)
+ends : {len at n : ℕ} {p : Pair} → GoodPair len at p → (16 ≤ n → IsNo p) → Ends len at n (told len p)
 ends (GoodPair.is h k) f = (h, k, omega (arith, f))
 ends (GoodPair.no h) f = tt
 ends GoodPair.waits f = tt
@@ -90,19 +90,18 @@ module _ (high : Bool) (s : List ℕ) where
   full-pair at refused = tt
 
   -- so it is of every pair
-  pub pair_ends : (at n : ℕ) (r : CodePair) → r ≡ answer_to (pair_at high s at n) → Ends (length s) at n r
+  pub pair_ends : (at n : ℕ) (r : Next ℕ Scan) → r ≡ told (length s) (pair_at high s at n) → Ends (length s) at n r
   unfolding pair_at
   pair_ends at n r e = rw e (ends (pair-good high s at n) (λ h. full-pair at (full-value at n (kind_of (get_or s at 0)) h)))
 
-  -- the scan after a pair, by the code's answer and the array that it left
-  abbrev pub after_pair : CodePair → List ℕ → ℕ → Scan
-  after_pair (Next next) a n = scan_from high s (record { at = next; attrs = rows_of a (suc n) })
-  after_pair (No code place) a n = Scan.no code place
-  after_pair Waits a n = Scan.no 27 (length s)
+  -- the scan after a pair, by what is told of it and the array that it left
+  abbrev pub after_pair : Next ℕ Scan → List ℕ → ℕ → Scan
+  after_pair (go next) a n = scan_from high s (record { at = next; attrs = rows_of a (suc n) })
+  after_pair (stop r) a n = r
 
   -- that scan is the one of the definitions
-  on-pair : (at : ℕ) (a : List ℕ) (n : ℕ) → length a ≡ 80 → (p : Pair) → Ends (length s) at n (answer_to p)
-      → onward (scan_from high s) (on_pair s (rows_of a n) p) ≡ after_pair (answer_to p) (with_pair a n p) n
+  on-pair : (at : ℕ) (a : List ℕ) (n : ℕ) → length a ≡ 80 → (p : Pair) → Ends (length s) at n (told (length s) p)
+      → onward (scan_from high s) (on_pair s (rows_of a n) p) ≡ after_pair (told (length s) p) (with_pair a n p) n
   unfolding on_pair
   on-pair at a n z (Pair.is r next) h =
       ap (λ (l : List Attribute). scan_from high s (record { at = next; attrs = l }))
@@ -135,10 +134,22 @@ module _ (high : Bool) (s : List ℕ) where
       unfolding scan_step scan_item
       black-item e = scan_step_lem high s (record { at = at; attrs = l }) ∙ rw (after-black s at h black, lt-leb _ _ h, e)
 
-  -- a pair is read, and the scan goes on with it stored, or ends
-  pub scan_pair : (at : ℕ) (a : List ℕ) (n : ℕ) → at < length s → white (get_or s at 0) ≡ false → between 0x41 0xbf (get_or s at 0) ≡ false
-      → length a ≡ 80 → (r : CodePair) (b : List ℕ) → r ≡ answer_to (pair_at high s at n) → b ≡ with_pair a n (pair_at high s at n)
-      → scan_from high s (record { at = at; attrs = rows_of a n }) ≡ after_pair r b n
-  scan_pair at a n h black e z r b f g =
-      black-item at (rows_of a n) h black e
-      ∙ rw (length-rows a n, f, g) (on-pair at a n z (pair_at high s at n) (pair_ends at n _ refl))
+  -- the scan from `at` on, where white space ends at q: the end, a tag, or a pair that is read and stored
+  module _ (at q : ℕ) (e : q ≡ after s at) where
+    past : (l : List Attribute) → scan_from high s (record { at = at; attrs = l }) ≡ scan_from high s (record { at = q; attrs = l })
+    past l = rw e (scan_after at l)
+
+    pub at_end : (l : List Attribute) → length s ≤ q → scan_from high s (record { at = at; attrs = l }) ≡ ended_with s l
+    at_end l h = past l ∙ scan_end q l h
+
+    module _ (h : q < length s) where
+      pub at_tag : (l : List Attribute) → between 0x41 0xbf (get_or s q 0) ≡ true
+          → scan_from high s (record { at = at; attrs = l }) ≡ Scan.tagged (get_or s q 0) q l
+      at_tag l b = past l ∙ scan_tag q l h (black-after s at q e h) b
+
+      pub at_pair : (a : List ℕ) (n : ℕ) → between 0x41 0xbf (get_or s q 0) ≡ false → length a ≡ 80
+          → (r : Next ℕ Scan) (b : List ℕ) → r ≡ told (length s) (pair_at high s q n) → b ≡ with_pair a n (pair_at high s q n)
+          → scan_from high s (record { at = at; attrs = rows_of a n }) ≡ after_pair r b n
+      at_pair a n t z r b f g =
+          past (rows_of a n) ∙ black-item q (rows_of a n) h (black-after s at q e h) t
+          ∙ rw (length-rows a n, f, g) (on-pair q a n z (pair_at high s q n) (pair_ends q n _ refl))

@@ -5,4 +5,4 @@ mod pair;
 mod scan;
 mod value;
 
-pub use scan::{Scan, scan_at};
+pub use scan::{Tagged, scan_at};
