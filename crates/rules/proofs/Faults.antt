@@ -6,20 +6,25 @@ use mathlib.Core.Bool.{Bool, true, false, false≢true}
 use mathlib.Core.List.{List, [], ◌∷◌}
 use lib.ListN.{length, take, get_or}
 use lib.Dec.{eqb}
-use borrow.Author.Tests.{eqb-true}
+use borrow.Author.Tests.{eqb-true, ne_eqb}
 use Rattle.scope.specs.Choice.{pick, among}
 use Rattle.scope.specs.Names.{EndPoint, NumberOfPoints, PointType}
 use Rattle.scope.specs.Item.{Attribute}
 use Rattle.scope.specs.Header.{Class}
 use Rattle.scope.specs.Table as scope
 use Rattle.scope.specs.Attributes.{has, type_taken, in_range, fine, bad, attribute_code, one_by_one, all_there, how_many, pair_code, form_code}
+use Rattle.refusal.specs.Codes.{number_of}
+use Rattle.std.specs.Prelude.{Result, Ok, Err, IsErrAnd, MatchResult}
+use Rattle.refusal.specs.declared.code.Code.{Code}
+use Rattle.refusal.specs.declared.refusal.Refusal.{Refusal}
+use Rattle.refusal.proofs.Numbers.{no_pass}
 use Rattle.items.specs.Rows.{row_at, rows_from, rows_of}
 use Rattle.table.specs.Lines.{up_to_no, rule_of, is_known, form_as, must_as}
-use Rattle.rules.specs.Judging.{ruled_in, all_in, many_in, as_usual, Stands, Led, then_whole, line_fault}
+use Rattle.rules.specs.Judging.{ruled_in, all_in, many_in, as_usual, Stands, Led, code_as, fault_as, then_whole, line_fault}
 use Rattle.table.specs.declared.table.Row.{Row}
 use Rattle.table.proofs.Keys.{both_left, both_right}
 use Rattle.attributes.proofs.Rowed.{rows_more, rows_end, rows_before}
-use Rattle.rules.proofs.Numbered.{take-numbers, ruled_by, led-long, all-by, many_by}
+use Rattle.rules.proofs.Numbered.{take-numbers, ruled_by, led-long, all-by, many_by, listed-none, listed-is}
 use Rattle.rules.proofs.Briefs.{Stood, stood_none, stood_is}
 
 -- one attribute: 11, 12, 15, 16 in this order
@@ -33,15 +38,23 @@ module _ (high : Bool) (s : List ℕ) (before : List Attribute) (a : Attribute) 
     unfolding attribute_code ruled_in
     code-12 e = rw (listed, e)
 
-    module _ (new : has a.number before ≡ false) (t : scope.Takes) (takes : t ≡ (rule_of class a.number).takes) where
-      pub code-15 : type_taken t a.tag ≡ false → attribute_code high s before a (ruled_in class ns a.number) ≡ 15
+    module _ (new : has a.number before ≡ false) where
+      pub code-15 : type_taken (rule_of class a.number).takes a.tag ≡ false → attribute_code high s before a (ruled_in class ns a.number) ≡ 15
       unfolding attribute_code ruled_in
-      code-15 e = rw (listed, new, ← takes, e)
+      code-15 e = rw (listed, new, e)
 
-      pub code-16 : type_taken t a.tag ≡ true → (b : Bool) → in_range high s t a ≡ b
-          → attribute_code high s before a (ruled_in class ns a.number) ≡ pick b 0 16
+      pub code-16 : type_taken (rule_of class a.number).takes a.tag ≡ true → in_range high s (rule_of class a.number).takes a ≡ false
+          → attribute_code high s before a (ruled_in class ns a.number) ≡ 16
       unfolding attribute_code ruled_in
-      code-16 e b q = rw (listed, new, ← takes, e, q)
+      code-16 e q = rw (listed, new, e, q)
+
+      pub code_none : type_taken (rule_of class a.number).takes a.tag ≡ true → in_range high s (rule_of class a.number).takes a ≡ true
+          → attribute_code high s before a (ruled_in class ns a.number) ≡ 0
+      unfolding attribute_code ruled_in
+      code_none e q = rw (listed, new, e, q)
+
+-- the code of an attribute, by its tests
+pub ruleset coded = (listed-none, listed-is, code-11, code-12, code-15, code-16, code_none)
 
 -- the rules that the numbers stand for
 module _ (class : Class) (ns : List ℕ) (rules : List scope.Rule) (st : Stands class ns rules) where
@@ -55,6 +68,9 @@ module _ (class : Class) (ns : List ℕ) (rules : List scope.Rule) (st : Stands 
 
   pub stands-many : (l : List Attribute) → many_in l (up_to_no ns) ≡ how_many l rules
   stands-many l = rw st.numbers (sym (many_by l rules))
+
+-- what the rules say, by their numbers
+pub ruleset stands = (stands-all, stands-many)
 
 -- a line's attributes as they are mostly given, by their places
 module _ (a : List ℕ) where
@@ -73,6 +89,9 @@ module _ (a : List ℕ) where
   usual_not (suc (suc zero)) h g = absurd (g refl)
   usual_not (suc (suc (suc n))) h g = refl
 
+-- what is usual, by how many there are
+pub ruleset usual = (usual_one, usual_two, usual_not)
+
 -- such a line has neither 13 nor 14
 pub usual_fine : (l : List Attribute) → as_usual l ≡ true → pair_code (has EndPoint l) (has NumberOfPoints l) (has PointType l) ≡ 0
 unfolding as_usual has
@@ -88,11 +107,21 @@ usual_fine (a ∷ b ∷ c ∷ l) e = absurd (false≢true e)
 
 -- one attribute more
 module _ (high : Bool) (s : List ℕ) (rules : List scope.Rule) (a : List ℕ) (i n : ℕ) where
-  pub one_more : (c : ℕ) → i < n → c ≡ attribute_code high s (rows_of a i) (row_at a i) (scope.rule_in rules (row_at a i).number)
-      → one_by_one high s rules (rows_of a i) (rows_from a i (n - i))
-      ≡ pick (eqb c 0) (one_by_one high s rules (rows_of a (i + 1)) (rows_from a (i + 1) (n - (i + 1)))) (bad c (row_at a i).at)
+  one-from : i < n → one_by_one high s rules (rows_of a i) (rows_from a i (n - i))
+      ≡ pick (eqb (attribute_code high s (rows_of a i) (row_at a i) (scope.rule_in rules (row_at a i).number)) 0)
+      (one_by_one high s rules (rows_of a (i + 1)) (rows_from a (i + 1) (n - (i + 1))))
+      (bad (attribute_code high s (rows_of a i) (row_at a i) (scope.rule_in rules (row_at a i).number)) (row_at a i).at)
   unfolding one_by_one
-  one_more c h e = rw (rows_more a i n h, e, rows_before a i)
+  one-from h = rw (rows_more a i n h, rows_before a i)
+
+  module _ (class : Class) (ns : List ℕ) (st : Stands class ns rules) (h : i < n) where
+    pub one-bad : (c : Code) → number_of c ≡ attribute_code high s (rows_of a i) (row_at a i) (ruled_in class (up_to_no ns) (row_at a i).number)
+        → one_by_one high s rules (rows_of a i) (rows_from a i (n - i)) ≡ bad (number_of c) (row_at a i).at
+    one-bad c e = one-from h ∙ rw (← stands-ruled class ns rules st (row_at a i).number, ← e, ne_eqb (number_of c) 0 (no_pass c))
+
+    pub one-next : 0 ≡ attribute_code high s (rows_of a i) (row_at a i) (ruled_in class (up_to_no ns) (row_at a i).number)
+        → one_by_one high s rules (rows_of a i) (rows_from a i (n - i)) ≡ one_by_one high s rules (rows_of a (i + 1)) (rows_from a (i + 1) (n - (i + 1)))
+    one-next e = one-from h ∙ rw (← stands-ruled class ns rules st (row_at a i).number, ← e)
 
   pub one_end : n ≤ i → one_by_one high s rules (rows_of a i) (rows_from a i (n - i)) ≡ fine
   unfolding one_by_one
@@ -115,3 +144,10 @@ module _ (high : Bool) (s : List ℕ) (at : ℕ) (l : List Attribute) (class : C
   fault_whole (scope.Line.is x) (stood_is known f st led) t k h g =
       let q : k ≡ form_code l x.rules x.form = g x.rules st led ∙ ap (form_code l x.rules) f in
       rw (← h x.rules st, ← q)
+
+-- 13 or 14 with its place
+pub placed : (at : ℕ) (r : Result (Unit {0}) Code) (x : Result (Unit {0}) Refusal)
+    → MatchResult r (λ u. x ≡ Ok u) (λ e. IsErrAnd x (λ y. y ≡ record { code = e; place = at })) → fault_as x ≡ pick (eqb (code_as r) 0) fine (bad (code_as r) at)
+placed at (Ok u) x h = rw h
+placed at (Err e) (Ok u) h = elim h [ ]
+placed at (Err e) (Err y) h = rw (h, ne_eqb (number_of e) 0 (no_pass e))

@@ -16,6 +16,7 @@ use Rattle.scope.specs.Item.{Attribute}
 use Rattle.scope.specs.Header.{Class}
 use Rattle.scope.specs.Table as scope
 use Rattle.scope.specs.Attributes.{has, all_there, how_many}
+use Rattle.attributes.proofs.Rowed.{row-there}
 use Rattle.table.specs.Lines.{numbers_in, up_to_no, rule_of}
 use Rattle.rules.specs.Judging.{ruled_in, all_in, many_in, Agreed, agreed_none, agreed_more, Led, led_none, led_may, led_must}
 
@@ -39,33 +40,71 @@ eqb_turned a b = turn (eqb a b) refl
     turn true e = sym (eq-eqb b a (sym (eqb-true a b e)))
     turn false e = sym (ne_eqb b a (λ k. eqb-false a b e (sym k)))
 
-module _ (ns : List ℕ) (i w : ℕ) (here : i < length ns) (some : get_or ns i 0 ≡ 0 → ⊥) (reads : w ≡ get_or ns i 0) where
-  pub among-step : (x : ℕ) → among (up_to_no (drop i ns)) x ≡ pick (eqb w x) true (among (up_to_no (drop (i + 1) ns)) x)
+-- whether a number is among those from i on
+module _ (ns : List ℕ) (i x : ℕ) where
+  pub among-no : i < length ns → get_or ns i 0 ≡ 0 → among (up_to_no (drop i ns)) x ≡ false
   unfolding among
-  among-step x = ap (λ l. among l x) (numbers_more ns i here some) ∙ rw (← reads, eqb_turned x w)
+  among-no h e = rw (numbers-no ns i h e)
 
-  pub many-step : (l : List Attribute) (b : Bool) → b ≡ has w l
-      → many_in l (up_to_no (drop i ns)) ≡ pick b 1 0 + many_in l (up_to_no (drop (i + 1) ns))
+  pub among-end : length ns ≤ i → among (up_to_no (drop i ns)) x ≡ false
+  unfolding among
+  among-end h = rw (numbers-end ns i h)
+
+  module _ (h : i < length ns) (some : get_or ns i 0 ≡ 0 → ⊥) where
+    pub among-here : get_or ns i 0 ≡ x → among (up_to_no (drop i ns)) x ≡ true
+    unfolding among
+    among-here e = rw (numbers_more ns i h some, eq-eqb x (get_or ns i 0) (sym e))
+
+    pub among-next : (get_or ns i 0 ≡ x → ⊥) → among (up_to_no (drop i ns)) x ≡ among (up_to_no (drop (i + 1) ns)) x
+    unfolding among
+    among-next n = rw (numbers_more ns i h some, ne_eqb x (get_or ns i 0) (λ e. n (sym e)))
+
+-- the number here is 0, past the end, the one looked for, or another
+pub ruleset among_by = (among-no, among-end, among-here, among-next)
+
+-- how many of the numbers from i on are there
+module _ (l : List Attribute) (ns : List ℕ) (i : ℕ) where
+  pub many-no : i < length ns → get_or ns i 0 ≡ 0 → many_in l (up_to_no (drop i ns)) ≡ 0
   unfolding many_in
-  many-step l b e = ap (many_in l) (numbers_more ns i here some) ∙ rw (e, reads)
+  many-no h e = rw (numbers-no ns i h e)
 
-pub many-on : (k o p x y t : ℕ) → k + x ≡ t → x ≡ p + y → o ≡ p → k + o + y ≡ t
-many-on k o p x y t e f g = omega arith
+  pub many-end : length ns ≤ i → many_in l (up_to_no (drop i ns)) ≡ 0
+  unfolding many_in
+  many-end h = rw (numbers-end ns i h)
+
+  pub many-next : i < length ns → (get_or ns i 0 ≡ 0 → ⊥)
+      → many_in l (up_to_no (drop i ns)) ≡ pick (has (get_or ns i 0) l) 1 0 + many_in l (up_to_no (drop (i + 1) ns))
+  unfolding many_in
+  many-next h some = rw (numbers_more ns i h some)
+
+-- the number here is 0, past the end, or counted
+pub ruleset many_by_one = (many-no, many-end, many-next)
 
 -- the first so many numbers, of which i were looked at
 module _ (l : List Attribute) (must : ℕ) (ns : List ℕ) (i : ℕ) where
-  pub all-step : i < must → i < length ns → (w : ℕ) → w ≡ get_or ns i 0 → (b : Bool) → b ≡ has w l
-      → all_in l (drop i (take must ns)) ≡ pick b (all_in l (drop (i + 1) (take must ns))) false
+  all-from : i < must → i < length ns → all_in l (drop i (take must ns)) ≡ pick (has (get_or ns i 0) l) (all_in l (drop (i + 1) (take must ns))) false
   unfolding all_in
-  all-step early here w reads b e =
+  all-from early here =
       let h : i < length (take must ns) = rw (length-take must ns) (omega arith) in
-      rw (add-one, drop-cons (take must ns) i 0 h, get_or-take must ns i 0 early, e, reads)
+      rw (add-one, drop-cons (take must ns) i 0 h, get_or-take must ns i 0 early)
+
+  pub all-out : has (get_or ns i 0) l ≡ false → i < must → i < length ns → all_in l (drop i (take must ns)) ≡ false
+  all-out e early here = all-from early here ∙ rw e
+
+  pub all-next : has (get_or ns i 0) l ≡ true → i < must → i < length ns → all_in l (drop i (take must ns)) ≡ all_in l (drop (i + 1) (take must ns))
+  all-next e early here = all-from early here ∙ rw e
 
   pub all_end : min must (length ns) ≤ i → all_in l (drop i (take must ns)) ≡ true
   unfolding all_in
   all_end h =
       let e : length (take must ns) ≤ i = rw (length-take must ns) h in
       rw (drop_of_length-le (take must ns) e)
+
+-- attribute i has the number
+pub ruleset one_there = row-there
+
+-- the number here is not there, is there, or none is left
+pub ruleset all_by_one = (all-out, all-next, all_end)
 
 -- the first so many numbers are before the first 0 if so many are
 pub take-numbers : (k : ℕ) (ns : List ℕ) → k ≤ length (up_to_no ns) → take k (up_to_no ns) ≡ take k ns

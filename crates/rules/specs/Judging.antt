@@ -1,6 +1,6 @@
 -- What the code judges of an operator's attributes, by the words of 01's definitions.
 -- Assumes nothing.
-use Rattle.std.specs.Prelude.{ℕ, suc, ◌+◌, ◌≡◌, List, [], ◌∷◌, Bool, true, false, eqb}
+use Rattle.std.specs.Prelude.{ℕ, suc, ◌+◌, ◌≡◌, List, [], ◌∷◌, Bool, true, false, eqb, Result, Ok, Err}
 use Rattle.scope.specs.Choice.{pick, among}
 use Rattle.scope.specs.Names.{EndPoint, NumberOfPoints, PointType}
 use Rattle.scope.specs.Header.{Class}
@@ -8,8 +8,9 @@ use Rattle.scope.specs.Item as item
 use Rattle.scope.specs.Table as scope
 use Rattle.scope.specs.Attributes as judged
 use Rattle.table.specs.Lines.{numbers_in, up_to_no, rule_of}
-use Rattle.rules.specs.declared.judge.Fault.{Fault}
-use Rattle.rules.specs.declared.judge.Fault.TheVariants.{Fine, Bad}
+use Rattle.refusal.specs.Codes.{number_of}
+use Rattle.refusal.specs.declared.code.Code.{Code}
+use Rattle.refusal.specs.declared.refusal.Refusal.{Refusal}
 
 -- 13 and 14 after what was found attribute by attribute
 unfoldable pub then_whole : (at code : ℕ) → judged.Fault → judged.Fault
@@ -22,10 +23,15 @@ line_fault high s at l scope.Line.none = judged.bad 9 at
 line_fault high s at l (scope.Line.is r) =
     then_whole at (judged.form_code l r.rules r.form) (judged.one_by_one high s r.rules [] l)
 
--- the fault that a fault of the code stands for
-abbrev pub fault_as : Fault → judged.Fault
-fault_as Fine = judged.fine
-fault_as (Bad c p) = judged.bad c p
+-- the code that the code found; 0 is none
+abbrev pub code_as : Result (Unit {0}) Code → ℕ
+code_as (Ok u) = 0
+code_as (Err c) = number_of c
+
+-- the fault that the code found
+abbrev pub fault_as : Result (Unit {0}) Refusal → judged.Fault
+fault_as (Ok u) = judged.fine
+fault_as (Err r) = judged.bad (number_of r.code) r.place
 
 -- the rule of an attribute in a line of a class that has these numbers
 unfoldable pub ruled_in : Class → List ℕ → ℕ → scope.Ruled

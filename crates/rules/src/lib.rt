@@ -4,4 +4,4 @@
 mod judge;
 mod line;
 
-pub use judge::{Fault, line_fault};
+pub use judge::line_fault;
