@@ -8,7 +8,7 @@ ghost use Rattle.scope.specs.Verdict.{every};
 ghost use Rattle.state.specs.Standing.{lent, Stands, StepsOn, JudgedTo, Goes, Lasts};
 
 use performing::perform;
-use reader::{Context, Read};
+use reader::Context;
 use running::run_on;
 use setting::Setting;
 use state::{OUTER, State, Step, Verdict, end_code, is_over, stop};
@@ -44,9 +44,9 @@ fn advance(
         asked: true,
     };
     match reader::operator_at(context, job, st.at, attrs) {
-        Read::No(code, position) => Step::Stop(stop(st, code, position, OUTER)),
-        Read::Ended => Step::Stop(stop(st, end_code(place), job.len(), OUTER)),
-        Read::Operator(o) => perform(job, set, work, list, motifs, patterns, attrs, st, o),
+        Err(refusal) => Step::Stop(stop(st, refusal.code.number(), refusal.place, OUTER)),
+        Ok(None) => Step::Stop(stop(st, end_code(place), job.len(), OUTER)),
+        Ok(Some(o)) => perform(job, set, work, list, motifs, patterns, attrs, st, o),
     }
 }
 

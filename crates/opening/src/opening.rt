@@ -1,11 +1,10 @@
 // BeginSession, EndSession, OpenDataSource and CloseDataSource, where no page is open and no motif is read: a run of them is judged in one small loop, which needs
 // no tables of motifs and patterns, as far as nothing could refuse them.
-ghost use Rattle.std.specs.Prelude.{◌≡◌, true, List, ℕ, ◌<◌, length};
+ghost use Rattle.std.specs.Prelude.{◌≡◌, true, List, ℕ, ◌<◌, length, Ok};
 ghost use Rattle.items.specs.Rows.{Sized};
 ghost use Rattle.scope.specs.Setting.{Setting as setting_of};
 ghost use Rattle.setting.specs.Views.{setting_as};
 ghost use Rattle.reader.specs.Reads.{operator_as, Within};
-ghost use Rattle.reader.specs.declared.reading.Read.TheVariants as read_is;
 ghost use Rattle.place.specs.declared.place.Busy.TheVariants.{Resting};
 ghost use Rattle.place.specs.declared.place.Place.TheVariants.{Inside};
 ghost use Rattle.opening.specs.Opening.{Edge, Rests, Past, Reads, Opens};
@@ -14,7 +13,7 @@ use motif::Kept;
 use names::limits::PERFORMED_MOST;
 use names::operators::{BEGIN_SESSION, CLOSE_DATA_SOURCE, END_SESSION, OPEN_DATA_SOURCE};
 use place::{Busy, Place};
-use reader::{Context, Operator, Read};
+use reader::{Context, Operator};
 use setting::Setting;
 use state::State;
 
@@ -77,7 +76,7 @@ fn place_past(tag: u8, place: Place) -> Place
 // Past an operator that was read at rest, if it is one of the four, takes no data and its records have room.
 fn pass(list: &mut [u8], attrs: &[usize; 80], st: State, o: Operator) -> State
     requires { st.performed < 1_000_000 }
-    ensures { (job : List ℕ) (set : setting_of) → Rests st.place → Sized attrs.now o.count → Within (length job) st.at (read_is.Operator o)
+    ensures { (job : List ℕ) (set : setting_of) → Rests st.place → Sized attrs.now o.count → Within (length job) st.at (Ok (Some o))
         → Reads job set st (operator_as o attrs.now) → Opens job set list.old list.new st result }
 {
     let place = st.place;
@@ -119,9 +118,8 @@ fn open_one(job: &[u8], set: Setting, list: &mut [u8], attrs: &mut [usize; 80], 
         asked: true,
     };
     match reader::operator_at(context, job, st.at, attrs) {
-        Read::No(_, _) => st,
-        Read::Ended => st,
-        Read::Operator(o) => pass(list, attrs, st, o),
+        Ok(Some(o)) => pass(list, attrs, st, o),
+        _ => st,
     }
 }
 

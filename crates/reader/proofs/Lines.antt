@@ -1,6 +1,7 @@
 -- An operator by its line of the table, step by step.
 -- Assumes nothing.
-use Prim.Native.Nat.{ℕ}
+use Prim.Native.Nat.{ℕ, ◌+◌}
+use native.Mathlib.Numerals.{add-one}
 use mathlib.Core.Path.{◌≡◌, refl}
 use mathlib.Core.Bool.{Bool, true, false, not, ◌&&◌}
 use mathlib.Core.List.{List, []}
@@ -10,8 +11,9 @@ use Rattle.scope.specs.Item.{Attribute}
 use Rattle.scope.specs.Table.{Row, Line}
 use Rattle.scope.specs.Attributes.{Fault, fine, bad, one_by_one, form_code}
 use Rattle.scope.specs.Order.{may_come, image_of, rows_fit}
-use Rattle.scope.specs.Data.{Found, reads, due_of}
+use Rattle.scope.specs.Data.{Found, Due, reads, due_of}
 use Rattle.scope.specs.Reading.{Context, Read, with_block, with_data, as_whole, with_attributes, with_line}
+use Rattle.rules.proofs.Briefs.{line_known}
 use Rattle.rules.specs.Judging.{then_whole, line_fault}
 use Rattle.reader.specs.Reads.{line_at, data_at}
 
@@ -51,6 +53,11 @@ module _ (c : Context) (s : List ℕ) (tag at : ℕ) (l : List Attribute) where
   unfolding as_whole
   rows-after = refl
 
+  -- without data
+  pub none_after : with_data c s tag at l Due.none ≡ Read.operator (record { tag = tag; at = at; attrs = l; reads = false; length = 0; first = 0; next = at + 1 })
+  unfolding with_data
+  none_after = rw add-one
+
   -- 17, then where the data is
   block-after : (due : ℕ) (f : Found) (b : Bool)
       → pick b (Read.no 17 at) (with_block tag at l due f) ≡ with_block tag at l due (pick b (Found.no 17 at) f)
@@ -62,3 +69,9 @@ module _ (c : Context) (s : List ℕ) (tag at : ℕ) (l : List Attribute) where
   pub data_after : (due : ℕ) → with_data c s tag at l (reads due) ≡ with_block tag at l due (data_at c s at due)
   unfolding with_data data_at
   data_after due = block-after due _ (c.asked && not c.opened)
+
+-- rows and data, step by step
+pub ruleset whole = (rows-after, none_after, data_after)
+
+-- the table has a line exactly if its form is known
+pub ruleset known = line_known

@@ -4,4 +4,4 @@
 mod data;
 mod reading;
 
-pub use reading::{Context, Operator, Read, operator_at};
+pub use reading::{Context, Operator, operator_at};

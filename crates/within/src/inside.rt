@@ -22,7 +22,7 @@ use motif::{ROW, SUM, Where, find};
 use names::operators::{EXEC_STREAM, POP_GS, PUSH_GS};
 use order::{Phase, Picture, picture_after};
 use page::page::Select;
-use reader::{Context, Operator, Read};
+use reader::{Context, Operator};
 use setting::Setting;
 use summary::EMPTY;
 
@@ -238,9 +238,9 @@ pub fn advance(
         asked: false,
     };
     match reader::operator_at(context, s, inside.at, attrs) {
-        Read::No(code, place) => Turn::Stop(Judged::Faulty(code, place)),
-        Read::Ended => Turn::Stop(ended(s.len(), inside)),
-        Read::Operator(o) => {
+        Err(refusal) => Turn::Stop(Judged::Faulty(refusal.code.number(), refusal.place)),
+        Ok(None) => Turn::Stop(ended(s.len(), inside)),
+        Ok(Some(o)) => {
             if o.tag == EXEC_STREAM {
                 return Turn::Go(call(s, o, attrs, inside, motifs, held));
             }

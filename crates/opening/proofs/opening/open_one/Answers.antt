@@ -1,7 +1,7 @@
 -- `open_one`: what was read is what the definition reads where it stands; else the job stands still.
 -- Assumes nothing.
 use Prim.Native.Nat.{ℕ}
-use mathlib.Core.Path.{◌≡◌, refl, sym, ap, ◌∙◌}
+use mathlib.Core.Path.{◌≡◌, refl, sym, ◌∙◌}
 use mathlib.Core.List.{List}
 use borrow.Author.Tests.{not-false}
 use lib.ListN.{length}
@@ -13,7 +13,6 @@ use Rattle.scope.specs.Setting.{Setting}
 use Rattle.scope.specs.Verdict.{every}
 use Rattle.order.specs.Views.{phase_as}
 use Rattle.reader.specs.Reads.{read_as}
-use Rattle.reader.specs.declared.reading.Read.{Read as CodeRead}
 use Rattle.state.specs.Standing.{Stands, Lent}
 use Rattle.ruling.proofs.Turns.{context_is}
 use Rattle.opening.proofs.Opens.{opens-none}
@@ -21,11 +20,11 @@ use Rattle.opening.proofs.opening.open_one.Goals.{After-operator_at}
 use Rattle.opening.proofs.opening.open_one.Goals as goal
 
 -- what was read is what the definition reads where it stands
-read_is : (c : After-operator_at) (r : CodeRead) → c.operator_at.result ≡ r → (list₀ : List ℕ) (l : Lent) (d : scope.State) → length c.args.attrs.now ≡ 80
+read_is : (c : After-operator_at) (list₀ : List ℕ) (l : Lent) (d : scope.State) → length c.args.attrs.now ≡ 80
     → Stands (setting_as c.args.set) c.args.job.now list₀ l c.args.st d
     → operator_at (context_of every (setting_as c.args.set) d.place) c.args.job.now d.at
-    ≡ read_as r c.operator_at.new.attrs
-read_is c r e list₀ l d z h =
+    ≡ read_as c.operator_at.result c.operator_at.new.attrs
+read_is c list₀ l d z h =
     let a = c.args in
     let set : Setting = setting_as a.set in
     let phase = c.phase_of in
@@ -33,7 +32,6 @@ read_is c r e list₀ l d z h =
     sym (context_is set a.job.now a.st.at d (phase_as phase.result) opened.result h.at
     (phase.ensures d.place set a.job.now l.work l.table l.patterns h.place)
     (opened.ensures d.place set a.job.now l.work l.table l.patterns h.place)) ∙ sym (c.operator_at.ensures.attrs_after z)
-    ∙ ap (λ x. read_as x c.operator_at.new.attrs) e
 
 pub returns-then-st-ge-PERFORMED_MOST : goal.returns-then-st-ge-PERFORMED_MOST
 returns-then-st-ge-PERFORMED_MOST c = record { attrs_len_unchanged = refl; opens = λ z. opens-none }
@@ -41,17 +39,14 @@ returns-then-st-ge-PERFORMED_MOST c = record { attrs_len_unchanged = refl; opens
 pub returns-then-not-at_rest : goal.returns-then-not-at_rest
 returns-then-not-at_rest c = record { attrs_len_unchanged = refl; opens = λ z. opens-none }
 
-pub returns-in-No : goal.returns-in-No
-returns-in-No c = record { attrs_len_unchanged = c.operator_at.ensures.attrs_len_unchanged; opens = λ z. opens-none }
+pub returns-in_default : goal.returns-in_default
+returns-in_default c = record { attrs_len_unchanged = c.operator_at.ensures.attrs_len_unchanged; opens = λ z. opens-none }
 
-pub returns-in-Ended : goal.returns-in-Ended
-returns-in-Ended c = record { attrs_len_unchanged = c.operator_at.ensures.attrs_len_unchanged; opens = λ z. opens-none }
-
-pub returns-in-Operator : goal.returns-in-Operator
-returns-in-Operator c = let a = c.args in
-    let w = rw c.in-Operator.is at c.operator_at.ensures.within in
+pub returns-in-Ok-Some : goal.returns-in-Ok-Some
+returns-in-Ok-Some c = let a = c.args in
+    let w = rw (c.in-Ok-Some.is, c.in-Ok-Some.field-0-is) at c.operator_at.ensures.within in
     record {
       attrs_len_unchanged = c.operator_at.ensures.attrs_len_unchanged;
       opens = λ z. c.pass.ensures a.job.now (setting_as a.set) (c.at_rest.ensures (not-false _ c.if-not-at_rest.false-raw))
-          (record { long = c.operator_at.ensures.attrs_len_unchanged ∙ z; few = w.4 }) w (λ list₀ l d s. read_is (goal.at.returns-in-Operator c).After-operator_at _ c.in-Operator.is list₀ l d z s);
+          (record { long = c.operator_at.ensures.attrs_len_unchanged ∙ z; few = w.4 }) w (λ list₀ l d s. rw (c.in-Ok-Some.is, c.in-Ok-Some.field-0-is) at (read_is (goal.at.returns-in-Ok-Some c).After-operator_at list₀ l d z s));
     }

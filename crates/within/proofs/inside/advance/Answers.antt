@@ -26,42 +26,42 @@ read_is c ms w l g =
 
 pub returns-then-o-eq-EXEC_STREAM : goal.returns-then-o-eq-EXEC_STREAM
 returns-then-o-eq-EXEC_STREAM c = let a = c.args in
-    let v = rw c.in-Operator.is at c.operator_at.ensures.within in record {
+    let v = rw (c.in-Ok-Some.is, c.in-Ok-Some.field-0-is) at c.operator_at.ensures.within in record {
       attrs_len_unchanged = c.operator_at.ensures.attrs_len_unchanged;
-      ahead = ahead (length a.s.now) a.inside.at c.in-Operator.o.next a.inside.saved c.call.result (omega arith) v.2 c.requires.1 c.call.ensures.at_value;
-      turns = λ ms w l k g. step-on a.motifs.now ms (setting_as a.set) a.s.now w _ _ (read_is (goal.at.returns-then-o-eq-EXEC_STREAM c).After-operator_at ms w l g ∙ rw c.in-Operator.is)
+      ahead = ahead (length a.s.now) a.inside.at c.in-Ok-Some.o.next a.inside.saved c.call.result (omega arith) v.2 c.requires.1 c.call.ensures.at_value;
+      turns = λ ms w l k g. step-on a.motifs.now ms (setting_as a.set) a.s.now w _ _ (read_is (goal.at.returns-then-o-eq-EXEC_STREAM c).After-operator_at ms w l g ∙ rw (c.in-Ok-Some.is, c.in-Ok-Some.field-0-is))
           (c.call.ensures.follows (setting_as a.set) ms w (record { long = c.operator_at.ensures.attrs_len_unchanged ∙ l; few = v.4 }) k c.if-o-eq-EXEC_STREAM.true g);
       own_len_unchanged = refl;
-      notes_on = λ ms w l g. notes-on (setting_as a.set) a.s.now w a.own.now a.own.now _ (rw c.in-Operator.is at (read_is (goal.at.returns-then-o-eq-EXEC_STREAM c).After-operator_at ms w l g))
+      notes_on = λ ms w l g. notes-on (setting_as a.set) a.s.now w a.own.now a.own.now _ (rw (c.in-Ok-Some.is, c.in-Ok-Some.field-0-is) at (read_is (goal.at.returns-then-o-eq-EXEC_STREAM c).After-operator_at ms w l g))
           (call-notes (setting_as a.set) a.s.now _ a.own.now w.ops c.if-o-eq-EXEC_STREAM.true);
     }
 
-pub returns-in-No : goal.returns-in-No
-returns-in-No c = let a = c.args in
-    record { attrs_len_unchanged = c.operator_at.ensures.attrs_len_unchanged; ahead = tt; turns = λ ms w l k g. step-no a.motifs.now ms (setting_as a.set) a.s.now w _ _ (read_is (goal.at.returns-in-No c).After-operator_at ms w l g ∙ rw c.in-No.is); own_len_unchanged = refl; notes_on = λ ms w l g. notes-no (setting_as a.set) a.s.now w a.own.now a.own.now _ _ (rw c.in-No.is at (read_is (goal.at.returns-in-No c).After-operator_at ms w l g)) }
+pub returns-in-Err : goal.returns-in-Err
+returns-in-Err c = let a = c.args in
+    record { attrs_len_unchanged = c.operator_at.ensures.attrs_len_unchanged; ahead = tt; turns = λ ms w l k g. step-no a.motifs.now ms (setting_as a.set) a.s.now w _ _ (read_is (goal.at.returns-in-Err c).After-operator_at ms w l g ∙ rw (c.in-Err.is, c.number.ensures)); own_len_unchanged = refl; notes_on = λ ms w l g. notes-no (setting_as a.set) a.s.now w a.own.now a.own.now _ _ (rw c.in-Err.is at (read_is (goal.at.returns-in-Err c).After-operator_at ms w l g)) }
 
-pub returns-in-Ended : goal.returns-in-Ended
-returns-in-Ended c = let a = c.args in record {
+pub returns-in-Ok-None : goal.returns-in-Ok-None
+returns-in-Ok-None c = let a = c.args in record {
   attrs_len_unchanged = c.operator_at.ensures.attrs_len_unchanged;
   ahead = tt;
-  turns = λ ms w l k g. step-ended a.motifs.now ms (setting_as a.set) a.s.now w _ (read_is (goal.at.returns-in-Ended c).After-operator_at ms w l g ∙ rw c.in-Ended.is)
+  turns = λ ms w l k g. step-ended a.motifs.now ms (setting_as a.set) a.s.now w _ (read_is (goal.at.returns-in-Ok-None c).After-operator_at ms w l g ∙ rw (c.in-Ok-None.is, c.in-Ok-None.field-0-is))
       (c.ended.ensures a.motifs.now ms w a.s.now refl g);
   own_len_unchanged = refl;
-  notes_on = λ ms w l g. notes-ended (setting_as a.set) a.s.now w a.own.now (read_is (goal.at.returns-in-Ended c).After-operator_at ms w l g ∙ rw c.in-Ended.is);
+  notes_on = λ ms w l g. notes-ended (setting_as a.set) a.s.now w a.own.now (read_is (goal.at.returns-in-Ok-None c).After-operator_at ms w l g ∙ rw (c.in-Ok-None.is, c.in-Ok-None.field-0-is));
 }
 
 pub returns-else-o-eq-EXEC_STREAM : goal.returns-else-o-eq-EXEC_STREAM
 returns-else-o-eq-EXEC_STREAM c = let a = c.args in
     let n = c.if-o-eq-EXEC_STREAM.false in
-    let v = rw c.in-Operator.is at c.operator_at.ensures.within in record {
+    let v = rw (c.in-Ok-Some.is, c.in-Ok-Some.field-0-is) at c.operator_at.ensures.within in record {
       attrs_len_unchanged = c.operator_at.ensures.attrs_len_unchanged;
-      ahead = ahead (length a.s.now) a.inside.at c.in-Operator.o.next a.inside.saved c.deed.result (omega arith) v.2 c.requires.1 c.deed.ensures.at_value;
+      ahead = ahead (length a.s.now) a.inside.at c.in-Ok-Some.o.next a.inside.saved c.deed.result (omega arith) v.2 c.requires.1 c.deed.ensures.at_value;
       turns = λ ms w l k g.
-          let q = rw c.in-Operator.is at (read_is (goal.at.returns-else-o-eq-EXEC_STREAM c).After-operator_at ms w l g) in
+          let q = rw (c.in-Ok-Some.is, c.in-Ok-Some.field-0-is) at (read_is (goal.at.returns-else-o-eq-EXEC_STREAM c).After-operator_at ms w l g) in
           step-on a.motifs.now ms (setting_as a.set) a.s.now w _ _ q
           (c.deed.ensures.by_index a.motifs.now ms w (record { long = c.operator_at.ensures.attrs_len_unchanged ∙ l; few = v.4 }) n g
           (rows-read (setting_as a.set) a.s.now w _ q) (pop-read (setting_as a.set) a.s.now w _ q));
       own_len_unchanged = c.deed.ensures.own_len_unchanged;
-      notes_on = λ ms w l g. notes-on (setting_as a.set) a.s.now w a.own.now _ _ (rw c.in-Operator.is at (read_is (goal.at.returns-else-o-eq-EXEC_STREAM c).After-operator_at ms w l g))
+      notes_on = λ ms w l g. notes-on (setting_as a.set) a.s.now w a.own.now _ _ (rw (c.in-Ok-Some.is, c.in-Ok-Some.field-0-is) at (read_is (goal.at.returns-else-o-eq-EXEC_STREAM c).After-operator_at ms w l g))
           (c.deed.ensures.notes w.ops (record { long = c.operator_at.ensures.attrs_len_unchanged ∙ l; few = v.4 }) n);
     }
