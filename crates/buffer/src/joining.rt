@@ -9,10 +9,7 @@ pub fn join(block: &[u8], work: &mut [u8], held: usize) -> bool
     ensures value { result ≡ leb (held + length block.now) (length work.old) }
     ensures work_after { work.new ≡ joined_at result work.old held block.now }
 {
-    if work.len() < block.len() {
-        return false;
-    }
-    if work.len() - block.len() < held {
+    if work.len() < block.len() || work.len() - block.len() < held {
         return false;
     }
     copy(block, &mut work[held..]);

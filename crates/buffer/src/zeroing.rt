@@ -8,12 +8,7 @@ use names::limits::WORK_LEAST;
 pub fn zero(work: &mut [u8])
     ensures { work.new ≡ cleared work.old }
 {
-    if work.len() < WORK_LEAST {
-        return;
-    }
-    let mut i: usize = 0;
-    while i < WORK_LEAST {
-        work[i] = 0;
-        i += 1;
+    if WORK_LEAST <= work.len() {
+        work[..WORK_LEAST].fill(0);
     }
 }

@@ -8,31 +8,17 @@ ghost use Rattle.store.specs.Replaced.{replaced};
 pub fn reverse(part: &mut [u8])
     ensures { part.new ≡ reversed part.old }
 {
-    let n = part.len();
-    let mut i: usize = 0;
-    while i < n / 2 {
-        let low = part[i];
-        let high = part[n - 1 - i];
-        part[i] = high;
-        part[n - 1 - i] = low;
-        i += 1;
-    }
+    part.reverse();
 }
 
 // The old bytes from start on, of the used ones, make room for the new ones, which stand right behind used.
 pub fn replace(work: &mut [u8], start: usize, old: usize, used: usize, new: usize)
     ensures { work.new ≡ replaced work.old start old used new }
 {
-    if used < start {
+    if used < start || used - start < old {
         return;
     }
-    if used - start < old {
-        return;
-    }
-    if work.len() < used {
-        return;
-    }
-    if work.len() - used < new {
+    if work.len() < used || work.len() - used < new {
         return;
     }
     let end = used + new;

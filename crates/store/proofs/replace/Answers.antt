@@ -1,42 +1,29 @@
 -- `store::replace` meets its contract: three reversals, of all from the old bytes on, of the new ones and of those behind the old ones, are a replacement; where the
 -- numbers say no such parts nothing is done.
 -- Assumes nothing.
-use borrow.Author.Tests.{lt-leb, le-leb}
-use Prim.Native.Nat.{◌≤◌, ◌+◌, ◌-◌}
-use mathlib.Core.Path.{◌≡◌, refl}
-use mathlib.Core.Bool.{true, false}
-use native.Mathlib.Omega.{arith}
-use lib.Dec.{leb}
-use lib.ListN.{length}
+use Rattle.std.proofs.Common.{refl, ◌+◌, ◌≤◌, ◌<◌, length, arith}
+use Rattle.std.proofs.lemmas.Bool.{lt-leb, le-leb}
 use Rattle.store.specs.Replaced.{replaced}
 use Rattle.store.proofs.Turning.{thrice}
+use Rattle.store.proofs.replace.Goals.{then-used-start-via-then-used-start, then-used-start-via-else-used-start+then-used-start-2, then-work-used-via-then-work-used, then-work-used-via-else-work-used+then-work-used-2}
 use Rattle.store.proofs.replace.Goals as goal
 
 pub returns-then-used-start : goal.returns-then-used-start
 unfolding replaced
 returns-then-used-start c = let a = c.args in
-    let f : leb (a.start + a.old) a.used ≡ false = lt-leb (a.start + a.old) a.used (omega arith) in
-    rw f
-
-pub returns-then-used-start-2 : goal.returns-then-used-start-2
-unfolding replaced
-returns-then-used-start-2 c = let a = c.args in
-    let f : leb (a.start + a.old) a.used ≡ false = lt-leb (a.start + a.old) a.used (omega arith) in
-    rw f
+    let h : a.used < a.start + a.old = elim c.then-used-start.branch [
+      then-used-start-via-then-used-start w ↦ omega (arith, w.if-used-start.true)
+    | then-used-start-via-else-used-start+then-used-start-2 w ↦ omega (arith, w.if-used-start-2.true) ] in
+    rw (lt-leb _ _ h)
 
 pub returns-then-work-used : goal.returns-then-work-used
 unfolding replaced
 returns-then-work-used c = let a = c.args in
-    let f : leb (a.start + a.old) a.used ≡ true = le-leb (a.start + a.old) a.used (omega arith) in
-    let g : leb (a.used + a.new) (length a.work.now) ≡ false = lt-leb (a.used + a.new) (length a.work.now) (omega arith) in
-    rw (f, g)
-
-pub returns-then-work-used-2 : goal.returns-then-work-used-2
-unfolding replaced
-returns-then-work-used-2 c = let a = c.args in
-    let f : leb (a.start + a.old) a.used ≡ true = le-leb (a.start + a.old) a.used (omega arith) in
-    let g : leb (a.used + a.new) (length a.work.now) ≡ false = lt-leb (a.used + a.new) (length a.work.now) (omega arith) in
-    rw (f, g)
+    let p : a.start + a.old ≤ a.used = omega arith in
+    let h : length a.work.now < a.used + a.new = elim c.then-work-used.branch [
+      then-work-used-via-then-work-used w ↦ omega (arith, w.if-work-used.true)
+    | then-work-used-via-else-work-used+then-work-used-2 w ↦ omega (arith, w.if-work-used-2.true) ] in
+    rw (le-leb _ _ p, lt-leb _ _ h)
 
 pub returns : goal.returns
 returns c = let r₃ = c.reverse-3 in
