@@ -46,8 +46,8 @@ after-four s p b h w (e, f, g, k) =
 
 -- four bytes of a number are all 0x20, or all 0x00
 module _ (a b c d : ℕ) (h : a < 256) (i : b < 256) (j : c < 256) (k : d < 256) where
-  pub all-20 : a + b * 256 + (c + d * 256) * 65_536 ≡ 0x2020_2020 → (a ≡ 0x20) × (b ≡ 0x20) × (c ≡ 0x20) × (d ≡ 0x20)
+  pub all-20 : a + b * 256 + c * 65_536 + d * 16_777_216 ≡ 0x2020_2020 → (a ≡ 0x20) × (b ≡ 0x20) × (c ≡ 0x20) × (d ≡ 0x20)
   all-20 e = (omega arith, omega arith, omega arith, omega arith)
 
-  pub all-00 : a + b * 256 + (c + d * 256) * 65_536 ≡ 0 → (a ≡ 0) × (b ≡ 0) × (c ≡ 0) × (d ≡ 0)
+  pub all-00 : a + b * 256 + c * 65_536 + d * 16_777_216 ≡ 0 → (a ≡ 0) × (b ≡ 0) × (c ≡ 0) × (d ≡ 0)
   all-00 e = (omega arith, omega arith, omega arith, omega arith)

@@ -9,42 +9,26 @@ pub fn between(low: u8, high: u8, x: u8) -> bool
     ensures value { result ≡ choice_between low high x }
     ensures low_le_x { result ≡ true → (low ≤ x) × (x ≤ high) }
 {
-    if x < low {
-        return false;
-    }
-    x <= high
+    (low..=high).contains(&x)
 }
 
 // White space is 0x00, 0x09 to 0x0d, and 0x20.
+#[tactic(auto, unfolding(scope::specs::Item::white))]
 pub fn is_white(b: u8) -> bool
     ensures { result ≡ white b }
 {
-    if b == 0x00 {
-        return true;
-    }
-    if between(0x09, 0x0d, b) {
-        return true;
-    }
-    b == 0x20
+    matches!(b, 0x00 | 0x09..=0x0d | 0x20)
 }
 
 // The four bytes from p on are all there, and all 0x20 or all 0x00, as most white space is.
 fn four_white(s: &[u8], p: usize) -> bool
     ensures { result ≡ true → Passed s.now p (p + 4) }
 {
-    if s.len() < 4 {
+    if s.len() < 4 || s.len() - 4 < p {
         return false;
     }
-    if s.len() - 4 < p {
-        return false;
-    }
-    let low = s[p] as u32 + s[p + 1] as u32 * 256;
-    let high = s[p + 2] as u32 + s[p + 3] as u32 * 256;
-    let word = low + high * 65_536;
-    if word == 0x2020_2020 {
-        return true;
-    }
-    word == 0
+    let word = u32::from_le_bytes([s[p], s[p + 1], s[p + 2], s[p + 3]]);
+    word == 0x2020_2020 || word == 0
 }
 
 // Past white space from `at` on by fours, as far as they go.
@@ -52,12 +36,10 @@ fn after_fours(s: &[u8], at: usize) -> usize
     ensures { after s.now result ≡ after s.now at }
 {
     let mut next = at;
-    loop {
-        if !four_white(s, next) {
-            return next;
-        }
+    while four_white(s, next) {
         next += 4;
     }
+    next
 }
 
 // The first place from `at` on that is not white, where white space stands there.
@@ -65,10 +47,7 @@ fn behind_white(s: &[u8], at: usize) -> usize
     ensures { result ≡ after s.now at }
 {
     let mut p = after_fours(s, at);
-    while p < s.len() {
-        if !is_white(s[p]) {
-            return p;
-        }
+    while p < s.len() && is_white(s[p]) {
         p += 1;
     }
     p
@@ -78,11 +57,8 @@ fn behind_white(s: &[u8], at: usize) -> usize
 pub fn after_white(s: &[u8], at: usize) -> usize
     ensures { result ≡ after s.now at }
 {
-    if s.len() <= at {
-        return at;
+    if at < s.len() && is_white(s[at]) {
+        return behind_white(s, at);
     }
-    if !is_white(s[at]) {
-        return at;
-    }
-    behind_white(s, at)
+    at
 }

@@ -1,8 +1,6 @@
--- The invariant: the first place that is not white is the same from p on as from the start.
+-- The first place that is not white is the same from p on as from the start.
+use Rattle.std.proofs.Common.{◌≡◌, ◌-◌, length}
 use Rattle.scope.specs.Item.{after}
-use lib.ListN.{length}
-use mathlib.Core.Path.{◌≡◌}
-use Prim.Native.Nat.{◌-◌}
 use Rattle.white.proofs.white.behind_white.Given as goal
 
 abbrev pub invariant-loop-p : goal.invariant-loop-p
