@@ -61,3 +61,22 @@ pub one-digit : (high : Bool) (s : List ℕ) (at : ℕ) → number high 1 s at �
 unfolding number digits
 one-digit true s at = let e : at + 0 ≡ at = omega arith in rw e (omega arith)
 one-digit false s at = let e : at + 0 ≡ at = omega arith in rw e (omega arith)
+
+-- of two and of four bytes, each with its weight
+pub two-high : (s : List ℕ) (at : ℕ) → number true 2 s at ≡ get_or s at 0 * 256 + get_or s (at + 1) 0
+unfolding number digits
+two-high s at = let e : at + 0 ≡ at = omega arith in rw e (omega arith)
+
+pub two-low : (s : List ℕ) (at : ℕ) → number false 2 s at ≡ get_or s at 0 + get_or s (at + 1) 0 * 256
+unfolding number digits
+two-low s at = let e : at + 0 ≡ at = omega arith in rw e (omega arith)
+
+pub four-high : (s : List ℕ) (at : ℕ)
+    → number true 4 s at ≡ get_or s at 0 * 16_777_216 + get_or s (at + 1) 0 * 65_536 + get_or s (at + 2) 0 * 256 + get_or s (at + 3) 0
+unfolding number digits
+four-high s at = let e : at + 0 ≡ at = omega arith in rw e (omega arith)
+
+pub four-low : (s : List ℕ) (at : ℕ)
+    → number false 4 s at ≡ get_or s at 0 + get_or s (at + 1) 0 * 256 + get_or s (at + 2) 0 * 65_536 + get_or s (at + 3) 0 * 16_777_216
+unfolding number digits
+four-low s at = let e : at + 0 ≡ at = omega arith in rw e (omega arith)

@@ -14,7 +14,7 @@ pub enum Width {
 pub fn byte_at(s: &[u8], at: usize) -> u8
     ensures { result ≡ get_or s.now at 0 }
 {
-    if at < s.len() { s[at] } else { 0 }
+    s.get(at).copied().unwrap_or(0)
 }
 
 // How many bytes a width has.
@@ -29,34 +29,27 @@ pub fn bytes_of(width: Width) -> usize
     }
 }
 
-// The byte at a place as a digit of a number.
-fn digit_at(s: &[u8], at: usize) -> u64
-    ensures value { result ≡ get_or s.now at 0 }
-    ensures upper_bound { result < 256 }
-{
-    byte_at(s, at) as u64
-}
-
-// The number of two bytes at a place: two of one byte, in the byte order.
-fn two_at(s: &[u8], at: usize, high: bool) -> u64
-    requires { at < 2 ^ 63 + 16 }
-    ensures value { result ≡ number high 2 s.now at }
-    ensures upper_bound { result < 65536 }
-{
-    let a = digit_at(s, at);
-    let b = digit_at(s, at + 1);
-    if high { a * 256 + b } else { b * 256 + a }
-}
-
-// The number of four bytes at a place: two of two bytes, in the byte order.
-fn four_at(s: &[u8], at: usize, high: bool) -> u64
+// The number of two bytes at a place, in the byte order.
+fn two_at(s: &[u8], at: usize, high: bool) -> u16
     requires { at < 2 ^ 63 }
-    ensures value { result ≡ number high 4 s.now at }
-    ensures upper_bound { result < 2 ^ 32 }
+    ensures { result ≡ number high 2 s.now at }
 {
-    let a = two_at(s, at, high);
-    let b = two_at(s, at + 2, high);
-    if high { a * 65536 + b } else { b * 65536 + a }
+    let bytes = [byte_at(s, at), byte_at(s, at + 1)];
+    if high { u16::from_be_bytes(bytes) } else { u16::from_le_bytes(bytes) }
+}
+
+// The number of four bytes at a place, in the byte order.
+fn four_at(s: &[u8], at: usize, high: bool) -> u32
+    requires { at < 2 ^ 63 }
+    ensures { result ≡ number high 4 s.now at }
+{
+    let bytes = [
+        byte_at(s, at),
+        byte_at(s, at + 1),
+        byte_at(s, at + 2),
+        byte_at(s, at + 3),
+    ];
+    if high { u32::from_be_bytes(bytes) } else { u32::from_le_bytes(bytes) }
 }
 
 // The number of a width at a place; bytes past the end count as 0.
@@ -68,8 +61,8 @@ pub fn number_at(s: &[u8], at: usize, width: Width, high: bool) -> u32
         return 0;
     }
     match width {
-        Width::One => digit_at(s, at) as u32,
-        Width::Two => two_at(s, at, high) as u32,
-        Width::Four => four_at(s, at, high) as u32,
+        Width::One => u32::from(byte_at(s, at)),
+        Width::Two => u32::from(two_at(s, at, high)),
+        Width::Four => four_at(s, at, high),
     }
 }
