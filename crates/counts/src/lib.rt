@@ -9,22 +9,14 @@ use names::limits::PERFORMED_MOST;
 pub fn add(n: u32, m: u32) -> u32
     ensures { (x y : ℕ) → n ≡ min x 1_000_001 → m ≡ min y 1_000_001 → result ≡ min (x + y) 1_000_001 }
 {
-    if n <= PERFORMED_MOST {
-        if m <= PERFORMED_MOST - n {
-            return n + m;
-        }
-    }
-    1_000_001
+    n.saturating_add(m).min(PERFORMED_MOST + 1)
 }
 
 // A count; past 1,000,000 it is 1,000,001.
 pub fn capped(n: usize) -> u32
     ensures { result ≡ min n 1_000_001 }
 {
-    if 1_000_001 <= n {
-        return 1_000_001;
-    }
-    n as u32
+    n.min(1_000_001) as u32
 }
 
 // The most states saved, after m more at a time on top of l; past 24 it is 25.
@@ -34,21 +26,5 @@ pub fn higher(most: u32, l: u32, m: u32) -> u32
     if m == 0 {
         return most;
     }
-    if 25 <= most {
-        return 25;
-    }
-    if 25 <= m {
-        return 25;
-    }
-    if 25 <= l {
-        return 25;
-    }
-    let top = l + m;
-    if top <= most {
-        return most;
-    }
-    if 25 <= top {
-        return 25;
-    }
-    top
+    most.max(l.saturating_add(m)).min(25)
 }
