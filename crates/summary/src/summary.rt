@@ -26,22 +26,21 @@ pub struct Summary {
 // The summary of no operator, as one number: from either start the page is as it was.
 pub const EMPTY: usize = 48;
 
-fn bit(b: bool) -> usize
-    ensures value { result ≡ bit_of b }
-    ensures upper_bound { result ≤ 1 }
-{
-    if b { 1 } else { 0 }
-}
-
 impl Ending {
+    // The ending as four bits.
     fn packed(self) -> usize
         ensures value { result ≡ ending_bits self }
         ensures upper_bound { result ≤ 15 }
     {
-        bit(self.cursor) + bit(self.gray) * 2 + bit(self.lost) * 4 + bit(self.wrong) * 8
+        usize::from(self.cursor)
+            + usize::from(self.gray) * 2
+            + usize::from(self.lost) * 4
+            + usize::from(self.wrong) * 8
     }
 }
 
+// The ending in four bits.
+#[tactic(auto, unfolding(crate::specs::Sums::ending_of))]
 fn in_bits(n: usize) -> Ending
     ensures { result ≡ ending_of n }
 {
@@ -58,28 +57,24 @@ impl Summary {
     pub fn packed(self) -> usize
         ensures { (row : List Stroke) → Sums self row → SumsAs result row }
     {
-        let a = self.a;
-        let b = self.b;
-        let high = a.packed();
-        let low = b.packed();
-        let source = bit(self.source);
-        let count = self.count as usize;
-        let most = (self.most % 32) as usize;
-        count * 16384 + most * 512 + source * 256 + high * 16 + low
+        self.count as usize * 16384
+            + (self.most % 32) as usize * 512
+            + usize::from(self.source) * 256
+            + self.a.packed() * 16
+            + self.b.packed()
     }
 }
 
 // The summary in a number.
+#[tactic(auto, unfolding(crate::specs::Sums::SumsAs, crate::specs::Sums::summary_of))]
 pub fn unpacked(n: usize) -> Summary
     ensures { (row : List Stroke) → SumsAs n row → Sums result row }
 {
-    let a = in_bits(n / 16 % 16);
-    let b = in_bits(n % 16);
     Summary {
         count: (n / 16384 % 1_048_576) as u32,
         most: (n / 512 % 32) as u32,
         source: n / 256 % 2 == 1,
-        a,
-        b,
+        a: in_bits(n / 16 % 16),
+        b: in_bits(n % 16),
     }
 }
