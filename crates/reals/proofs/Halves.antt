@@ -31,16 +31,6 @@ pub not-zero : (b : ℕ) → (b ≡ 0 → ⊥) → ltb 0 b ≡ true
 not-zero zero h = absurd (h refl)
 not-zero (suc b) h = let p : 0 < suc b = omega arith in lt-ltb 0 (suc b) p
 
--- a whole number
-pub whole-whole : (x y : ℕ) (t : Two) → Reads (Whole x y) t → x ≡ whole_in t
-whole-whole x y t reads_whole = refl
-
-pub whole-real : (a b : Float) (t : Two) → Reads (Real a b) t → 0 ≡ whole_in t
-whole-real a b t (reads_real p q f g) = refl
-
-pub whole-neither : (t : Two) → Reads Neither t → 0 ≡ whole_in t
-whole-neither t (reads_neither f) = refl
-
 -- a point
 pub point-whole : (x y : ℕ) (t : Two) → Reads (Whole x y) t → true ≡ point_in t
 point-whole x y t reads_whole = refl

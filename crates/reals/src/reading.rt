@@ -22,9 +22,10 @@ fn first_of(s: &[u8], high: bool, tag: usize, first: usize) -> u32
     ensures upper_bound { result < 65536 }
 {
     if tag == 0xc0 {
-        return number::number_at(s, first, Width::One, high);
+        number::number_at(s, first, Width::One, high)
+    } else {
+        number::number_at(s, first, Width::Two, high)
     }
-    number::number_at(s, first, Width::Two, high)
 }
 
 // The number of a width so many bytes behind the first of a value.
@@ -32,13 +33,15 @@ fn behind(s: &[u8], high: bool, first: usize, by: usize, width: Width) -> u32
     requires { by ≤ 4 }
     ensures { result ≡ number_in high (bytes_of width) s.now (first + by) }
 {
-    if s.len() <= first {
-        return 0;
+    if first < s.len() {
+        number::number_at(s, first + by, width, high)
+    } else {
+        0
     }
-    number::number_at(s, first + by, width, high)
 }
 
-// A real by its bits: its eight exponent bits are not all ones.
+// A real by its bits: its eight exponent bits are not all ones. Document 02 judges reals over their bits as a whole number, so no float is made to ask it.
+#[tactic(auto, unfolding(scope::specs::Attributes::finite))]
 fn is_finite(bits: u32) -> bool
     ensures { result ≡ finite bits }
 {
@@ -50,13 +53,11 @@ fn reals_of(x: u32, y: u32) -> Numbers
     ensures reads { Reads result (reals x y) }
     ensures made { Made result }
 {
-    if !is_finite(x) {
-        return Numbers::Neither;
+    if is_finite(x) && is_finite(y) {
+        Numbers::Real(f32::from_bits(x), f32::from_bits(y))
+    } else {
+        Numbers::Neither
     }
-    if !is_finite(y) {
-        return Numbers::Neither;
-    }
-    Numbers::Real(f32::from_bits(x), f32::from_bits(y))
 }
 
 // The numbers of a value of this tag, the first of which stands at a place.
@@ -81,8 +82,7 @@ pub fn whole(numbers: Numbers) -> u32
 {
     match numbers {
         Numbers::Whole(x, _) => x,
-        Numbers::Real(_, _) => 0,
-        Numbers::Neither => 0,
+        Numbers::Real(_, _) | Numbers::Neither => 0,
     }
 }
 
@@ -91,7 +91,8 @@ pub fn long_at(s: &[u8], high: bool, tag: usize, first: usize) -> u32
     ensures { result ≡ number_in high (long_bytes tag) s.now first }
 {
     if tag == 0xc2 {
-        return number::number_at(s, first, Width::Four, high);
+        number::number_at(s, first, Width::Four, high)
+    } else {
+        first_of(s, high, tag, first)
     }
-    first_of(s, high, tag, first)
 }
