@@ -7,8 +7,9 @@ use mathlib.Core.List.{List, [], ◌∷◌, ◌++◌}
 use native.Mathlib.Omega.{arith}
 use native.Mathlib.Numerals.{add-one}
 use lib.ListN.{get_or, take, drop}
-use lib.Dec.{eqb, ltb}
-use borrow.Author.Tests.{lt-ltb, eq-eqb}
+use Rattle.std.proofs.Common.{Option, Some, None}
+use lib.Dec.{eqb}
+use borrow.Author.Tests.{eq-eqb}
 use Rattle.scope.specs.Choice.{pick}
 use Rattle.scope.specs.Number.{number as number_in}
 use Rattle.scope.specs.Item.{Attribute}
@@ -46,11 +47,11 @@ module _ (a : List ℕ) where
       rw add-one (rw e at (rows_last 0 i))
 
   pub place-more : (number i n : ℕ) → i < n → place_from i number (rows_from a i (n - i))
-      ≡ pick (eqb (row_at a i).number number) i (place_from (i + 1) number (rows_from a (i + 1) (n - (i + 1))))
+      ≡ pick (eqb (row_at a i).number number) (Some i) (place_from (i + 1) number (rows_from a (i + 1) (n - (i + 1))))
   unfolding place_from
   place-more number i n h = rw (rows_more i n h, add-one)
 
-  pub place_end : (number i n : ℕ) → n ≤ i → place_from i number (rows_from a i (n - i)) ≡ 16
+  pub place_end : (number i n : ℕ) → n ≤ i → place_from i number (rows_from a i (n - i)) ≡ None
   unfolding place_from
   place_end number i n h = rw (rows_end i n h)
 
@@ -79,46 +80,40 @@ unfolding bytes_in first_in
 bytes-first s [] n = refl
 bytes-first s (a ∷ l) n = rw (bytes-first s l n)
 
+-- what is given of the place of the first, or d
+abbrev pub of_place : {A : Type 0} → (ℕ → A) → A → Option ℕ → A
+of_place f d None = d
+of_place f d (Some p) = f p
+
 module _ {A : Type 0} (f : Attribute → A) (d : A) (number : ℕ) (a : List ℕ) where
   -- by its place
-  first-place : (i k : ℕ) → i + k ≤ 16
-      → first_in f d number (rows_from a i k)
-      ≡ pick (ltb (place_from i number (rows_from a i k)) 16) (f (row_at a (place_from i number (rows_from a i k)))) d
+  first-place : (i k : ℕ) → first_in f d number (rows_from a i k) ≡ of_place (λ p. f (row_at a p)) d (place_from i number (rows_from a i k))
   unfolding first_in place_from rows_from
-  first-place i zero h = refl
-  first-place i (suc k) h =
-      let e : i < 16 = omega arith in
-      let g : suc i + k ≤ 16 = omega arith in
-      hit (eqb (row_at a i).number number) (lt-ltb i 16 e) (first-place (suc i) k g)
+  first-place i zero = refl
+  first-place i (suc k) = hit (eqb (row_at a i).number number) (first-place (suc i) k)
     where
-      hit : (b : Bool) → ltb i 16 ≡ true
-          → first_in f d number (rows_from a (suc i) k)
-          ≡ pick (ltb (place_from (suc i) number (rows_from a (suc i) k)) 16) (f (row_at a (place_from (suc i) number (rows_from a (suc i) k)))) d
+      hit : (b : Bool) → first_in f d number (rows_from a (suc i) k) ≡ of_place (λ p. f (row_at a p)) d (place_from (suc i) number (rows_from a (suc i) k))
           → pick b (f (row_at a i)) (first_in f d number (rows_from a (suc i) k))
-          ≡ pick (ltb (pick b i (place_from (suc i) number (rows_from a (suc i) k))) 16) (f (row_at a (pick b i (place_from (suc i) number (rows_from a (suc i) k))))) d
-      hit true e q = rw e
-      hit false e q = q
+          ≡ of_place (λ p. f (row_at a p)) d (pick b (Some i) (place_from (suc i) number (rows_from a (suc i) k)))
+      hit true q = refl
+      hit false q = q
 
-  first_at : (n p : ℕ) → n ≤ 16 → p ≡ place_of number (rows_of a n) → first_in f d number (rows_of a n) ≡ pick (ltb p 16) (f (row_at a p)) d
+  first_at : (n : ℕ) (p : Option ℕ) → p ≡ place_of number (rows_of a n) → first_in f d number (rows_of a n) ≡ of_place (λ q. f (row_at a q)) d p
   unfolding place_of rows_of
-  first_at n p h e = rw e (first-place 0 n (omega arith))
+  first_at n p e = rw e (first-place 0 n)
 
-module _ (number : ℕ) (a : List ℕ) (n p : ℕ) (few : n ≤ 16) (place : p ≡ place_of number (rows_of a n)) where
-  pub has-at : has number (rows_of a n) ≡ ltb p 16
-  has-at = has_first number (rows_of a n) ∙ first_at (λ b. true) false number a n p few place ∙ either (ltb p 16)
-    where
-      either : (b : Bool) → pick b true false ≡ b
-      either true = refl
-      either false = refl
+module _ (number : ℕ) (a : List ℕ) (n : ℕ) (p : Option ℕ) (place : p ≡ place_of number (rows_of a n)) where
+  pub has-at : has number (rows_of a n) ≡ of_place (λ q. true) false p
+  has-at = has_first number (rows_of a n) ∙ first_at (λ b. true) false number a n p place
 
-  pub value-at : (high : Bool) (s : List ℕ) → value_in high s (rows_of a n) number ≡ pick (ltb p 16) (first_of high s (row_at a p)) 0
-  value-at high s = value-first high s (rows_of a n) number ∙ first_at (first_of high s) 0 number a n p few place
+  pub value-at : (high : Bool) (s : List ℕ) → value_in high s (rows_of a n) number ≡ of_place (λ q. first_of high s (row_at a q)) 0 p
+  value-at high s = value-first high s (rows_of a n) number ∙ first_at (first_of high s) 0 number a n p place
 
-  pub long-at : (high : Bool) (s : List ℕ) → long_in high s (rows_of a n) number ≡ pick (ltb p 16) (number_in high (long_bytes (row_at a p).tag) s (row_at a p).first) 0
-  long-at high s = long-first high s (rows_of a n) number ∙ first_at (λ b. number_in high (long_bytes b.tag) s b.first) 0 number a n p few place
+  pub long-at : (high : Bool) (s : List ℕ) → long_in high s (rows_of a n) number ≡ of_place (λ q. number_in high (long_bytes (row_at a q).tag) s (row_at a q).first) 0 p
+  long-at high s = long-first high s (rows_of a n) number ∙ first_at (λ b. number_in high (long_bytes b.tag) s b.first) 0 number a n p place
 
-  pub bytes-at : (s : List ℕ) → bytes_in s (rows_of a n) number ≡ pick (ltb p 16) (take (row_at a p).count (drop (row_at a p).first s)) []
-  bytes-at s = bytes-first s (rows_of a n) number ∙ first_at (λ b. take b.count (drop b.first s)) [] number a n p few place
+  pub bytes-at : (s : List ℕ) → bytes_in s (rows_of a n) number ≡ of_place (λ q. take (row_at a q).count (drop (row_at a q).first s)) [] p
+  bytes-at s = bytes-first s (rows_of a n) number ∙ first_at (λ b. take b.count (drop b.first s)) [] number a n p place
 
 -- a row of this number is among them
 either_way : (b t : Bool) → t ≡ true → pick b true t ≡ true

@@ -1,18 +1,14 @@
 -- `long_in`: by the place of the first.
 -- Assumes nothing.
-use mathlib.Core.Path.{sym, ◌∙◌}
-use borrow.Author.Tests.{lt-ltb, le-ltb}
+use Rattle.std.proofs.Common.{Some, None, sym, ◌∙◌}
 use Rattle.items.specs.Rows.{row_at}
 use Rattle.attributes.proofs.Rowed.{long-at}
 use Rattle.attributes.proofs.attributes.long_in.Goals as goal
 
-pub returns-then-i-lt16 : goal.returns-then-i-lt16
+pub returns-in-Some : goal.returns-in-Some
 unfolding row_at
-returns-then-i-lt16 c = let a = c.args in
-    λ z. sym (long-at a.number a.attrs.now a.n c.place_of-i.result z.few (c.place_of-i.ensures.value z) a.high a.s.now
-    ∙ rw (lt-ltb _ _ c.if-i-lt16.true) (sym c.long_at.ensures))
+returns-in-Some c = let a = c.args in
+    λ z. c.long_at.ensures ∙ sym (long-at a.number a.attrs.now a.n (Some c.in-Some.i) (c.in-Some.ensures.value z) a.high a.s.now)
 
-pub returns : goal.returns
-returns c = let a = c.args in
-    λ z. sym (long-at a.number a.attrs.now a.n c.place_of-i.result z.few (c.place_of-i.ensures.value z) a.high a.s.now
-    ∙ rw (le-ltb _ _ c.if-i-lt16.false))
+pub returns-in-None : goal.returns-in-None
+returns-in-None c = let a = c.args in λ z. sym (long-at a.number a.attrs.now a.n None (c.in-None.ensures.value z) a.high a.s.now)

@@ -1,18 +1,13 @@
--- `attributes::attributes::part_in` meets its contract: by the place of the first.
+-- `part_in`: by the place of the first.
 -- Assumes nothing.
-use mathlib.Core.Path.{◌∙◌}
-use borrow.Author.Tests.{lt-ltb, le-ltb}
+use Rattle.std.proofs.Common.{Some, None}
 use Rattle.items.specs.Rows.{row_at}
 use Rattle.attributes.proofs.Rowed.{bytes-at}
 use Rattle.attributes.proofs.attributes.part_in.Goals as goal
 
-pub returns-then-i-lt16 : goal.returns-then-i-lt16
+pub returns-in-Some : goal.returns-in-Some
 unfolding row_at
-returns-then-i-lt16 c = let a = c.args in
-    λ z s. bytes-at a.number a.attrs.now a.n c.place_of-i.result z.few (c.place_of-i.ensures.value z) s
-    ∙ rw (lt-ltb _ _ c.if-i-lt16.true)
+returns-in-Some c = let a = c.args in λ z s. bytes-at a.number a.attrs.now a.n (Some c.in-Some.i) (c.in-Some.ensures.value z) s
 
-pub returns : goal.returns
-returns c = let a = c.args in
-    λ z s. bytes-at a.number a.attrs.now a.n c.place_of-i.result z.few (c.place_of-i.ensures.value z) s
-    ∙ rw (le-ltb _ _ c.if-i-lt16.false)
+pub returns-in-None : goal.returns-in-None
+returns-in-None c = let a = c.args in λ z s. bytes-at a.number a.attrs.now a.n None (c.in-None.ensures.value z) s

@@ -1,25 +1,16 @@
--- `attributes::attributes::value_in` meets its contract: by the place of the first.
+-- `value_in`: by the place of the first.
 -- Assumes nothing.
-use mathlib.Core.Path.{sym, ◌∙◌}
-use borrow.Author.Tests.{lt-ltb, le-ltb}
+use Rattle.std.proofs.Common.{Some, None, sym, ◌∙◌}
 use Rattle.scope.specs.Attributes.{first_of, two_of}
 use Rattle.items.specs.Rows.{row_at}
 use Rattle.attributes.proofs.Rowed.{value-at}
-use lib.Dec.{lit<}
 use Rattle.attributes.proofs.attributes.value_in.Goals as goal
 
-pub returns-then-i-lt16 : goal.returns-then-i-lt16
+pub returns-in-Some-clause-value : goal.returns-in-Some-clause-value
 unfolding first_of row_at
-returns-then-i-lt16 c = let a = c.args in
-    record {
-      value = λ z. sym (value-at a.number a.attrs.now a.n c.place_of-i.result z.few (c.place_of-i.ensures.value z) a.high a.s.now
-          ∙ rw (lt-ltb _ _ c.if-i-lt16.true) (sym (c.whole.ensures.value (two_of a.high a.s.now (row_at a.attrs.now c.place_of-i.result)) c.numbers_at.ensures.reads)));
-      upper_bound = c.whole.ensures.upper_bound c.numbers_at.ensures.made;
-    }
+returns-in-Some-clause-value c = let a = c.args in
+    λ z. c.whole.ensures.value (two_of a.high a.s.now (row_at a.attrs.now c.in-Some.i)) c.numbers_at.ensures.reads
+    ∙ sym (value-at a.number a.attrs.now a.n (Some c.in-Some.i) (c.in-Some.ensures.value z) a.high a.s.now)
 
-pub returns : goal.returns
-returns c = let a = c.args in record {
-  value = λ z. sym (value-at a.number a.attrs.now a.n c.place_of-i.result z.few (c.place_of-i.ensures.value z) a.high a.s.now
-      ∙ rw (le-ltb _ _ c.if-i-lt16.false));
-  upper_bound = lit< tt;
-}
+pub returns-in-None-clause-value : goal.returns-in-None-clause-value
+returns-in-None-clause-value c = let a = c.args in λ z. sym (value-at a.number a.attrs.now a.n None (c.in-None.ensures.value z) a.high a.s.now)
