@@ -1,3 +1,2 @@
 pub mod Packs
-pub mod Within
 pub mod Marked

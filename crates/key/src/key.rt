@@ -19,30 +19,20 @@ fn pack(s: &[u8], from: usize) -> usize
     ensures { result ≡ packed s.now from 8 }
 {
     let mut v: usize = 0;
-    let mut i: usize = 0;
-    while i < 8 {
-        v = v * 256 + number(byte_at(s, from + i));
-        i += 1;
+    for i in 0..8 {
+        v = v * 256 + usize::from(byte_at(s, from + i));
     }
     v
 }
 
-// A byte as a number.
-fn number(b: u8) -> usize
-    ensures { (result ≡ b) × (result < 256) }
-{
-    b as usize
-}
-
 // The three numbers of a name.
+#[tactic(auto, unfolding(crate::specs::Keys::key_of))]
 pub fn key_of(name: &[u8]) -> Key
     ensures { key_as result ≡ key_of name.now }
 {
-    let first = pack(name, 0);
-    let next = pack(name, 8);
     Key {
-        first,
-        next,
+        first: pack(name, 0),
+        next: pack(name, 8),
         long: name.len(),
     }
 }

@@ -6,21 +6,20 @@ ghost use Rattle.key.specs.Mark.{mark};
 use names::limits::MOTIFS_MOST;
 
 // Mark j is set; no mark from 64 on is.
+#[tactic(auto, unfolding(crate::specs::Mark::mark))]
 pub fn has_mark(marks: usize, j: usize) -> bool
     ensures { j < 64 → result ≡ mark marks j }
 {
-    if MOTIFS_MOST <= j {
-        return false;
-    }
-    (marks >> j) % 2 == 1
+    j < MOTIFS_MOST && (marks >> j) % 2 == 1
 }
 
 // The marks with mark j set, as they were from 64 on.
 pub fn with_mark(marks: usize, j: usize) -> usize
     ensures { j < 64 → (k : ℕ) → mark result k ≡ pick (eqb j k) true (mark marks k) }
 {
-    if MOTIFS_MOST <= j {
-        return marks;
+    if j < MOTIFS_MOST {
+        marks | (1 << j)
+    } else {
+        marks
     }
-    marks | (1 << j)
 }

@@ -14,13 +14,10 @@ fn within(len: usize, first: usize, count: usize) -> Part
     if len <= first {
         return Part { first: 0, count: 0 };
     }
-    if len - first < count {
-        return Part {
-            first,
-            count: len - first,
-        };
+    Part {
+        first,
+        count: count.min(len - first),
     }
-    Part { first, count }
 }
 
 // StreamName of an operator.
