@@ -1,11 +1,11 @@
 // The operator table: a line for an operator, in the order of Appendix C of 000, and a line for each attribute; and what class 2;1 has besides.
-ghost use Rattle.std.specs.Prelude.{◌≡◌, true, ◌∷◌, []};
+ghost use Rattle.std.specs.Prelude.{◌≡◌, ◌≤◌, true};
 ghost use Rattle.scope.specs.Header.{one, two};
 ghost use Rattle.scope.specs.Table.{table_one, table_two, table, line_in};
 ghost use Rattle.setting.specs.Views.{class_as};
 ghost use Rattle.scope.specs.Choice.{among};
 ghost use Rattle.table.specs.Lines.{own_lines, own_rules, own_line, own_rule, is_known, row_with, brief_as, brief_of, takes_of, rule_of};
-ghost use Rattle.table.specs.declared.table.Form.TheVariants.{Each, One, Line, Unknown};
+ghost use Rattle.table.specs.declared.table.Form.TheVariants.{Each, One};
 
 use names::attributes::{SOURCE_HEIGHT as HEIGHT, SOURCE_WIDTH as WIDTH, *};
 use names::operators::*;
@@ -55,188 +55,129 @@ pub struct Rule {
     pub high: usize,
 }
 
-// Takes no attribute.
-fn nothing() -> Row
-    ensures { result ≡ row_with (Each 0) [] }
+// A line with up to eight numbers.
+fn line<const N: usize>(form: Form, first: [u8; N]) -> Row
+    requires { N ≤ 8 }
+    ensures { result ≡ row_with form first.entry }
 {
-    Row {
-        form: Form::Each(0),
-        numbers: [NO, NO, NO, NO, NO, NO, NO, NO],
-    }
+    let mut numbers = [NO; 8];
+    numbers[..N].copy_from_slice(&first);
+    Row { form, numbers }
 }
 
-// Takes one, which must be there.
-fn needs(a: u8) -> Row
-    ensures { result ≡ row_with (Each 1) (a ∷ []) }
+// Takes these, of which the first so many must be there.
+fn each<const N: usize>(must: usize, numbers: [u8; N]) -> Row
+    requires { N ≤ 8 }
+    ensures { result ≡ row_with (Each must) numbers.entry }
 {
-    Row {
-        form: Form::Each(1),
-        numbers: [a, NO, NO, NO, NO, NO, NO, NO],
-    }
+    line(Form::Each(must), numbers)
 }
 
-// Takes up to three, of which the first so many must be there.
-fn each(must: usize, a: u8, b: u8, c: u8) -> Row
-    ensures { result ≡ row_with (Each must) (a ∷ b ∷ c ∷ []) }
+// Takes exactly one of these.
+fn one_of<const N: usize>(numbers: [u8; N]) -> Row
+    requires { N ≤ 8 }
+    ensures { result ≡ row_with One numbers.entry }
 {
-    Row {
-        form: Form::Each(must),
-        numbers: [a, b, c, NO, NO, NO, NO, NO],
-    }
-}
-
-// Takes four, which may be missing.
-fn may_four(a: u8, b: u8, c: u8, d: u8) -> Row
-    ensures { result ≡ row_with (Each 0) (a ∷ b ∷ c ∷ d ∷ []) }
-{
-    Row {
-        form: Form::Each(0),
-        numbers: [a, b, c, d, NO, NO, NO, NO],
-    }
-}
-
-// Takes five, which must be there.
-fn needs_five(a: u8, b: u8, c: u8, d: u8, e: u8) -> Row
-    ensures { result ≡ row_with (Each 5) (a ∷ b ∷ c ∷ d ∷ e ∷ []) }
-{
-    Row {
-        form: Form::Each(5),
-        numbers: [a, b, c, d, e, NO, NO, NO],
-    }
-}
-
-// Takes up to seven, of which the first so many must be there.
-fn each_of_seven(must: usize, a: u8, b: u8, c: u8, d: u8, e: u8, f: u8, g: u8) -> Row
-    ensures { result ≡ row_with (Each must) (a ∷ b ∷ c ∷ d ∷ e ∷ f ∷ g ∷ []) }
-{
-    Row {
-        form: Form::Each(must),
-        numbers: [a, b, c, d, e, f, g, NO],
-    }
-}
-
-// Takes exactly one of up to four.
-fn one_of(a: u8, b: u8, c: u8, d: u8) -> Row
-    ensures { result ≡ row_with One (a ∷ b ∷ c ∷ d ∷ []) }
-{
-    Row {
-        form: Form::One,
-        numbers: [a, b, c, d, NO, NO, NO, NO],
-    }
-}
-
-// Takes the first alone, or both others.
-fn one_or_both(a: u8, b: u8, c: u8) -> Row
-    ensures { result ≡ row_with Line (a ∷ b ∷ c ∷ []) }
-{
-    Row {
-        form: Form::Line,
-        numbers: [a, b, c, NO, NO, NO, NO, NO],
-    }
-}
-
-// No operator of the table.
-fn unknown() -> Row
-    ensures { result ≡ row_with Unknown [] }
-{
-    Row {
-        form: Form::Unknown,
-        numbers: [NO, NO, NO, NO, NO, NO, NO, NO],
-    }
+    line(Form::One, numbers)
 }
 
 // What attributes an operator takes in class 1;1: one line for one operator.
+#[tactic(auto, unfolding(scope::specs::Table::table_one, scope::specs::Table::line_in, crate::specs::Lines::must_in, crate::specs::Lines::numbers_in, crate::specs::Lines::up_to_no))]
 fn row_of_one(tag: u8) -> Row
     ensures { brief_as result ≡ brief_of (line_in table_one tag) }
 {
     match tag {
-        BEGIN_IMAGE => needs_five(COLOR_MAPPING, COLOR_DEPTH, WIDTH, HEIGHT, DESTINATION_SIZE),
-        BEGIN_PAGE => each(2, ORIENTATION, MEDIA_SIZE, MEDIA_SOURCE),
-        BEGIN_RAST_PATTERN => each_of_seven(
-            7,
-            COLOR_MAPPING,
-            COLOR_DEPTH,
-            WIDTH,
-            HEIGHT,
-            DESTINATION_SIZE,
-            PATTERN_DEFINE_ID,
-            PATTERN_PERSISTENCE,
+        BEGIN_IMAGE => each(
+            5,
+            [COLOR_MAPPING, COLOR_DEPTH, WIDTH, HEIGHT, DESTINATION_SIZE],
         ),
-        BEGIN_SESSION => each(2, MEASURE, UNITS_PER_MEASURE, ERROR_REPORT),
-        BEGIN_STREAM => needs(STREAM_NAME),
-        CLOSE_DATA_SOURCE => nothing(),
-        CLOSE_SUB_PATH => nothing(),
-        COMMENT => each(0, COMMENT_DATA, NO, NO),
-        END_IMAGE => nothing(),
-        END_PAGE => each(0, PAGE_COPIES, NO, NO),
-        END_RAST_PATTERN => nothing(),
-        END_SESSION => nothing(),
-        END_STREAM => nothing(),
-        EXEC_STREAM => needs(STREAM_NAME),
-        LINE_PATH => one_or_both(END_POINT, NUMBER_OF_POINTS, POINT_TYPE),
-        LINE_REL_PATH => one_or_both(END_POINT, NUMBER_OF_POINTS, POINT_TYPE),
-        NEW_PATH => nothing(),
-        OPEN_DATA_SOURCE => each(2, SOURCE_TYPE, DATA_ORG, NO),
-        PAINT_PATH => nothing(),
-        POP_GS => nothing(),
-        PUSH_GS => nothing(),
-        READ_IMAGE => each(3, START_LINE, BLOCK_HEIGHT, COMPRESS_MODE),
-        READ_RAST_PATTERN => each(3, START_LINE, BLOCK_HEIGHT, COMPRESS_MODE),
-        READ_STREAM => needs(STREAM_DATA_LENGTH),
-        RECTANGLE => needs(BOUNDING_BOX),
-        SET_BRUSH_SOURCE => one_of(RGB_COLOR, GRAY_LEVEL, NULL_BRUSH, PATTERN_SELECT_ID),
-        SET_COLOR_SPACE => needs(COLOR_SPACE),
-        SET_CURSOR => needs(POINT),
-        SET_CURSOR_REL => needs(POINT),
-        SET_PEN_SOURCE => one_of(RGB_COLOR, GRAY_LEVEL, NULL_PEN, NO),
-        SET_PEN_WIDTH => needs(PEN_WIDTH),
-        _ => unknown(),
+        BEGIN_PAGE => each(2, [ORIENTATION, MEDIA_SIZE, MEDIA_SOURCE]),
+        BEGIN_RAST_PATTERN => each(
+            7,
+            [
+                COLOR_MAPPING,
+                COLOR_DEPTH,
+                WIDTH,
+                HEIGHT,
+                DESTINATION_SIZE,
+                PATTERN_DEFINE_ID,
+                PATTERN_PERSISTENCE,
+            ],
+        ),
+        BEGIN_SESSION => each(2, [MEASURE, UNITS_PER_MEASURE, ERROR_REPORT]),
+        BEGIN_STREAM => each(1, [STREAM_NAME]),
+        CLOSE_DATA_SOURCE => each(0, []),
+        CLOSE_SUB_PATH => each(0, []),
+        COMMENT => each(0, [COMMENT_DATA]),
+        END_IMAGE => each(0, []),
+        END_PAGE => each(0, [PAGE_COPIES]),
+        END_RAST_PATTERN => each(0, []),
+        END_SESSION => each(0, []),
+        END_STREAM => each(0, []),
+        EXEC_STREAM => each(1, [STREAM_NAME]),
+        LINE_PATH => line(Form::Line, [END_POINT, NUMBER_OF_POINTS, POINT_TYPE]),
+        LINE_REL_PATH => line(Form::Line, [END_POINT, NUMBER_OF_POINTS, POINT_TYPE]),
+        NEW_PATH => each(0, []),
+        OPEN_DATA_SOURCE => each(2, [SOURCE_TYPE, DATA_ORG]),
+        PAINT_PATH => each(0, []),
+        POP_GS => each(0, []),
+        PUSH_GS => each(0, []),
+        READ_IMAGE => each(3, [START_LINE, BLOCK_HEIGHT, COMPRESS_MODE]),
+        READ_RAST_PATTERN => each(3, [START_LINE, BLOCK_HEIGHT, COMPRESS_MODE]),
+        READ_STREAM => each(1, [STREAM_DATA_LENGTH]),
+        RECTANGLE => each(1, [BOUNDING_BOX]),
+        SET_BRUSH_SOURCE => one_of([RGB_COLOR, GRAY_LEVEL, NULL_BRUSH, PATTERN_SELECT_ID]),
+        SET_COLOR_SPACE => each(1, [COLOR_SPACE]),
+        SET_CURSOR => each(1, [POINT]),
+        SET_CURSOR_REL => each(1, [POINT]),
+        SET_PEN_SOURCE => one_of([RGB_COLOR, GRAY_LEVEL, NULL_PEN]),
+        SET_PEN_WIDTH => each(1, [PEN_WIDTH]),
+        _ => line(Form::Unknown, []),
     }
 }
 
 // The lines that are its own.
+#[tactic(auto, unfolding(scope::specs::Table::table_two, scope::specs::Table::line_in, crate::specs::Lines::must_in, crate::specs::Lines::numbers_in, crate::specs::Lines::up_to_no))]
 fn own_row(tag: u8) -> Row
     ensures { among own_lines tag ≡ true → brief_as result ≡ brief_of (line_in table_two tag) }
 {
     match tag {
-        BEGIN_PAGE => may_four(ORIENTATION, MEDIA_SIZE, MEDIA_SOURCE, MEDIA_TYPE),
-        READ_IMAGE => each_of_seven(
+        BEGIN_PAGE => each(0, [ORIENTATION, MEDIA_SIZE, MEDIA_SOURCE, MEDIA_TYPE]),
+        READ_IMAGE => each(
             3,
-            START_LINE,
-            BLOCK_HEIGHT,
-            COMPRESS_MODE,
-            PAD_BYTES_MULTIPLE,
-            BLOCK_BYTE_LENGTH,
-            NO,
-            NO,
+            [
+                START_LINE,
+                BLOCK_HEIGHT,
+                COMPRESS_MODE,
+                PAD_BYTES_MULTIPLE,
+                BLOCK_BYTE_LENGTH,
+            ],
         ),
-        READ_RAST_PATTERN => each_of_seven(
+        READ_RAST_PATTERN => each(
             3,
-            START_LINE,
-            BLOCK_HEIGHT,
-            COMPRESS_MODE,
-            PAD_BYTES_MULTIPLE,
-            BLOCK_BYTE_LENGTH,
-            NO,
-            NO,
+            [
+                START_LINE,
+                BLOCK_HEIGHT,
+                COMPRESS_MODE,
+                PAD_BYTES_MULTIPLE,
+                BLOCK_BYTE_LENGTH,
+            ],
         ),
-        _ => nothing(),
+        _ => each(0, []),
     }
 }
 
 // The operator's line is one of class 2;1 alone.
+#[tactic(auto, unfolding(scope::specs::Choice::among))]
 fn is_own_line(class: Class, tag: u8) -> bool
     ensures { result ≡ own_line (class_as class) tag }
 {
     match class {
         Class::One => false,
-        Class::Two => match tag {
-            BEGIN_PAGE => true,
-            READ_IMAGE => true,
-            READ_RAST_PATTERN => true,
-            SET_DEFAULT_GS => true,
-            _ => false,
-        },
+        Class::Two => matches!(
+            tag,
+            BEGIN_PAGE | READ_IMAGE | READ_RAST_PATTERN | SET_DEFAULT_GS
+        ),
     }
 }
 
@@ -257,6 +198,7 @@ fn takes(kind: Kind, low: usize, high: usize) -> Rule
 }
 
 // The values that an attribute takes in class 1;1, which are the same in every line that has it.
+#[tactic(auto, unfolding(scope::specs::Table::table_one, scope::specs::Table::table, scope::specs::Table::rule_in, crate::specs::Lines::rules_in, crate::specs::Lines::rule_of))]
 fn rule_of_one(number: u8) -> Rule
     ensures { takes_of result ≡ (rule_of one number).takes }
 {
@@ -300,6 +242,7 @@ fn rule_of_one(number: u8) -> Rule
 }
 
 // The values that are its own.
+#[tactic(auto, unfolding(scope::specs::Table::table_two, scope::specs::Table::table, scope::specs::Table::rule_in, crate::specs::Lines::rules_in, crate::specs::Lines::rule_of))]
 fn own_rule(number: u8) -> Rule
     ensures { among own_rules number ≡ true → takes_of result ≡ (rule_of two number).takes }
 {
@@ -313,19 +256,16 @@ fn own_rule(number: u8) -> Rule
 }
 
 // The attribute's values are those of class 2;1 alone.
+#[tactic(auto, unfolding(scope::specs::Choice::among))]
 fn is_own_rule(class: Class, number: u8) -> bool
     ensures { result ≡ own_rule (class_as class) number }
 {
     match class {
         Class::One => false,
-        Class::Two => match number {
-            ORIENTATION => true,
-            MEDIA_SIZE => true,
-            MEDIA_TYPE => true,
-            PAD_BYTES_MULTIPLE => true,
-            BLOCK_BYTE_LENGTH => true,
-            _ => false,
-        },
+        Class::Two => matches!(
+            number,
+            ORIENTATION | MEDIA_SIZE | MEDIA_TYPE | PAD_BYTES_MULTIPLE | BLOCK_BYTE_LENGTH
+        ),
     }
 }
 
@@ -343,10 +283,5 @@ pub fn rule_of(class: Class, number: u8) -> Rule
 pub fn is_known(form: Form) -> bool
     ensures { result ≡ is_known form }
 {
-    match form {
-        Form::Each(_) => true,
-        Form::One => true,
-        Form::Line => true,
-        Form::Unknown => false,
-    }
+    !matches!(form, Form::Unknown)
 }

@@ -3,7 +3,6 @@
 use mathlib.Core.Path.{◌≡◌, refl, sym}
 use mathlib.Core.Bool.{true, false, true≢false}
 use lib.Dec.{eqb}
-use borrow.Author.Rules.{rules}
 use borrow.Author.Tests.{ne_eqb, eqb-true}
 use Prim.Native.Nat.{ℕ}
 use mathlib.Core.Bool.{Bool}
@@ -21,19 +20,7 @@ last tag a b d t = eqb-true tag 0x57 (by (eqb tag 0x57) (rw (a, b, d) at t))
     by true e = refl
     by false e = absurd (true≢false (sym e))
 
-pub returns-in-67 : goal.returns-in-67
-unfolding table_two line_in must_in numbers_in up_to_no
-returns-in-67 c = λ t. rw c.in-67.is (search rules)
-
-pub returns-in-177 : goal.returns-in-177
-unfolding table_two line_in must_in numbers_in up_to_no
-returns-in-177 c = λ t. rw (c.in-177.is, c.each_of_seven.ensures)
-
-pub returns-in-180 : goal.returns-in-180
-unfolding table_two line_in must_in numbers_in up_to_no
-returns-in-180 c = λ t. rw (c.in-180.is, c.each_of_seven-in-180.ensures)
-
 pub returns-in_default : goal.returns-in_default
 unfolding table_two line_in must_in numbers_in up_to_no
 returns-in_default c = let h = c.in_default.in_default-own.rest in
-    λ t. rw (last _ (ne_eqb _ _ h.0.0.1) (ne_eqb _ _ h.0.1) (ne_eqb _ _ h.1) t, c.nothing.ensures)
+    λ t. rw (last _ (ne_eqb _ _ h.0.0.1) (ne_eqb _ _ h.0.1) (ne_eqb _ _ h.1) t, c.each-in_default.ensures)

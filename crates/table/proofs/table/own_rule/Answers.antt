@@ -20,22 +20,6 @@ last n a b c d t = eqb-true n 111 (by (eqb n 111) (rw (a, b, c, d) at t))
     by true e = refl
     by false e = absurd (true≢false (sym e))
 
-pub returns-in-40 : goal.returns-in-40
-unfolding table_two table rule_in rules_in rule_of
-returns-in-40 c = λ t. rw (c.in-40.is, c.takes.ensures)
-
-pub returns-in-37 : goal.returns-in-37
-unfolding table_two table rule_in rules_in rule_of
-returns-in-37 c = λ t. rw (c.in-37.is, c.takes-in-37.ensures)
-
-pub returns-in-39 : goal.returns-in-39
-unfolding table_two table rule_in rules_in rule_of
-returns-in-39 c = λ t. rw (c.in-39.is, c.takes-in-39.ensures)
-
-pub returns-in-110 : goal.returns-in-110
-unfolding table_two table rule_in rules_in rule_of
-returns-in-110 c = λ t. rw (c.in-110.is, c.takes-in-110.ensures)
-
 pub returns-in_default : goal.returns-in_default
 unfolding table_two table rule_in rules_in rule_of
 returns-in_default c = let h = c.in_default.in_default-own.rest in
