@@ -1,6 +1,6 @@
 -- `reals_of`: bits that are finite are a number's and come back from the real that is made of them.
 -- Assumes nothing.
-use Rattle.std.proofs.Common.{◌≡◌, ◌<◌, refl, sym, ◌∙◌, true, false, ◌&&◌, arith}
+use Rattle.std.proofs.Common.{◌≡◌, ◌<◌, refl, sym, ◌∙◌, false, ◌&&◌, arith}
 use Rattle.scope.specs.Attributes.{finite}
 use Rattle.reals.specs.Reals.{reads_real, reads_neither}
 use Rattle.reals.proofs.Halves.{not-nan_bits, not-nan, bits_back}
