@@ -87,6 +87,7 @@ pub enum AttributeName {
 }
 
 // The operator of a tag.
+#[tactic(auto, unfolding(crate::specs::Names::operator_in, scope::specs::Table::table_two, scope::specs::Table::table, scope::specs::Table::line_in))]
 pub fn operator_of(tag: u8) -> OperatorName
     ensures { operator_as result ≡ operator_in tag }
 {
@@ -128,6 +129,7 @@ pub fn operator_of(tag: u8) -> OperatorName
 }
 
 // The attribute of a number.
+#[tactic(auto, unfolding(crate::specs::Names::attribute_in, scope::specs::Table::table_two, scope::specs::Table::table, scope::specs::Table::rule_in, table::specs::Lines::rules_in))]
 pub fn attribute_of(n: u8) -> AttributeName
     ensures { attribute_as result ≡ attribute_in n }
 {
