@@ -137,7 +137,7 @@ fn row_of_one(tag: u8) -> Row
 }
 
 // The lines that are its own.
-#[tactic(auto, unfolding(scope::specs::Table::table_two, scope::specs::Table::line_in, crate::specs::Lines::must_in, crate::specs::Lines::numbers_in, crate::specs::Lines::up_to_no))]
+#[tactic(auto, unfolding(scope::specs::Table::table_two, scope::specs::Table::line_in, crate::specs::Lines::must_in, crate::specs::Lines::numbers_in, crate::specs::Lines::up_to_no, scope::specs::Choice::among))]
 fn own_row(tag: u8) -> Row
     ensures { among own_lines tag ≡ true → brief_as result ≡ brief_of (line_in table_two tag) }
 {
@@ -242,7 +242,7 @@ fn rule_of_one(number: u8) -> Rule
 }
 
 // The values that are its own.
-#[tactic(auto, unfolding(scope::specs::Table::table_two, scope::specs::Table::table, scope::specs::Table::rule_in, crate::specs::Lines::rules_in, crate::specs::Lines::rule_of))]
+#[tactic(auto, unfolding(scope::specs::Table::table_two, scope::specs::Table::table, scope::specs::Table::rule_in, crate::specs::Lines::rules_in, crate::specs::Lines::rule_of, scope::specs::Choice::among))]
 fn own_rule(number: u8) -> Rule
     ensures { among own_rules number ≡ true → takes_of result ≡ (rule_of two number).takes }
 {
