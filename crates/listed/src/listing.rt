@@ -1,5 +1,5 @@
 // An operator's records in the list: one for each of its attributes, then its own.
-ghost use Rattle.std.specs.Prelude.{◌≡◌, [], ◌∷◌, suc, ◌+◌, ◌*◌, ◌/◌, ◌%◌, ◌≤◌, ◌<◌, leb, length};
+ghost use Rattle.std.specs.Prelude.{◌≡◌, true, [], ◌∷◌, suc, ◌+◌, ◌*◌, ◌/◌, ◌%◌, ◌≤◌, ◌<◌, leb, length};
 ghost use Rattle.scope.specs.Verdict.{attribute_record, attribute_records};
 ghost use Rattle.items.specs.Rows.{Sized, row_at, rows_of};
 ghost use Rattle.buffer.specs.Over.{over, joined_at};
@@ -8,27 +8,14 @@ ghost use Rattle.listed.specs.Listed.{BytesIn, low_of, lows, room_for, sixteen, 
 use buffer::copy;
 
 // A record: four bytes, then three numbers of four bytes, low byte first.
+#[tactic(auto, unfolding(crate::specs::Listed::sixteen, scope::specs::Verdict::four))]
 fn row(a: u8, b: u8, c: u8, d: u8, x: usize, y: usize, z: usize) -> [u8; 16]
     ensures { result ≡ sixteen a b c d x y z }
 {
-    [
-        a,
-        b,
-        c,
-        d,
-        (x % 256) as u8,
-        (x / 256 % 256) as u8,
-        (x / 65536 % 256) as u8,
-        (x / 16777216 % 256) as u8,
-        (y % 256) as u8,
-        (y / 256 % 256) as u8,
-        (y / 65536 % 256) as u8,
-        (y / 16777216 % 256) as u8,
-        (z % 256) as u8,
-        (z / 256 % 256) as u8,
-        (z / 65536 % 256) as u8,
-        (z / 16777216 % 256) as u8,
-    ]
+    let [x0, x1, x2, x3, ..] = x.to_le_bytes();
+    let [y0, y1, y2, y3, ..] = y.to_le_bytes();
+    let [z0, z1, z2, z3, ..] = z.to_le_bytes();
+    [a, b, c, d, x0, x1, x2, x3, y0, y1, y2, y3, z0, z1, z2, z3]
 }
 
 // The record of attribute i.
@@ -70,15 +57,10 @@ fn put(list: &mut [u8], place: usize, bytes: [u8; 16])
 
 // A list of so many bytes has room for n attributes' records and their operator's after so many others.
 fn has_room(bytes: usize, records: usize, n: usize) -> bool
-    ensures { result ≡ room_for records n bytes }
+    ensures value { result ≡ room_for records n bytes }
+    ensures room { result ≡ true → (n ≤ 16) × ((records + suc n) * 16 ≤ bytes) }
 {
-    if 16 < n {
-        return false;
-    }
-    if bytes / 16 < records {
-        return false;
-    }
-    n < bytes / 16 - records
+    n <= 16 && records <= bytes / 16 && n < bytes / 16 - records
 }
 
 // The records of n attributes, after so many others.
@@ -87,11 +69,8 @@ fn list_attributes(list: &mut [u8], records: usize, attrs: &[usize; 80], n: usiz
     requires n_in_bounds { (records + n) * 16 ≤ length list.old }
     ensures { list.new ≡ over list.old (records * 16) (attribute_records (lows (rows_of attrs.now n))) }
 {
-    let mut i: usize = 0;
-    while i < n {
-        let bytes = attribute_row(attrs, i);
-        put(list, (records + i) * 16, bytes);
-        i += 1;
+    for i in 0..n {
+        put(list, (records + i) * 16, attribute_row(attrs, i));
     }
 }
 
