@@ -1,13 +1,13 @@
 // The operator table: a line for an operator, in the order of Appendix C of 000, and a line for each attribute; and what class 2;1 has besides.
-ghost use Rattle.std.specs.Prelude.{◌≡◌, ◌≤◌, true};
+ghost use Rattle.std.specs.Prelude.{◌≡◌, ◌≤◌, true, ◌∷◌, []};
 ghost use Rattle.scope.specs.Header.{one, two};
 ghost use Rattle.scope.specs.Table.{table_one, table_two, table, line_in};
 ghost use Rattle.setting.specs.Views.{class_as};
 ghost use Rattle.scope.specs.Choice.{among};
 ghost use Rattle.table.specs.Lines.{own_lines, own_rules, own_line, own_rule, is_known, row_with, brief_as, brief_of, takes_of, rule_of};
-ghost use Rattle.table.specs.declared.table.Form.TheVariants.{Each, One};
+ghost use Rattle.table.specs.declared.table.Form.TheVariants.{Each, One, Line, Unknown};
 
-use names::attributes::{SOURCE_HEIGHT as HEIGHT, SOURCE_WIDTH as WIDTH, *};
+use names::attributes::{COLOR_DEPTH as DEPTH, SOURCE_HEIGHT as HEIGHT, SOURCE_WIDTH as WIDTH, *};
 use names::operators::*;
 use setting::Class;
 
@@ -65,6 +65,21 @@ fn line<const N: usize>(form: Form, first: [u8; N]) -> Row
     Row { form, numbers }
 }
 
+// Takes no attribute.
+fn nothing() -> Row
+    ensures { result ≡ row_with (Each 0) [] }
+{
+    line(Form::Each(0), [])
+}
+
+// Takes these, which must be there.
+fn needs<const N: usize>(numbers: [u8; N]) -> Row
+    requires { N ≤ 8 }
+    ensures { result ≡ row_with (Each N) numbers.entry }
+{
+    line(Form::Each(N), numbers)
+}
+
 // Takes these, of which the first so many must be there.
 fn each<const N: usize>(must: usize, numbers: [u8; N]) -> Row
     requires { N ≤ 8 }
@@ -81,58 +96,66 @@ fn one_of<const N: usize>(numbers: [u8; N]) -> Row
     line(Form::One, numbers)
 }
 
+// Takes the first alone, or both others.
+fn one_or_both(a: u8, b: u8, c: u8) -> Row
+    ensures { result ≡ row_with Line (a ∷ b ∷ c ∷ []) }
+{
+    line(Form::Line, [a, b, c])
+}
+
+// No operator of the table.
+fn unknown() -> Row
+    ensures { result ≡ row_with Unknown [] }
+{
+    line(Form::Unknown, [])
+}
+
 // What attributes an operator takes in class 1;1: one line for one operator.
 #[tactic(auto, unfolding(scope::specs::Table::table_one, scope::specs::Table::line_in, crate::specs::Lines::must_in, crate::specs::Lines::numbers_in, crate::specs::Lines::up_to_no))]
 fn row_of_one(tag: u8) -> Row
     ensures { brief_as result ≡ brief_of (line_in table_one tag) }
 {
     match tag {
-        BEGIN_IMAGE => each(
-            5,
-            [COLOR_MAPPING, COLOR_DEPTH, WIDTH, HEIGHT, DESTINATION_SIZE],
-        ),
+        BEGIN_IMAGE => needs([COLOR_MAPPING, DEPTH, WIDTH, HEIGHT, DESTINATION_SIZE]),
         BEGIN_PAGE => each(2, [ORIENTATION, MEDIA_SIZE, MEDIA_SOURCE]),
-        BEGIN_RAST_PATTERN => each(
-            7,
-            [
-                COLOR_MAPPING,
-                COLOR_DEPTH,
-                WIDTH,
-                HEIGHT,
-                DESTINATION_SIZE,
-                PATTERN_DEFINE_ID,
-                PATTERN_PERSISTENCE,
-            ],
-        ),
+        BEGIN_RAST_PATTERN => needs([
+            COLOR_MAPPING,
+            DEPTH,
+            WIDTH,
+            HEIGHT,
+            DESTINATION_SIZE,
+            PATTERN_DEFINE_ID,
+            PATTERN_PERSISTENCE,
+        ]),
         BEGIN_SESSION => each(2, [MEASURE, UNITS_PER_MEASURE, ERROR_REPORT]),
-        BEGIN_STREAM => each(1, [STREAM_NAME]),
-        CLOSE_DATA_SOURCE => each(0, []),
-        CLOSE_SUB_PATH => each(0, []),
+        BEGIN_STREAM => needs([STREAM_NAME]),
+        CLOSE_DATA_SOURCE => nothing(),
+        CLOSE_SUB_PATH => nothing(),
         COMMENT => each(0, [COMMENT_DATA]),
-        END_IMAGE => each(0, []),
+        END_IMAGE => nothing(),
         END_PAGE => each(0, [PAGE_COPIES]),
-        END_RAST_PATTERN => each(0, []),
-        END_SESSION => each(0, []),
-        END_STREAM => each(0, []),
-        EXEC_STREAM => each(1, [STREAM_NAME]),
-        LINE_PATH => line(Form::Line, [END_POINT, NUMBER_OF_POINTS, POINT_TYPE]),
-        LINE_REL_PATH => line(Form::Line, [END_POINT, NUMBER_OF_POINTS, POINT_TYPE]),
-        NEW_PATH => each(0, []),
+        END_RAST_PATTERN => nothing(),
+        END_SESSION => nothing(),
+        END_STREAM => nothing(),
+        EXEC_STREAM => needs([STREAM_NAME]),
+        LINE_PATH => one_or_both(END_POINT, NUMBER_OF_POINTS, POINT_TYPE),
+        LINE_REL_PATH => one_or_both(END_POINT, NUMBER_OF_POINTS, POINT_TYPE),
+        NEW_PATH => nothing(),
         OPEN_DATA_SOURCE => each(2, [SOURCE_TYPE, DATA_ORG]),
-        PAINT_PATH => each(0, []),
-        POP_GS => each(0, []),
-        PUSH_GS => each(0, []),
+        PAINT_PATH => nothing(),
+        POP_GS => nothing(),
+        PUSH_GS => nothing(),
         READ_IMAGE => each(3, [START_LINE, BLOCK_HEIGHT, COMPRESS_MODE]),
         READ_RAST_PATTERN => each(3, [START_LINE, BLOCK_HEIGHT, COMPRESS_MODE]),
-        READ_STREAM => each(1, [STREAM_DATA_LENGTH]),
-        RECTANGLE => each(1, [BOUNDING_BOX]),
+        READ_STREAM => needs([STREAM_DATA_LENGTH]),
+        RECTANGLE => needs([BOUNDING_BOX]),
         SET_BRUSH_SOURCE => one_of([RGB_COLOR, GRAY_LEVEL, NULL_BRUSH, PATTERN_SELECT_ID]),
-        SET_COLOR_SPACE => each(1, [COLOR_SPACE]),
-        SET_CURSOR => each(1, [POINT]),
-        SET_CURSOR_REL => each(1, [POINT]),
+        SET_COLOR_SPACE => needs([COLOR_SPACE]),
+        SET_CURSOR => needs([POINT]),
+        SET_CURSOR_REL => needs([POINT]),
         SET_PEN_SOURCE => one_of([RGB_COLOR, GRAY_LEVEL, NULL_PEN]),
-        SET_PEN_WIDTH => each(1, [PEN_WIDTH]),
-        _ => line(Form::Unknown, []),
+        SET_PEN_WIDTH => needs([PEN_WIDTH]),
+        _ => unknown(),
     }
 }
 
@@ -163,7 +186,7 @@ fn own_row(tag: u8) -> Row
                 BLOCK_BYTE_LENGTH,
             ],
         ),
-        _ => each(0, []),
+        _ => nothing(),
     }
 }
 
@@ -219,7 +242,7 @@ fn rule_of_one(number: u8) -> Rule
         POINT => takes(Kind::P, 0, 0),
         NUMBER_OF_POINTS => takes(Kind::N, 1, 65_535),
         POINT_TYPE => takes(Kind::E, 0, 3),
-        COLOR_DEPTH => takes(Kind::E, 0, 2),
+        DEPTH => takes(Kind::E, 0, 2),
         BLOCK_HEIGHT => takes(Kind::N, 1, 65_535),
         COLOR_MAPPING => takes(Kind::E, 0, 0),
         COMPRESS_MODE => takes(Kind::E, 0, 0),
