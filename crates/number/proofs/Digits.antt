@@ -62,21 +62,21 @@ unfolding number digits
 one-digit true s at = let e : at + 0 ≡ at = omega arith in rw e (omega arith)
 one-digit false s at = let e : at + 0 ≡ at = omega arith in rw e (omega arith)
 
--- of two and of four bytes, each with its weight
+-- so of two bytes and of four each byte has its weight
+two-bytes : (high : Bool) (s : List ℕ) (at : ℕ)
+    → number high 2 s at ≡ pick high (get_or s at 0 * 256 + get_or s (at + 1) 0) (get_or s (at + 1) 0 * 256 + get_or s at 0)
+two-bytes high s at = halves high 1 s at ∙ rw (one-digit high s at, one-digit high s (at + 1)) refl
+
 pub two-high : (s : List ℕ) (at : ℕ) → number true 2 s at ≡ get_or s at 0 * 256 + get_or s (at + 1) 0
-unfolding number digits
-two-high s at = let e : at + 0 ≡ at = omega arith in rw e (omega arith)
+two-high s at = two-bytes true s at
 
 pub two-low : (s : List ℕ) (at : ℕ) → number false 2 s at ≡ get_or s at 0 + get_or s (at + 1) 0 * 256
-unfolding number digits
-two-low s at = let e : at + 0 ≡ at = omega arith in rw e (omega arith)
+two-low s at = two-bytes false s at ∙ omega arith
 
 pub four-high : (s : List ℕ) (at : ℕ)
     → number true 4 s at ≡ get_or s at 0 * 16_777_216 + get_or s (at + 1) 0 * 65_536 + get_or s (at + 2) 0 * 256 + get_or s (at + 3) 0
-unfolding number digits
-four-high s at = let e : at + 0 ≡ at = omega arith in rw e (omega arith)
+four-high s at = let e : at + 2 + 1 ≡ at + 3 = omega arith in halves true 2 s at ∙ rw (two-high s at, two-high s (at + 2), e) (omega arith)
 
 pub four-low : (s : List ℕ) (at : ℕ)
     → number false 4 s at ≡ get_or s at 0 + get_or s (at + 1) 0 * 256 + get_or s (at + 2) 0 * 65_536 + get_or s (at + 3) 0 * 16_777_216
-unfolding number digits
-four-low s at = let e : at + 0 ≡ at = omega arith in rw e (omega arith)
+four-low s at = let e : at + 2 + 1 ≡ at + 3 = omega arith in halves false 2 s at ∙ rw (two-low s at, two-low s (at + 2), e) (omega arith)
