@@ -1,7 +1,7 @@
 // What is settled before the first item of a job, and goes wherever a byte is read.
 
 // The protocol's class: 1;1 or 2;1.
-#[derive(Clone, Copy)]
+#[derive(Clone, Copy, PartialEq, Eq)]
 pub enum Class {
     One,
     Two,

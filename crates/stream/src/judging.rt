@@ -1,7 +1,6 @@
 // A motif judged when EndStream comes, and what is noted of it.
 ghost use Rattle.std.specs.Prelude.{◌≡◌, List, [], true, ℕ, ◌≤◌, length};
-ghost use Rattle.scope.specs.Setting.{same_class};
-ghost use Rattle.setting.specs.Views.{class_as, setting_as};
+ghost use Rattle.setting.specs.Views.{setting_as};
 ghost use Rattle.scope.specs.Motif as scope;
 ghost use Rattle.scope.specs.Motif.{Own, Motif, judged_inside, motif_of};
 ghost use Rattle.motif.specs.Held.{Keeps};
@@ -13,7 +12,7 @@ ghost use Rattle.stream.specs.Lines.{Comes};
 use crate::lines::run_from;
 use both::both::Both;
 use order::Picture;
-use setting::{Class, Setting};
+use setting::Setting;
 use within::{Inside, Judged, Turn, advance};
 
 // Past the run of operators that stands next and leaves the page as it is, with no image open.
@@ -83,22 +82,6 @@ fn operators(
     }
 }
 
-// The same class.
-fn same_class(a: Class, b: Class) -> bool
-    ensures { result ≡ same_class (class_as a) (class_as b) }
-{
-    match a {
-        Class::One => match b {
-            Class::One => true,
-            Class::Two => false,
-        },
-        Class::Two => match b {
-            Class::One => false,
-            Class::Two => true,
-        },
-    }
-}
-
 // A motif of a job with this setting, where the table keeps these; what it selects itself is noted in `own`. It has the job's class, else 4.
 pub fn judge_noting(
     s: &[u8],
@@ -117,7 +100,7 @@ pub fn judge_noting(
         Err(refusal) => Judged::Faulty(refusal.code.number(), refusal.place),
         Ok(header) => {
             let of_job = set.class;
-            if !same_class(header.class, of_job) {
+            if header.class != of_job {
                 return Judged::Faulty(4, 12);
             }
             let of_motif = Setting {
