@@ -25,6 +25,7 @@ fn numbers<P: Print>(
 }
 
 // The five numbers of an answer.
+// They come one by one, since this crate stands below `state`, whose Verdict has them.
 pub fn five<P: Print>(
     out: &P,
     code: u32,

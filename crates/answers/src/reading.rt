@@ -16,11 +16,8 @@ pub fn read_full<R: Read>(input: &mut R, room: &mut [u8]) -> io::Result<usize>
         match input.read(&mut room[done..]) {
             Ok(0) => return Ok(done),
             Ok(n) => done += n,
-            Err(e) => {
-                if e.kind() != ErrorKind::Interrupted {
-                    return Err(e);
-                }
-            }
+            Err(e) if e.kind() == ErrorKind::Interrupted => {}
+            Err(e) => return Err(e),
         }
     }
     Ok(done)
@@ -36,5 +33,5 @@ pub fn fill<R: Read>(input: &mut R, job: &mut [u8], n: usize) -> io::Result<bool
 
 // A number of four bytes.
 pub fn number(a: u8, b: u8, c: u8, d: u8) -> usize {
-    a as usize + 256 * (b as usize) + 65_536 * (c as usize) + 16_777_216 * (d as usize)
+    u32::from_le_bytes([a, b, c, d]) as usize
 }
