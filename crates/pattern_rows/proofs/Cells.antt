@@ -1,13 +1,12 @@
--- Rows of 66 cells, read from the last number down: what is asked of the numbers of a row is so of the last one, or of those before.
+-- Rows of 66 cells: the numbers of a row are the cells behind its first one, read from the last one down, and what is asked of them is asked of each.
 -- Assumes nothing.
-use Prim.Native.Nat.{ℕ, zero, suc, ◌+◌, ◌*◌, ◌-◌, ◌<◌, min}
-use mathlib.Core.Path.{◌≡◌, refl, sym, ap, ◌∙◌}
-use mathlib.Core.Bool.{true, false, ◌||◌}
-use mathlib.Core.List.{List}
-use native.Mathlib.Omega.{arith}
-use lib.ListN.{length, get_or}
-use borrow.Author.Tests.{eq-eqb, ne_eqb}
-use Rattle.scope.specs.Choice.{among}
+use Rattle.std.proofs.Common.{ℕ, zero, suc, ◌+◌, ◌*◌, ◌≤◌, ◌<◌, ◌≡◌, min, List, [], ◌∷◌, Bool, true, false, not, ◌||◌, eqb, length, get_or, take, drop, reverse, refl, sym, ap, ◌∙◌, arith, length-drop}
+use Rattle.std.proofs.Math.Seq.{take-suc}
+use Rattle.std.specs.List.{list_any}
+use Rattle.std.proofs.lemmas.List.{reverse-append, get_or-drop}
+use Rattle.std.proofs.lemmas.Bool.Decides.{nat_tests}
+use Rattle.std.proofs.lemmas.List.Sorted.{list_any-IsPermutation, IsPermutation-reverse}
+use Rattle.scope.specs.Choice.{pick, among}
 use Rattle.scope.specs.Judge.{some_missing}
 use Rattle.pattern_rows.specs.Numbers.{numbers_to, numbers_in}
 
@@ -21,43 +20,44 @@ pub in_length : (t : List ℕ) (row : ℕ) → length (numbers_in t row) ≡ min
 unfolding numbers_in
 in_length t row = to-length t (row * 66) (min (get_or t (row * 66) 0) 65)
 
--- the numbers of a row are so many behind its first cell
-pub in_to : (t : List ℕ) (row c : ℕ) → c ≡ length (numbers_in t row) → numbers_in t row ≡ numbers_to t (row * 66) c
+-- the cells behind a place, the last one first
+to-cells : (t : List ℕ) (p c : ℕ) → p + c < length t → reverse (take c (drop (p + 1) t)) ≡ numbers_to t p c
+unfolding numbers_to
+to-cells t p zero h = refl
+to-cells t p (suc c) h =
+    let l : c < length (drop (p + 1) t) = simp length-drop (omega arith) in
+    let m : p + c < length t = omega arith in
+    let e : p + 1 + c ≡ p + suc c = omega arith in
+    rw (take-suc (drop (p + 1) t) c 0 l, reverse-append, get_or-drop (p + 1) t c 0, e) (ap (λ ns. get_or t (p + suc c) 0 ∷ ns) (to-cells t p c m))
+
+pub in_cells : (t : List ℕ) (row : ℕ) → row * 66 + 66 ≤ length t → reverse (take (length (numbers_in t row)) (drop (row * 66 + 1) t)) ≡ numbers_in t row
 unfolding numbers_in
-in_to t row c e = ap (numbers_to t (row * 66)) (sym (e ∙ in_length t row))
+in_cells t row h = rw to-length (to-cells t (row * 66) (min (get_or t (row * 66) 0) 65) (omega arith))
 
-suc_pred : (i : ℕ) → suc i - 1 ≡ i
-suc_pred i = omega arith
+eqb-sides : (a b : ℕ) → eqb a b ≡ eqb b a
+eqb-sides a b = grind (arith, nat_tests)
 
--- the last one is the number, or it is among those before
-pub among-here : (t : List ℕ) (p i n : ℕ) → 0 < i → get_or t (p + i) 0 ≡ n → among (numbers_to t p i) n ≡ true
-unfolding numbers_to among
-among-here t p zero n h e = absurd (omega arith)
-among-here t p (suc i) n h e = rw (eq-eqb n (get_or t (p + suc i) 0) (sym e))
+-- the answer of one of them settles what is asked
+among_any : (ns : List ℕ) (n : ℕ) → among ns n ≡ list_any (λ x. eqb x n) ns
+unfolding among
+among_any [] n = refl
+among_any (x ∷ ns) n = rw (eqb-sides n x, among_any ns n) (by (eqb x n))
+  where
+    by : (b : Bool) → pick b true (list_any (λ y. eqb y n) ns) ≡ (b || list_any (λ y. eqb y n) ns)
+    by true = refl
+    by false = refl
 
-pub among_next : (t : List ℕ) (p i n : ℕ) → 0 < i → (get_or t (p + i) 0 ≡ n → ⊥) → among (numbers_to t p i) n ≡ among (numbers_to t p (i - 1)) n
-unfolding numbers_to among
-among_next t p zero n h e = absurd (omega arith)
-among_next t p (suc i) n h e = rw (suc_pred i, ne_eqb n (get_or t (p + suc i) 0) (λ y. e (sym y)))
+missing_any : (of_page of_session ns : List ℕ) → some_missing of_page of_session ns ≡ list_any (λ n. not (among of_page n || among of_session n)) ns
+unfolding some_missing
+missing_any of_page of_session [] = refl
+missing_any of_page of_session (n ∷ ns) = ap (λ b. not (among of_page n || among of_session n) || b) (missing_any of_page of_session ns)
 
-pub among_none : (t : List ℕ) (p i n : ℕ) → i ≡ 0 → among (numbers_to t p i) n ≡ false
-unfolding numbers_to among
-among_none t p i n e = rw e
+any_reversed : (p : ℕ → Bool) (ns : List ℕ) → list_any p ns ≡ list_any p (reverse ns)
+any_reversed p ns = list_any-IsPermutation p ns (reverse ns) (IsPermutation-reverse ns)
 
--- the last one is not defined, or one of those before
-module _ (of_page of_session t : List ℕ) (p : ℕ) where
-  pub missing-here : (i : ℕ) → 0 < i → (among of_page (get_or t (p + i) 0) || among of_session (get_or t (p + i) 0)) ≡ false
-      → some_missing of_page of_session (numbers_to t p i) ≡ true
-  unfolding numbers_to some_missing
-  missing-here zero h e = absurd (omega arith)
-  missing-here (suc i) h e = rw e
+pub among_reversed : (cells : List ℕ) (n : ℕ) → list_any (λ x. eqb x n) cells ≡ among (reverse cells) n
+among_reversed cells n = any_reversed (λ x. eqb x n) cells ∙ sym (among_any (reverse cells) n)
 
-  pub missing-next : (i : ℕ) → 0 < i → (among of_page (get_or t (p + i) 0) || among of_session (get_or t (p + i) 0)) ≡ true
-      → some_missing of_page of_session (numbers_to t p i) ≡ some_missing of_page of_session (numbers_to t p (i - 1))
-  unfolding numbers_to some_missing
-  missing-next zero h e = absurd (omega arith)
-  missing-next (suc i) h e = rw (suc_pred i, e)
-
-  pub missing-none : (i : ℕ) → i ≡ 0 → some_missing of_page of_session (numbers_to t p i) ≡ false
-  unfolding numbers_to some_missing
-  missing-none i e = rw e
+pub missing_reversed : (of_page of_session cells : List ℕ) → list_any (λ n. not (among of_page n || among of_session n)) cells ≡ some_missing of_page of_session (reverse cells)
+missing_reversed of_page of_session cells =
+    any_reversed (λ n. not (among of_page n || among of_session n)) cells ∙ sym (missing_any of_page of_session (reverse cells))

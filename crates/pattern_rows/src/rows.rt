@@ -1,5 +1,5 @@
 // Lists of numbers, in rows of 66: how many there are, and then the numbers.
-ghost use Rattle.std.specs.Prelude.{◌≡◌, false, ◌||◌, ◌+◌, ◌*◌, ◌≤◌, ◌<◌, min, length};
+ghost use Rattle.std.specs.Prelude.{◌≡◌, false, ◌||◌, ◌+◌, ◌*◌, ◌≤◌, ◌<◌, length, reverse};
 ghost use Rattle.scope.specs.Choice.{among};
 ghost use Rattle.scope.specs.Judge.{some_missing};
 ghost use Rattle.pattern_rows.specs.Numbers.{OfPage, OfSession, numbers_in, selecting_in};
@@ -19,24 +19,22 @@ pub const OWN: usize = 66;
 // Behind the rows: 0 as long as no motif selects a pattern.
 pub const SELECTING: usize = 4_422;
 
-// How many numbers a row has whose first cell is this one.
-fn count_of(cell: u16) -> usize
-    ensures { result ≡ min cell 65 }
-{
-    let count = cell as usize;
-    if NUMBERS_MOST < count {
-        return NUMBERS_MOST;
-    }
-    count
-}
-
 // How many numbers a row has.
 pub fn count(patterns: &[u16], row: usize) -> usize
     requires { (row < 67) × (row * 66 + 66 ≤ length patterns.now) }
     ensures value { result ≡ length (numbers_in patterns.now row) }
     ensures upper_bound { result < 66 }
 {
-    count_of(patterns[row * ROW])
+    usize::from(patterns[row * ROW]).min(NUMBERS_MOST)
+}
+
+// The numbers of a row; the specification has the last one first.
+fn numbers(patterns: &[u16], row: usize) -> &[u16]
+    requires { (row < 67) × (row * 66 + 66 ≤ length patterns.now) }
+    ensures { reverse result.now ≡ numbers_in patterns.now row }
+{
+    let first = row * ROW + 1;
+    &patterns[first..first + count(patterns, row)]
 }
 
 // A number is in a row.
@@ -44,24 +42,14 @@ pub fn has(patterns: &[u16], row: usize, n: u16) -> bool
     requires { (row < 67) × (row * 66 + 66 ≤ length patterns.now) }
     ensures { result ≡ among (numbers_in patterns.now row) n }
 {
-    let mut i = count(patterns, row);
-    while 0 < i {
-        if patterns[row * ROW + i] == n {
-            return true;
-        }
-        i -= 1;
-    }
-    false
+    numbers(patterns, row).contains(&n)
 }
 
 // A pattern is defined, for the page or for the session.
 pub fn is_defined(patterns: &[u16; 4487], n: u16) -> bool
     ensures { result ≡ (among (numbers_in patterns.now OfPage) n || among (numbers_in patterns.now OfSession) n) }
 {
-    if has(patterns, PAGE, n) {
-        return true;
-    }
-    has(patterns, SESSION, n)
+    has(patterns, PAGE, n) || has(patterns, SESSION, n)
 }
 
 // A number of a row is not defined.
@@ -70,14 +58,9 @@ pub fn lacks(patterns: &[u16; 4487], row: usize) -> bool
     ensures { result ≡ some_missing (numbers_in patterns.now OfPage) (numbers_in patterns.now OfSession)
         (numbers_in patterns.now row) }
 {
-    let mut i = count(patterns, row);
-    while 0 < i {
-        if !is_defined(patterns, patterns[row * ROW + i]) {
-            return true;
-        }
-        i -= 1;
-    }
-    false
+    numbers(patterns, row)
+        .iter()
+        .any(|n| !is_defined(patterns, *n))
 }
 
 // A motif selects a pattern, or one that is not held any more did.
