@@ -4,15 +4,16 @@ use Prim.Native.Nat.{ℕ, zero, suc, ◌+◌, ◌*◌, ◌-◌, ◌≤◌, ◌<�
 use mathlib.Core.Logic.{◌≢◌}
 use mathlib.Core.Path.{◌≡◌, refl, sym, ap, ◌∙◌}
 use mathlib.Core.Bool.{Bool, true, false}
-use mathlib.Core.List.{List, [], ◌∷◌}
+use mathlib.Core.List.{List, [], ◌∷◌, ◌++◌}
 use native.Mathlib.Omega.{arith}
-use lib.ListN.{length, get_or, set, length-set}
-use lib.Seq.{get_or-set_same, get_or-set_other}
+use lib.ListN.{length, get_or, take, drop, set, length-set, length-append, length-drop, get_or-append}
+use lib.Seq.{get_or-set_same, get_or-set_other, length-take-le, get_or-take, get_or-drop, get_or-append-add}
+use borrow.Rule.Slice.PartMut.{put_mid, post_of}
 use lib.Dec.{leb}
 use borrow.Author.Tests.{le-leb, lt-leb}
 use Rattle.scope.specs.Choice.{pick, among}
 use Rattle.scope.specs.Session.{defined}
-use Rattle.pattern_rows.specs.Numbers.{numbers_to, numbers_in, noted, selecting_in, Others}
+use Rattle.pattern_rows.specs.Numbers.{numbers_to, numbers_in, noted, Others}
 use Rattle.pattern_rows.proofs.Cells.{in_length}
 
 -- the same cells say the same numbers, also where they stand in two lists
@@ -35,6 +36,33 @@ in_same s t r q h =
     ap (λ c. numbers_to s (r * 66) (min c 65)) e
     ∙ to_same s t (r * 66) (q * 66) (min (get_or t (q * 66) 0) 65) (λ k l. let m : suc k < 66 = omega arith in h (suc k) m)
 
+-- so many cells written over from a place on, and all else as it was
+module _ (a k : ℕ) (t zs : List ℕ) (long : length zs ≡ k) (room : a + k ≤ length t) where
+  abbrev over : List ℕ
+  over = put_mid a k t zs
+
+  head : length (take a t) ≡ a
+  head = length-take-le a t (omega arith)
+
+  pub over-length : length over ≡ length t
+  over-length = let h = head in simp (length-append, length-drop) (omega arith)
+
+  pub over-before : (j : ℕ) → j < a → get_or over j 0 ≡ get_or t j 0
+  over-before j l = let h = head in get_or-append (take a t) (zs ++ post_of a k t) 0 j (omega arith) ∙ get_or-take a t j 0 l
+
+  over_from : (j : ℕ) → get_or over (a + j) 0 ≡ get_or (zs ++ post_of a k t) j 0
+  over_from j = let z : get_or (take a t ++ (zs ++ post_of a k t)) (length (take a t) + j) 0 ≡ get_or (zs ++ post_of a k t) j 0 =
+      get_or-append-add (take a t) (zs ++ post_of a k t) j 0 in rw head at z
+
+  pub over-there : (j : ℕ) → j < k → get_or over (a + j) 0 ≡ get_or zs j 0
+  over-there j l = over_from j ∙ get_or-append zs (post_of a k t) 0 j (omega arith)
+
+  pub over-behind : (j : ℕ) → a + k ≤ j → get_or over j 0 ≡ get_or t j 0
+  over-behind j l =
+      let e : a + (k + (j - (a + k))) ≡ j = omega arith in
+      let z : get_or (zs ++ post_of a k t) (length zs + (j - (a + k))) 0 ≡ get_or (post_of a k t) (j - (a + k)) 0 = get_or-append-add zs (post_of a k t) (j - (a + k)) 0 in
+      rw e at (over_from (k + (j - (a + k))) ∙ rw long at z ∙ get_or-drop k (drop a t) (j - (a + k)) 0 ∙ get_or-drop a t (k + (j - (a + k))) 0)
+
 -- a row that says it has none
 pub in_none : (t : List ℕ) (row : ℕ) → get_or t (row * 66) 0 ≡ 0 → numbers_in t row ≡ []
 unfolding numbers_in numbers_to
@@ -55,15 +83,8 @@ set-others t row k v b h =
       known = λ i. let z : 4423 + i ≢ row * 66 + k = λ y. omega arith in get_or-set_other t (row * 66 + k) (4423 + i) v 0 z;
     }
 
-pub others-none : (t : List ℕ) (row : ℕ) → Others t row t
-others-none t row = record { long = refl; same = λ r d. refl; known = λ i. refl }
-
 pub others-too : {t u v : List ℕ} {row : ℕ} → Others t row u → Others u row v → Others t row v
 others-too a b = record { long = b.long ∙ a.long; same = λ r d. b.same r d ∙ a.same r d; known = λ i. b.known i ∙ a.known i }
-
--- a store in a row is none to the mark behind all rows
-pub set-selecting : (t : List ℕ) (row k v : ℕ) → row < 67 → k < 66 → selecting_in (set t (row * 66 + k) v) ≡ selecting_in t
-set-selecting t row k v h l = let z : 4422 ≢ row * 66 + k = λ y. omega arith in get_or-set_other t (row * 66 + k) 4422 v 0 z
 
 -- no number in a row
 module _ (t : List ℕ) (row : ℕ) where
@@ -75,9 +96,6 @@ module _ (t : List ℕ) (row : ℕ) where
 
   pub first-others : (v : ℕ) → row < 67 → Others t row (set t (row * 66) v)
   first-others v h = let l : 0 < 66 = omega arith in rw first at (set-others t row 0 v h l)
-
-  pub first-selecting : (v : ℕ) → row < 67 → selecting_in (set t (row * 66) v) ≡ selecting_in t
-  first-selecting v h = let l : 0 < 66 = omega arith in rw first at (set-selecting t row 0 v h l)
 
 behind-it : (row c : ℕ) → row * 66 + (c + 1) ≡ row * 66 + c + 1
 behind-it row c = omega arith
@@ -140,9 +158,3 @@ module _ (t : List ℕ) (row c n : ℕ) (t₁ t₂ : List ℕ) (p : t₁ ≡ set
       let m : c + 1 < 66 = omega arith in
       let o : Others t row (set t (row * 66 + c + 1) n) = rw (behind-it row c) at (set-others t row (c + 1) n l m) in
       rw (q, p) (others-too o (first-others (set t (row * 66 + c + 1) n) row (c + 1) l))
-
-  pub more-selecting : row < 67 → selecting_in t₂ ≡ selecting_in t
-  more-selecting l =
-      let m : c + 1 < 66 = omega arith in
-      let o : selecting_in (set t (row * 66 + c + 1) n) ≡ selecting_in t = rw (behind-it row c) at (set-selecting t row (c + 1) n l m) in
-      rw (q, p) (first-selecting (set t (row * 66 + c + 1) n) row (c + 1) l ∙ o)

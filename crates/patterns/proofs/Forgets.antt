@@ -1,17 +1,17 @@
 -- What is known of calls stands behind the rows and the mark: a store there leaves both.
 -- Assumes nothing.
-use Prim.Native.Nat.{ℕ, ◌+◌, ◌*◌, ◌-◌, ◌<◌}
+use Prim.Native.Nat.{ℕ, ◌+◌, ◌*◌, ◌<◌}
 use mathlib.Core.Logic.{◌≢◌}
 use mathlib.Core.Path.{◌≡◌, refl, sym, ◌∙◌}
-use mathlib.Core.Bool.{Bool, true, false}
 use mathlib.Core.List.{List}
 use native.Mathlib.Omega.{arith}
 use lib.ListN.{length, set, length-set}
-use lib.Seq.{get_or-set_same, get_or-set_other}
-use lib.Dec.{eqb}
-use borrow.Author.Tests.{eqb-true, eqb-false}
+use lib.Seq.{get_or-set_other}
+use borrow.Rule.Slice.PartMut.{put_mid}
+use Rattle.std.proofs.Common.{replicate, ◌≤◌}
+use Rattle.std.proofs.lemmas.List.{get_or-replicate}
 use Rattle.pattern_rows.specs.Numbers.{known_in, OtherRows, SameRows, Quiet}
-use Rattle.patterns.proofs.Cells.{in_same}
+use Rattle.patterns.proofs.Cells.{in_same, over-length, over-before, over-there}
 
 -- what is not touched is the same
 pub same_self : {t : List ℕ} → SameRows t t
@@ -28,45 +28,21 @@ known_same t i v =
       mark = let z : 4422 ≢ 4423 + i = λ y. omega arith in get_or-set_other t (4423 + i) 4422 v 0 z;
     }
 
--- and what is known of other calls
-pub known-other : (t : List ℕ) (i v k : ℕ) → (k ≡ i → ⊥) → known_in (set t (4423 + i) v) k ≡ known_in t k
-known-other t i v k d = let z : 4423 + k ≢ 4423 + i = λ y. omega (arith, d) in get_or-set_other t (4423 + i) (4423 + k) v 0 z
+-- so many cells written over there
+module _ (t zs : List ℕ) (n : ℕ) (long : length zs ≡ n) (room : 4423 + n ≤ length t) where
+  pub forgotten_rows : SameRows t (put_mid 4423 n t zs)
+  forgotten_rows =
+      record {
+        long = over-length 4423 n t zs long room;
+        rows = λ r l. in_same (put_mid 4423 n t zs) t r r (λ j m. over-before 4423 n t zs long room (r * 66 + j) (omega arith));
+        mark = over-before 4423 n t zs long room 4422 (omega arith);
+      }
 
--- of the first n motifs no call is known, and the rows and the mark are as they were
-pub record Forgotten (t₀ : List ℕ) (n : ℕ) (t : List ℕ) : Type 0 where
-  pub same : SameRows t₀ t
-  pub none : (i : ℕ) → i < n → known_in t i ≡ 0
-
-pub forgotten_none : {t : List ℕ} → Forgotten t 0 t
-forgotten_none = record { same = same_self; none = λ i l. absurd (omega arith) }
-
-pub forgotten_more : {t₀ : List ℕ} {n : ℕ} {t : List ℕ} → Forgotten t₀ n t → 4423 + n < length t → (t₁ : List ℕ) → t₁ ≡ set t (4423 + n) 0
-    → Forgotten t₀ (n + 1) t₁
-forgotten_more {n = n} {t = t} w h t₁ e =
-    let s = known_same t n 0 in
-    rw e
-    record {
-      same =
-          record {
-            long = s.long ∙ w.same.long;
-            rows = λ r l. s.rows r l ∙ w.same.rows r l;
-            mark = s.mark ∙ w.same.mark;
-          };
-      none = λ i l. by i l (eqb i n) refl;
-    }
-  where
-    by : (i : ℕ) → i < n + 1 → (b : Bool) → eqb i n ≡ b → known_in (set t (4423 + n) 0) i ≡ 0
-    by i l true b = let y : i ≡ n = eqb-true i n b in rw y (get_or-set_same t (4423 + n) 0 0 h)
-    by i l false b =
-        let d = eqb-false i n b in
-        let m : i < n = omega (arith, d) in
-        known-other t n 0 i d ∙ w.none i m
+  pub forgotten-cells : zs ≡ replicate (length zs) 0 → (i : ℕ) → i < n → known_in (put_mid 4423 n t zs) i ≡ 0
+  forgotten-cells e i l = over-there 4423 n t zs long room i l ∙ rw e (get_or-replicate (length zs) i 0 0 (omega arith))
 
 -- what was so of the rows is so where the same rows are
 module _ {u v : List ℕ} (s : SameRows u v) where
-  pub rows-too : {t : List ℕ} {row : ℕ} → OtherRows t row u → OtherRows t row v
-  rows-too o = record { long = s.long ∙ o.long; same = λ r l d. s.rows r l ∙ o.same r l d }
-
   pub rows_same : {row : ℕ} → OtherRows u row v
   rows_same = record { long = s.long; same = λ r l d. s.rows r l }
 

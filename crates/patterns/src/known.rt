@@ -2,7 +2,7 @@
 ghost use Rattle.std.specs.Prelude.{◌≡◌, true, [], ℕ, ◌≤◌, ◌<◌};
 ghost use Rattle.pattern_rows.specs.Numbers.{numbers_in, selecting_in, known_in, OtherRows, SameRows, Unknown};
 
-use crate::lists::{empty, put};
+use crate::lists::empty;
 use names::limits::MOTIFS_MOST;
 
 // Behind the rows and the mark, a cell for each of the 64 motifs: not 0 if a call of it is known to lack no pattern.
@@ -22,7 +22,7 @@ pub fn learn(patterns: &mut [u16; 4487], i: usize)
     ensures same_rows { SameRows patterns.old patterns.new }
     ensures by_index { (k : ℕ) → (k ≡ i → ⊥) → known_in patterns.new k ≡ known_in patterns.old k }
 {
-    put(patterns, KNOWN + i, 1);
+    patterns[KNOWN + i] = 1;
 }
 
 // Of the first n motifs no call is known any more to lack no pattern.
@@ -31,11 +31,7 @@ pub(crate) fn forget(patterns: &mut [u16; 4487], n: usize)
     ensures same_rows { SameRows patterns.old patterns.new }
     ensures by_index { (i : ℕ) → i < n → known_in patterns.new i ≡ 0 }
 {
-    let mut i: usize = 0;
-    while i < n {
-        put(patterns, KNOWN + i, 0);
-        i += 1;
-    }
+    patterns[KNOWN..KNOWN + n].fill(0);
 }
 
 // No number in a row. A call that lacked no pattern may lack one now, so none is known to lack none.

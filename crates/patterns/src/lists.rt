@@ -1,16 +1,8 @@
 // What is written in the rows of numbers: one more, none, or those of the motif that was judged.
-ghost use Rattle.std.specs.Prelude.{◌≡◌, [], ◌+◌, ◌*◌, ◌≤◌, ◌<◌, length, set};
+ghost use Rattle.std.specs.Prelude.{◌≡◌, [], ◌+◌, ◌*◌, ◌≤◌, ◌<◌, length};
 ghost use Rattle.pattern_rows.specs.Numbers.{OfMotif, numbers_in, noted, selecting_in, Others, OtherRows, Quiet};
 
 use pattern_rows::{NUMBERS_MOST, OWN, ROW, SELECTING, count, has};
-
-// A number in a cell.
-pub(crate) fn put(cells: &mut [u16], at: usize, n: u16)
-    requires { at < length cells.old }
-    ensures { cells.new ≡ set cells.old at n }
-{
-    cells[at] = n;
-}
 
 // One number more in a row, unless it is there.
 pub fn define(patterns: &mut [u16], row: usize, n: u16)
@@ -19,15 +11,12 @@ pub fn define(patterns: &mut [u16], row: usize, n: u16)
     ensures others { Others patterns.old row patterns.new }
     ensures patterns_unchanged { selecting_in patterns.new ≡ selecting_in patterns.old }
 {
-    if has(patterns, row, n) {
-        return;
-    }
     let count = count(patterns, row);
-    if NUMBERS_MOST <= count {
+    if has(patterns, row, n) || NUMBERS_MOST <= count {
         return;
     }
-    put(patterns, row * ROW + count + 1, n);
-    put(patterns, row * ROW, (count + 1) as u16);
+    patterns[row * ROW + count + 1] = n;
+    patterns[row * ROW] = (count + 1) as u16;
 }
 
 // No number in a row.
@@ -37,7 +26,7 @@ pub(crate) fn empty(patterns: &mut [u16; 4487], row: usize)
     ensures others { Others patterns.old row patterns.new }
     ensures patterns_unchanged { selecting_in patterns.new ≡ selecting_in patterns.old }
 {
-    put(patterns, row * ROW, 0);
+    patterns[row * ROW] = 0;
 }
 
 // What the motif that was judged selects, kept for later.
@@ -50,11 +39,7 @@ pub fn take_own(patterns: &mut [u16; 4487], own: &[u16; 66])
         empty(patterns, OWN);
         return;
     }
-    let mut i: usize = 0;
-    while i < ROW {
-        put(patterns, OWN * ROW + i, own[i]);
-        i += 1;
-    }
+    patterns[OWN * ROW..OWN * ROW + ROW].copy_from_slice(own);
 }
 
 // What the motif that was judged selects, in this row.
@@ -68,11 +53,6 @@ pub(crate) fn copy_own(patterns: &mut [u16; 4487], row: usize)
         empty(patterns, row);
         return;
     }
-    let mut k: usize = 0;
-    while k < ROW {
-        let n = patterns[OWN * ROW + k];
-        put(patterns, row * ROW + k, n);
-        k += 1;
-    }
-    put(patterns, SELECTING, 1);
+    patterns.copy_within(OWN * ROW..OWN * ROW + ROW, row * ROW);
+    patterns[SELECTING] = 1;
 }

@@ -1,23 +1,15 @@
--- `forget`: after i turns no call of the first i motifs is known.
+-- `forget`: the cells behind the mark are written over.
 -- Assumes nothing.
-use Prim.Native.Nat.{◌+◌, ◌-◌, ◌<◌}
-use mathlib.Core.Path.{◌≡◌}
-use lib.ListN.{length}
-use native.Mathlib.Omega.{arith}
-use Rattle.patterns.proofs.Forgets.{forgotten_none, forgotten_more}
-use borrow.Author.Rules.{rules}
+use Rattle.std.proofs.Common.{◌+◌, ◌-◌, ◌≤◌, ◌≡◌, length, replicate, arith, rules}
+use Rattle.patterns.proofs.Forgets.{forgotten_rows, forgotten-cells}
 use Rattle.patterns.proofs.known.forget.Goals as goal
 
-pub loop-i-init : goal.loop-i-init
-loop-i-init c = (omega arith, forgotten_none)
-
-pub loop-i-preserved : goal.loop-i-preserved
-loop-i-preserved c = let l = c.loop-i in
-    let h : 4423 + l.i < length l.patterns = search rules in
-    (omega arith, forgotten_more l.invariant.1 h _ c.put.ensures)
-
 pub returns : goal.returns
-returns c = let l = c.loop-i in
-    let e : l.i ≡ c.args.n = omega arith in
-    let w = rw e at l.invariant.1 in
-    record { same_rows = w.same; by_index = w.none }
+returns c =
+    let t = c.args.patterns.now in
+    let zs = c.fill.new.self in
+    let n = 4423 + c.args.n - 4423 in
+    let l : 4423 + n ≤ length t = search rules in
+    let k : length zs ≡ n = search rules in
+    let z : zs ≡ replicate (length zs) 0 = rw c.fill.ensures.len (c.fill.ensures.after (search rules)) in
+    record { same_rows = forgotten_rows t zs n k l; by_index = λ i h. forgotten-cells t zs n k l z i (omega arith) }
