@@ -1,7 +1,7 @@
 -- The search as it was before the held motifs had an order: row by row, the last one first. Both searches find the same row, whatever the name: numbers are those of
 -- first definition still.
 -- Assumes nothing.
-use Prim.Native.Nat.{ℕ, zero, suc, ◌-◌}
+use Prim.Native.Nat.{ℕ, zero, suc}
 use mathlib.Core.Path.{◌≡◌, refl, sym, ap, ◌∙◌}
 use mathlib.Core.Bool.{Bool, true, false}
 use mathlib.Core.List.{List, ◌∷◌}

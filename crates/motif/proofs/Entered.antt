@@ -6,10 +6,11 @@ use mathlib.Core.Path.{◌≡◌, refl, sym, ap, ◌∙◌}
 use mathlib.Core.Bool.{true}
 use mathlib.Core.List.{List, [], ◌∷◌, ◌++◌}
 use native.Mathlib.Omega.{arith}
-use native.Mathlib.Nat.{add-zero}
 use native.Mathlib.Numerals.{add-one}
 use lib.ListN.{length, get_or, take, drop, set, length-drop, length-append, get_or-append}
-use lib.Seq.{paste, paste-suc, length-paste, length_paste_head, length-take-le, get_or-take, get_or-drop, get_or-append-add}
+use lib.Seq.{paste, length-paste, take-suc, length-take-le, get_or-take, get_or-drop, get_or-append-add}
+use mathlib.Core.List.{append_assoc}
+use Rattle.std.proofs.lemmas.List.{set_at}
 use borrow.Author.Tests.{lt-ltb}
 use Rattle.scope.specs.Motif.{Motif, Held, held_as}
 use Rattle.key.specs.Keys.{key_of}
@@ -24,19 +25,14 @@ use Rattle.motif.proofs.Sorting.{Put, sorted_more, sorted-alike}
 use Rattle.motif.proofs.Rowed.{none_is, row-held}
 use Rattle.motif.proofs.Stored.{row-key, row-name}
 
--- a turn of the loop that moves numbers up
-pub paste_more : (xs ys : List ℕ) (a : ℕ) (vs : List ℕ) (i v : ℕ) → ys ≡ paste xs a vs i → v ≡ get_or vs i 0 → a + i < length xs → i < length vs
-    → set ys (a + i) v ≡ paste xs a vs (i + 1)
-paste_more xs ys a vs i v e f h k = rw (e, f, add-one) (paste-suc xs a vs i 0 h k)
-
--- what is not yet written over stands as it stood
-pub paste_after : (xs : List ℕ) (a : ℕ) (vs : List ℕ) (i : ℕ) → a + i < length xs → i ≤ length vs → get_or (paste xs a vs i) (a + i) 0 ≡ get_or xs (a + i) 0
-paste_after xs a vs i h k =
-    let p : List ℕ = take a xs ++ take i vs in
-    let l : length p ≡ a + i = length_paste_head xs a vs i (omega arith) k in
-    let z : get_or (p ++ drop (a + i) xs) (length p + 0) 0 ≡ get_or (drop (a + i) xs) 0 0 = get_or-append-add p (drop (a + i) xs) 0 0 in
-    let n : length p + 0 ≡ a + i = omega arith in
-    (rw n at z) ∙ get_or-drop (a + i) xs 0 0 ∙ rw (add-zero (a + i))
+-- what stands from a place on moves up by one, and the number is written at the place
+pub put_over : (t : List ℕ) (at count v : ℕ) → at < length t → set (paste t (at + 1) (drop at t) count) at v ≡ put_in t at count v
+unfolding put_in
+put_over t at count v h =
+    let f : take (at + 1) t ≡ take at t ++ (get_or t at 0 ∷ []) = rw add-one (take-suc t at 0 h) in
+    let e : at + 1 + count ≡ at + suc count = omega arith in
+    let l : length (take at t) ≡ at = length-take-le at t (omega arith) in
+    rw (f, e) (simp append_assoc (set_at (take at t) (get_or t at 0) (take count (drop at t) ++ drop (at + suc count) t) v at l))
 
 module _ (t : List ℕ) (at count v : ℕ) (room : at + count < length t) where
   moved : length (v ∷ take count (drop at t)) ≡ suc count

@@ -1,19 +1,19 @@
 -- The order of names is strict and total: what stands first decides, and of two names that are not the same one stands before the other.
 -- Assumes nothing.
-use Prim.Native.Nat.{ℕ, ◌+◌, ◌*◌, ◌<◌}
+use Prim.Native.Nat.{ℕ, ◌<◌}
 use mathlib.Core.Logic.{◌≢◌}
 use mathlib.Core.Path.{◌≡◌, refl, sym, ap, ◌∙◌}
 use mathlib.Core.Bool.{Bool, true, false}
 use mathlib.Core.List.{List, [], ◌∷◌}
 use native.Mathlib.Omega.{arith}
-use native.Mathlib.Nat.{add-zero}
-use lib.ListN.{get_or}
 use lib.Dec.{eqb, ltb}
 use borrow.Author.Tests.{lt-ltb, le-ltb, ltb-true, ltb-false, eq-eqb, ne_eqb}
+use Rattle.std.proofs.Common.{Some, cond}
+use Rattle.std.specs.declared.cmp.Ordering.TheVariants.{Less, Equal, Greater}
+use Rattle.std.specs.Ordering.{nat_cmp, partial_ordering_then, is_lt, is_some_and}
 use Rattle.scope.specs.Choice.{pick}
 use Rattle.scope.proofs.Apart.{clash-of}
 use Rattle.motif.specs.Before.{before}
-use Rattle.motif.specs.Held.{cell, key_in}
 
 -- what stands first decides
 pub before-less : (x y : ℕ) (xs ys : List ℕ) → x < y → before (x ∷ xs) (y ∷ ys) ≡ true
@@ -28,23 +28,6 @@ pub before_same : (x y : ℕ) (xs ys : List ℕ) → x ≡ y → before (x ∷ x
 unfolding before
 before_same x y xs ys h = let l : ltb x y ≡ false = le-ltb x y (omega arith) in rw (l, eq-eqb x y h)
 
-pub before-apart : (x y : ℕ) (xs ys : List ℕ) → x ≢ y → before (x ∷ xs) (y ∷ ys) ≡ ltb x y
-unfolding before
-before-apart x y xs ys h = rw (ne_eqb x y h) (by (ltb x y))
-  where
-    by : (b : Bool) → pick b true false ≡ b
-    by true = refl
-    by false = refl
-
-pub before_last : (x y : ℕ) → before (x ∷ []) (y ∷ []) ≡ ltb x y
-unfolding before
-before_last x y = by (ltb x y) (eqb x y)
-  where
-    by : (b d : Bool) → pick b true (pick d false false) ≡ b
-    by true d = refl
-    by false true = refl
-    by false false = refl
-
 before-none : (xs : List ℕ) → before xs [] ≡ false
 unfolding before
 before-none [] = refl
@@ -54,21 +37,23 @@ pub before-first : (y : ℕ) (ys : List ℕ) → before [] (y ∷ ys) ≡ true
 unfolding before
 before-first y ys = refl
 
--- row i against a key, number after number
-module _ (t : List ℕ) (i a b c : ℕ) where
-  at_first : cell t i 0 ≡ get_or t (i * 10) 0
-  at_first = ap (λ (k : ℕ). get_or t k 0) (add-zero (i * 10))
+-- three numbers against three, as std orders them
+by-three : (b d e f g h : Bool)
+    → is_some_and is_lt (partial_ordering_then (partial_ordering_then (Some (cond b Less (cond d Equal Greater))) (Some (cond e Less (cond f Equal Greater)))) (Some (cond g Less (cond h Equal Greater))))
+    ≡ pick b true (pick d (pick e true (pick f (pick g true (pick h false false)) false)) false)
+by-three true d e f g h = refl
+by-three false false e f g h = refl
+by-three false true true f g h = refl
+by-three false true false false g h = refl
+by-three false true false true true h = refl
+by-three false true false true false true = refl
+by-three false true false true false false = refl
 
-  pub row_first : get_or t (i * 10) 0 ≢ a → before (key_in t i) (a ∷ b ∷ c ∷ []) ≡ ltb (get_or t (i * 10) 0) a
-  row_first h = before-apart (cell t i 0) a (cell t i 1 ∷ cell t i 2 ∷ []) (b ∷ c ∷ []) (λ e. h (sym at_first ∙ e)) ∙ ap (λ (k : ℕ). ltb k a) at_first
-
-  pub row_next : get_or t (i * 10) 0 ≡ a → get_or t (i * 10 + 1) 0 ≢ b → before (key_in t i) (a ∷ b ∷ c ∷ []) ≡ ltb (get_or t (i * 10 + 1) 0) b
-  row_next e h =
-      before_same (cell t i 0) a (cell t i 1 ∷ cell t i 2 ∷ []) (b ∷ c ∷ []) (at_first ∙ e) ∙ before-apart (cell t i 1) b (cell t i 2 ∷ []) (c ∷ []) h
-
-  pub row-long : get_or t (i * 10) 0 ≡ a → get_or t (i * 10 + 1) 0 ≡ b → before (key_in t i) (a ∷ b ∷ c ∷ []) ≡ ltb (get_or t (i * 10 + 2) 0) c
-  row-long e f =
-      before_same (cell t i 0) a (cell t i 1 ∷ cell t i 2 ∷ []) (b ∷ c ∷ []) (at_first ∙ e) ∙ before_same (cell t i 1) b (cell t i 2 ∷ []) (c ∷ []) f ∙ before_last (cell t i 2) c
+pub before-three : (x y z a b c : ℕ)
+    → is_some_and is_lt (partial_ordering_then (partial_ordering_then (Some (nat_cmp x a)) (Some (nat_cmp y b))) (Some (nat_cmp z c)))
+    ≡ before (x ∷ y ∷ z ∷ []) (a ∷ b ∷ c ∷ [])
+unfolding before
+before-three x y z a b c = by-three (ltb x a) (eqb x a) (ltb y b) (eqb y b) (ltb z c) (eqb z c)
 
 -- one number stands to another in one of three ways
 pub data Three (x y : ℕ) : Type 0 where

@@ -15,18 +15,12 @@ fn is_before(motifs: &[usize; 704], i: usize, key: Key) -> bool
     requires { i < 64 }
     ensures { result ≡ before (key_in motifs.now i) (key_as key) }
 {
-    let first = motifs[i * ROW];
-    if first != key.first {
-        return first < key.first;
-    }
-    let next = motifs[i * ROW + 1];
-    if next != key.next {
-        return next < key.next;
-    }
-    motifs[i * ROW + 2] < key.long
+    let row = (motifs[i * ROW], motifs[i * ROW + 1], motifs[i * ROW + 2]);
+    row < (key.first, key.next, key.long)
 }
 
 // The first of n places whose name is not before a name, by halving.
+// Written out, since `motifs_after` of `enter` names the place also where a column is not sorted, of which `partition_point` says nothing.
 pub(crate) fn place_of(motifs: &[usize; 704], n: usize, key: Key) -> usize
     requires { n ≤ 64 }
     ensures upper_bound { result ≤ n }
@@ -51,17 +45,12 @@ fn put_in(s: &mut [usize], at: usize, count: usize, v: usize)
     requires { at + count < length s.old }
     ensures { s.new ≡ put_in s.old at count v }
 {
-    let mut carry = v;
-    let mut i: usize = 0;
-    while i <= count {
-        let next = s[at + i];
-        s[at + i] = carry;
-        carry = next;
-        i += 1;
-    }
+    s.copy_within(at..at + count, at + 1);
+    s[at] = v;
 }
 
 // Row n, of a name that the n rows before it have not, comes into the column at its place; nothing is done where there is no such row.
+#[tactic(auto, unfolding(crate::specs::Search::entered_in))]
 pub fn enter(motifs: &mut [usize; 704], n: usize, name: &[u8])
     ensures motifs_len_unchanged { length motifs.new ≡ length motifs.old }
     ensures motifs_after { motifs.new ≡ entered_in motifs.old n (key_of name.now) }

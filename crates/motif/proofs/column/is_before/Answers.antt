@@ -1,16 +1,13 @@
--- `is_before` meets its contract: the first number that differs decides.
+-- `is_before` meets its contract: std orders three numbers as the order of names does.
 -- Assumes nothing.
-use mathlib.Core.Path.{sym}
-use Rattle.motif.proofs.Ordered.{row_first, row_next, row-long}
+use Rattle.std.proofs.Common.{◌+◌, ◌*◌, ◌≡◌, ◌∙◌, slice_index, arith}
+use Rattle.motif.proofs.Ordered.{before-three}
 use Rattle.motif.proofs.column.is_before.Goals as goal
 
-pub returns-then-first-key : goal.returns-then-first-key
-returns-then-first-key c = let a = c.args in sym (row_first a.motifs.now a.i a.key.first a.key.next a.key.long c.if-first-key.true)
-
-pub returns-then-next-key : goal.returns-then-next-key
-returns-then-next-key c = let a = c.args in
-    sym (row_next a.motifs.now a.i a.key.first a.key.next a.key.long c.if-first-key.false c.if-next-key.true)
-
 pub returns : goal.returns
-returns c = let a = c.args in
-    sym (row-long a.motifs.now a.i a.key.first a.key.next a.key.long c.if-first-key.false c.if-next-key.false)
+returns c =
+    let t = c.args.motifs.now in
+    let i = c.args.i in
+    let k = c.args.key in
+    let e : i * 10 + 0 ≡ i * 10 = omega arith in
+    rw e (c.lt.ensures ∙ before-three (slice_index t (i * 10)) (slice_index t (i * 10 + 1)) (slice_index t (i * 10 + 2)) k.first k.next k.long)

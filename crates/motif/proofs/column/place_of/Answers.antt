@@ -1,6 +1,5 @@
 -- `place_of` meets its contract: what lies between lo and hi is halved in each turn, and the search from there is the whole search.
 -- Assumes nothing.
-use Prim.Native.Nat.{◌-◌}
 use mathlib.Core.Path.{sym, ◌∙◌}
 use native.Mathlib.Omega.{arith}
 use Rattle.key.specs.Views.{key_as}
