@@ -11,16 +11,11 @@ use motif::{CALLS, LEVEL, MISSING, ROW, in_use};
 use names::limits::{MOTIFS_MOST, NESTING_MOST};
 
 // A motif that is not called does not hold a caller up; one that is called has to have its level from an earlier round.
+#[tactic(auto, unfolding(crate::specs::Rounds::earlier_of))]
 fn earlier(called: bool, level: usize, t: usize) -> bool
     ensures { result ≡ earlier_of called level t }
 {
-    if !called {
-        return true;
-    }
-    if level == 0 {
-        return false;
-    }
-    level < t
+    !called || (level != 0 && level < t)
 }
 
 // Every motif that motif i calls has its level from an earlier round.
@@ -30,9 +25,7 @@ fn ready(motifs: &[usize; 704], n: usize, i: usize, t: usize) -> bool
     ensures { result ≡ ready_of motifs.now n i t }
 {
     let calls = motifs[i * ROW + CALLS];
-    let mut j = n;
-    while 0 < j {
-        j -= 1;
+    for j in (0..n).rev() {
         if !earlier(has_mark(calls, j), motifs[j * ROW + LEVEL], t) {
             return false;
         }
@@ -41,6 +34,7 @@ fn ready(motifs: &[usize; 704], n: usize, i: usize, t: usize) -> bool
 }
 
 // The level of the motif of row i after round t, where some have theirs from rounds before; 0 for none.
+#[tactic(auto, unfolding(crate::specs::Rounds::next_of))]
 pub fn next(motifs: &[usize; 704], held: usize, i: usize, t: usize) -> usize
     ensures { result ≡ next_of motifs.now (few held) i t }
 {
@@ -51,11 +45,11 @@ pub fn next(motifs: &[usize; 704], held: usize, i: usize, t: usize) -> usize
     if level != 0 {
         return level;
     }
-    if motifs[i * ROW + MISSING] != 0 {
-        return 0;
+    if motifs[i * ROW + MISSING] == 0 && ready(motifs, in_use(held), i, t) {
+        t
+    } else {
+        0
     }
-    let n = in_use(held);
-    if ready(motifs, n, i, t) { t } else { 0 }
 }
 
 // The level of the motif of row i, which has none yet, where all others have theirs.
@@ -63,13 +57,11 @@ pub fn level_of(motifs: &[usize; 704], held: usize, i: usize) -> usize
     ensures { (ms : List Motif) (m : Motif) → Keeps motifs.now held ms → Noted motifs.now held ms → InRow ms i m
         → level_in motifs.now i ≡ 0 → LevelsBut motifs.now ms i → calls_row ms m.ops i ≡ false → result ≡ level_of ms 32 m.name }
 {
-    let mut t: usize = 1;
-    while t <= NESTING_MOST {
+    for t in 1..=NESTING_MOST {
         let level = next(motifs, held, i, t);
         if level != 0 {
             return level;
         }
-        t += 1;
     }
     0
 }

@@ -1,11 +1,6 @@
 -- `level_of`: up to this round the motif has no level; the first that it gets stays.
 -- Assumes nothing.
-use Prim.Native.Nat.{suc, ◌+◌, ◌-◌, ◌<◌}
-use mathlib.Core.Path.{◌≡◌, refl, sym, ap, ◌∙◌}
-use mathlib.Core.Bool.{false}
-use mathlib.Core.List.{List}
-use native.Mathlib.Omega.{arith}
-use lib.Dec.{eqb}
+use Rattle.std.proofs.Common.{suc, ◌+◌, ◌-◌, ◌<◌, ◌≡◌, false, List, eqb, refl, sym, ap, ◌∙◌, arith}
 use borrow.Author.Tests.{ne_eqb}
 use Rattle.scope.specs.Motif.{Motif}
 use Rattle.motif.specs.Search.{few}
@@ -18,7 +13,7 @@ use Rattle.rounds.proofs.rounds.level_of.Goals as goal
 
 pub loop-t-init : goal.loop-t-init
 unfolding level_of
-loop-t-init c = (omega arith, omega arith, λ ms m k q r z o w. refl)
+loop-t-init c = λ ms m k q r z o w. refl
 
 -- what the round gives
 given : (c : After-next-level) → let a = c.args in
@@ -29,7 +24,7 @@ given c ms m k q r z o w =
     let l = c.loop-t in
     let e : l.t ≡ suc (l.t - 1) = omega arith in
     let h : l.t - 1 < 32 = omega arith in
-    let f = next-alone a.motifs.now a.held ms k q a.i m r (l.t - 1) h z o w (l.invariant.2 ms m k q r z o w) in
+    let f = next-alone a.motifs.now a.held ms k q a.i m r (l.t - 1) h z o w (l.invariant ms m k q r z o w) in
     c.next-level.ensures ∙ ap (next_of a.motifs.now (few a.held) a.i) e ∙ f ∙ ap (λ y. level_of ms y m.name) (sym e)
 
 pub returns-then-level-ne0 : goal.returns-then-level-ne0
@@ -41,17 +36,7 @@ returns-then-level-ne0 c = λ ms m k q r z o w.
     g ∙ sym (level-stays ms t (32 - t) m.name e) ∙ ap (λ y. level_of ms y m.name) h
 
 pub loop-t-preserved : goal.loop-t-preserved
-loop-t-preserved c = (
-  omega arith,
-  omega arith,
-  λ ms m k q r z o w.
-      let t = c.loop-t.t in
-      let e : t + 1 - 1 ≡ t = omega arith in
-      ap (λ y. level_of ms y m.name) e ∙ sym (given (goal.at.loop-t-preserved c).After-next-level ms m k q r z o w) ∙ c.if-level-ne0.false,
-)
-
-pub returns : goal.returns
-returns c = λ ms m k q r z o w.
-    let l = c.loop-t in
-    let e : 32 ≡ l.t - 1 = omega arith in
-    sym (ap (λ y. level_of ms y m.name) e ∙ l.invariant.2 ms m k q r z o w)
+loop-t-preserved c = λ ms m k q r z o w.
+    let t = c.loop-t.t in
+    let e : t + 1 - 1 ≡ t = omega arith in
+    ap (λ y. level_of ms y m.name) e ∙ sym (given (goal.at.loop-t-preserved c).After-next-level ms m k q r z o w) ∙ c.if-level-ne0.false

@@ -1,8 +1,5 @@
 -- `level_of`: up to this round the motif has no level; the first that it gets stays.
-use Prim.Native.Nat.{◌-◌, ◌≤◌, ◌<◌}
-use mathlib.Core.Path.{◌≡◌}
-use mathlib.Core.Bool.{false}
-use mathlib.Core.List.{List}
+use Rattle.std.proofs.Common.{◌-◌, ◌≡◌, false, List}
 use Rattle.scope.specs.Motif.{Motif}
 use Rattle.motif.specs.Held.{Keeps, InRow, level_in}
 use Rattle.motif.specs.Tables.{calls_row, Noted, level_of}
@@ -10,10 +7,6 @@ use Rattle.rounds.specs.Rounds.{LevelsBut}
 use Rattle.rounds.proofs.rounds.level_of.Given as goal
 
 abbrev pub invariant-loop-t : goal.invariant-loop-t
-invariant-loop-t l = (0 < l.t)
-    × (l.t ≤ 33)
-    × ((ms : List Motif) (m : Motif) → Keeps l.motifs l.held ms → Noted l.motifs l.held ms → InRow ms l.i m → level_in l.motifs l.i ≡ 0 → LevelsBut l.motifs ms l.i
-    → calls_row ms m.ops l.i ≡ false → level_of ms (l.t - 1) m.name ≡ 0)
-
-abbrev pub decreases-loop-t : goal.decreases-loop-t
-decreases-loop-t l = 33 - l.t
+invariant-loop-t l =
+    (ms : List Motif) (m : Motif) → Keeps l.motifs l.held ms → Noted l.motifs l.held ms → InRow ms l.i m → level_in l.motifs l.i ≡ 0 → LevelsBut l.motifs ms l.i
+    → calls_row ms m.ops l.i ≡ false → level_of ms (l.t - 1) m.name ≡ 0
