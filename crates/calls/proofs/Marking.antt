@@ -118,3 +118,10 @@ adds_more own f i out r new y s g = record { at = λ k. by k (eqb i k) refl (mar
 
         down : ltb k (i + 1) ≡ true → ltb k i ≡ true
         down t = lt-ltb k i (let w : k < i + 1 = ltb-true k (i + 1) t in let n : i ≡ k → ⊥ = eqb-false i k e in omega arith)
+
+pub adds-no : (own : ℕ) (f : ℕ → Bool) (i out : ℕ) → f i ≡ false → Adds own f i out → Adds own f (i + 1) out
+adds-no own f i out e s = adds_more own f i out out false (sym e) s (λ k. by (eqb i k) (mark out k))
+  where
+    by : (b c : Bool) → c ≡ pick b (pick false true c) c
+    by true c = refl
+    by false c = refl

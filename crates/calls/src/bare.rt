@@ -9,7 +9,7 @@ ghost use Rattle.pattern_rows.specs.Numbers.{OfPage, OfSession, numbers_in, Same
 ghost use Rattle.patterns.specs.Selects.{wants_from, Selects};
 ghost use Rattle.calls.specs.Marks.{Adds, wants_more};
 
-use crate::why::{noted, spread};
+use crate::why::{marks, spread};
 use key::has_mark;
 use motif::{LEVEL, ROW, in_use};
 use names::limits::NESTING_MOST;
@@ -21,24 +21,7 @@ fn lacking(patterns: &[u16; 4487], n: usize) -> usize
     requires { n ≤ 64 }
     ensures { Adds 0 (wants_more patterns.now) n result }
 {
-    let mut out: usize = 0;
-    let mut i: usize = 0;
-    while i < n {
-        out = noted(out, i, lacks(patterns, i));
-        i += 1;
-    }
-    out
-}
-
-// As many rounds as a motif of this level has levels: no more than calls may nest.
-fn rounds(level: usize) -> usize
-    ensures upper_bound { result ≤ 32 }
-    ensures value { level ≤ 32 → result ≡ level }
-{
-    if NESTING_MOST < level {
-        return NESTING_MOST;
-    }
-    level
+    marks(0, n, |i| lacks(patterns, i))
 }
 
 // A pattern that the motif of row i, which has a level, or one that it calls selects is not defined.
@@ -54,12 +37,9 @@ fn is_bare(motifs: &[usize; 704], patterns: &[u16; 4487], held: usize, i: usize)
     }
     let n = in_use(held);
     let own = lacking(patterns, n);
-    let most = rounds(motifs[i * ROW + LEVEL]);
     let mut table: usize = 0;
-    let mut t: usize = 0;
-    while t < most {
+    for _t in 0..motifs[i * ROW + LEVEL].min(NESTING_MOST) {
         table = spread(motifs, n, own, table);
-        t += 1;
     }
     has_mark(table, i)
 }

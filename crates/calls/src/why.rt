@@ -1,5 +1,5 @@
 // Why a call is refused, by rounds over whom each motif calls. A table of the rounds is one number, with a mark for each row.
-ghost use Rattle.std.specs.Prelude.{◌≡◌, true, List, [], ℕ, suc, ◌<◌, ◌≤◌, eqb, ltb};
+ghost use Rattle.std.specs.Prelude.{◌≡◌, Bool, true, List, [], ℕ, suc, ◌<◌, ◌≤◌, eqb, ltb};
 ghost use Rattle.scope.specs.Choice.{pick};
 ghost use Rattle.scope.specs.Motif.{Motif};
 ghost use Rattle.scope.specs.Calls.{met};
@@ -14,12 +14,19 @@ use key::{has_mark, with_mark};
 use motif::{CALLS, MISSING, ROW, in_use};
 use names::limits::NESTING_MOST;
 
-// The marks, with mark i set if it is asked for.
-pub(crate) fn noted(marks: usize, i: usize, new: bool) -> usize
-    requires { i < 64 }
-    ensures { (k : ℕ) → mark result k ≡ pick (eqb i k) (pick new true (mark marks k)) (mark marks k) }
+// The marks given, and one for each of the first n rows of which a test is true.
+pub(crate) fn marks<F: Fn(usize) -> bool>(own: usize, n: usize, test: F) -> usize
+    requires n_bound { n ≤ 64 }
+    requires callable { (i : ℕ) → i < n → F.pre test i }
+    ensures { (f : ℕ → Bool) → ((i : ℕ) (b : Bool) → i < n → F.post test i b → b ≡ f i) → Adds own f n result }
 {
-    if new { with_mark(marks, i) } else { marks }
+    let mut out = own;
+    for i in 0..n {
+        if test(i) {
+            out = with_mark(out, i);
+        }
+    }
+    out
 }
 
 // The rows that name a motif that is not held.
@@ -27,13 +34,7 @@ fn lacking(motifs: &[usize; 704], n: usize) -> usize
     requires { n ≤ 64 }
     ensures { Adds 0 (lacks motifs.now) n result }
 {
-    let mut out: usize = 0;
-    let mut i: usize = 0;
-    while i < n {
-        out = noted(out, i, motifs[i * ROW + MISSING] != 0);
-        i += 1;
-    }
-    out
+    marks(0, n, |i| motifs[i * ROW + MISSING] != 0)
 }
 
 // The marks one call on: those given, and each row that calls one of the table.
@@ -41,13 +42,7 @@ pub(crate) fn spread(motifs: &[usize; 704], n: usize, own: usize, table: usize) 
     requires { n ≤ 64 }
     ensures { Adds own (reaches motifs.now table) n result }
 {
-    let mut out = own;
-    let mut i: usize = 0;
-    while i < n {
-        out = noted(out, i, (motifs[i * ROW + CALLS] & table) != 0);
-        i += 1;
-    }
-    out
+    marks(own, n, |i| motifs[i * ROW + CALLS] & table != 0)
 }
 
 // By 32 calls or fewer from a call of the motif of row i a name is reached that is not held.
@@ -57,10 +52,8 @@ fn loses(motifs: &[usize; 704], n: usize, i: usize) -> bool
 {
     let own = lacking(motifs, n);
     let mut table: usize = 0;
-    let mut t: usize = 0;
-    while t < NESTING_MOST {
+    for _t in 0..NESTING_MOST {
         table = spread(motifs, n, own, table);
-        t += 1;
     }
     has_mark(table, i)
 }
@@ -72,9 +65,12 @@ fn first(found: usize, t: usize, marked: bool) -> usize
     ensures upper_bound { result ≤ suc t }
 {
     if found < t {
-        return found;
+        found
+    } else if marked {
+        t
+    } else {
+        t + 1
     }
-    if marked { t } else { t + 1 }
 }
 
 // From the motif of row i to that of row v and from there round to it, by 32 calls or fewer in all.
@@ -85,12 +81,10 @@ fn closes_at(motifs: &[usize; 704], n: usize, i: usize, v: usize) -> bool
     let mut table = with_mark(0, v);
     let mut there: usize = 0;
     let mut round: usize = 0;
-    let mut t: usize = 0;
-    while t < NESTING_MOST {
+    for t in 0..NESTING_MOST {
         there = first(there, t, has_mark(table, i));
         table = spread(motifs, n, 0, table);
         round = first(round, t, has_mark(table, v));
-        t += 1;
     }
     there + round < NESTING_MOST
 }
@@ -100,12 +94,10 @@ fn turns(motifs: &[usize; 704], n: usize, i: usize) -> bool
     requires { n ≤ 64 }
     ensures { (ms : List Motif) (m : Motif) → Tables motifs.now n ms → InRow ms i m → result ≡ (met ms 32 [] m.name).again }
 {
-    let mut v: usize = 0;
-    while v < n {
+    for v in 0..n {
         if closes_at(motifs, n, i, v) {
             return true;
         }
-        v += 1;
     }
     false
 }

@@ -1,5 +1,4 @@
 -- `is_bare`: after t rounds the table shows whose call comes to a pattern that is not defined within t levels.
-use Prim.Native.Nat.{◌≤◌, ◌-◌}
 use mathlib.Core.List.{List}
 use Rattle.scope.specs.Motif.{Motif}
 use Rattle.scope.specs.Reach.{called_by}
@@ -11,7 +10,4 @@ use Rattle.calls.proofs.Baring.{bad_in}
 use Rattle.calls.proofs.bare.is_bare.Given as goal
 
 abbrev pub invariant-loop-t : goal.invariant-loop-t
-invariant-loop-t l = (l.t ≤ l.most) × ((ms : List Motif) → Tables l.motifs l.n ms → Selects l.patterns ms → Few l.patterns → Shows ms l.n (unmet (bad_in l.patterns ms) (called_by ms) l.t) l.table)
-
-abbrev pub decreases-loop-t : goal.decreases-loop-t
-decreases-loop-t l = l.most - l.t
+invariant-loop-t l = (ms : List Motif) → Tables l.motifs l.n ms → Selects l.patterns ms → Few l.patterns → Shows ms l.n (unmet (bad_in l.patterns ms) (called_by ms) l._t) l.table

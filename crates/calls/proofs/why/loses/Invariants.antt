@@ -1,5 +1,4 @@
 -- `loses`: after t rounds the table shows who loses a name within t calls.
-use Prim.Native.Nat.{◌≤◌, ◌-◌}
 use mathlib.Core.List.{List}
 use Rattle.scope.specs.Motif.{Motif}
 use Rattle.scope.specs.Reach.{lost, holds, called_by}
@@ -8,7 +7,4 @@ use Rattle.calls.specs.Marks.{Shows}
 use Rattle.calls.proofs.why.loses.Given as goal
 
 abbrev pub invariant-loop-t : goal.invariant-loop-t
-invariant-loop-t l = (l.t ≤ 32) × ((ms : List Motif) → Tables l.motifs l.n ms → Shows ms l.n (lost (holds ms) (called_by ms) l.t) l.table)
-
-abbrev pub decreases-loop-t : goal.decreases-loop-t
-decreases-loop-t l = 32 - l.t
+invariant-loop-t l = (ms : List Motif) → Tables l.motifs l.n ms → Shows ms l.n (lost (holds ms) (called_by ms) l._t) l.table

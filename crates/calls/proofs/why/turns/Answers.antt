@@ -1,15 +1,11 @@
 -- `turns`: no motif of the rows before v closes a ring.
 -- Assumes nothing.
-use Prim.Native.Nat.{◌<◌, ◌-◌}
+use Prim.Native.Nat.{◌<◌}
 use mathlib.Core.Path.{◌≡◌, sym, ◌∙◌}
-use mathlib.Core.Bool.{false}
 use native.Mathlib.Omega.{arith}
 use Rattle.motif.proofs.Rowed.{row-held}
 use Rattle.calls.proofs.Ringing.{closes-again, none_more, none-again}
 use Rattle.calls.proofs.why.turns.Goals as goal
-
-pub loop-v-init : goal.loop-v-init
-loop-v-init c = (omega arith, λ ms m h r k w l q. absurd (omega arith))
 
 pub returns-then-closes_at : goal.returns-then-closes_at
 returns-then-closes_at c = let l = c.loop-v in
@@ -20,9 +16,9 @@ returns-then-closes_at c = let l = c.loop-v in
 
 pub loop-v-preserved : goal.loop-v-preserved
 loop-v-preserved c = let l = c.loop-v in
-    (omega arith, λ ms m h r. none_more m.name l.v (l.invariant.1 ms m h r) (λ w q. sym (c.closes_at.ensures ms m w h r q) ∙ c.if-closes_at.false))
+    λ ms m h r. none_more m.name l.v (l.invariant ms m h r) (λ w q. sym (c.closes_at.ensures ms m w h r q) ∙ c.if-closes_at.false)
 
 pub returns : goal.returns
 returns c = let l = c.loop-v in
     let e : l.v ≡ c.args.n = omega arith in
-    λ ms m h r. sym (none-again m.name h.keeps (rw e at (l.invariant.1 ms m h r)))
+    λ ms m h r. sym (none-again m.name h.keeps (rw e at (l.invariant ms m h r)))

@@ -1,5 +1,5 @@
 -- `turns`: no motif of the rows before v closes a ring.
-use Prim.Native.Nat.{ℕ, ◌≤◌, ◌<◌, ◌-◌}
+use Prim.Native.Nat.{ℕ, ◌<◌}
 use mathlib.Core.Path.{◌≡◌}
 use mathlib.Core.Bool.{false}
 use mathlib.Core.List.{List}
@@ -10,8 +10,5 @@ use Rattle.calls.specs.Marks.{closes}
 use Rattle.calls.proofs.why.turns.Given as goal
 
 abbrev pub invariant-loop-v : goal.invariant-loop-v
-invariant-loop-v l = (l.v ≤ l.n)
-    × ((ms : List Motif) (m : Motif) → Tables l.motifs l.n ms → InRow ms l.i m → (k : ℕ) (w : Motif) → k < l.v → InRow ms k w → closes ms w.name m.name ≡ false)
-
-abbrev pub decreases-loop-v : goal.decreases-loop-v
-decreases-loop-v l = l.n - l.v
+invariant-loop-v l =
+    (ms : List Motif) (m : Motif) → Tables l.motifs l.n ms → InRow ms l.i m → (k : ℕ) (w : Motif) → k < l.v → InRow ms k w → closes ms w.name m.name ≡ false
