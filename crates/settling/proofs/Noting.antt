@@ -12,7 +12,7 @@ use Rattle.scope.specs.Motif.{Motif}
 use Rattle.summary.specs.Sums.{SumsAs}
 use Rattle.summary.proofs.Empty.{empty-sums}
 use Rattle.key.specs.Mark.{mark}
-use Rattle.motif.specs.Held.{Keeps, InRow, cell, level_in, sum_in, calls_in, missing_in}
+use Rattle.motif.specs.Held.{InRow, cell, level_in, sum_in, calls_in, missing_in}
 use Rattle.motif.specs.Tables.{calls_row, lacks_one, level_of, settled_row}
 use Rattle.motif.proofs.Rowed.{in_below, keeps-beside}
 use Rattle.settling.specs.Making.{NotedTo, Rounded}
@@ -21,9 +21,6 @@ use Rattle.settling.proofs.Cells.{cell-there, cell_row, cell-column}
 -- row i with no level, nothing that it comes to, whom it calls and whether it misses a name
 abbrev pub noted : (t : List ℕ) → (i calls missing : ℕ) → List ℕ
 noted t i calls missing = set (set (set (set t (i * 10 + 5) 0) (i * 10 + 6) 48) (i * 10 + 7) calls) (i * 10 + 8) missing
-
-pub noted-length : (t : List ℕ) (i calls missing : ℕ) → length (noted t i calls missing) ≡ length t
-noted-length t i calls missing = simp length-set
 
 module _ (t : List ℕ) (i calls missing : ℕ) where
   -- the table after the first three of the four stores
@@ -102,17 +99,6 @@ noted_more t n ms i calls missing h w whom lacks =
     sum-at : (k : ℕ) (m : Motif) → InRow ms k m → k < i + 1 → (x : Bool) → eqb k i ≡ x → sum_in (noted t i calls missing) k ≡ 48
     sum-at k m r l true e = rw (eqb-true k i e) (its_sum t i calls missing s h)
     sum-at k m r l false e = other t i calls missing k 6 (eqb-false k i e) (omega arith) ∙ w.empty k m r (below k l e)
-
--- at first no row is noted
-pub noted-none : (t : List ℕ) (n : ℕ) (ms : List Motif) → Keeps t n ms → NotedTo t n ms 0
-noted-none t n ms k =
-    record {
-      keeps = k;
-      whom = λ k j m r l q. absurd (omega arith);
-      lacks = λ k m r l. absurd (omega arith);
-      unsettled = λ k m r l. absurd (omega arith);
-      empty = λ k m r l. absurd (omega arith);
-    }
 
 -- when all are, no round is done
 pub noted-all : (t : List ℕ) (n : ℕ) (ms : List Motif) → NotedTo t n ms n → Rounded t n ms 0

@@ -8,23 +8,12 @@ use native.Mathlib.Omega.{arith}
 use lib.ListN.{length, take, drop}
 use Rattle.scope.specs.Choice.{same}
 use Rattle.scope.specs.Setting.{Setting}
-use Rattle.scope.specs.Motif.{Own, Motif, Held, held_as, valid, motif_of}
+use Rattle.scope.specs.Motif.{Motif, Held, held_as, valid, motif_of}
 use Rattle.scope.specs.Sound.{Sound, sound_none, sound_more}
 use Rattle.motif.specs.Held.{Keeps, InRow, start_in, long_in}
 use Rattle.motif.proofs.Rowed.{is_same, none_is, held-here, held_on}
 use Rattle.motif.proofs.Stored.{row-start, row-long, stored_at}
-use Rattle.within.specs.Judging.{Makes, Judges, judges_valid}
-use Rattle.within.specs.declared.inside.Made.{Made}
-use Rattle.within.specs.declared.inside.Judged.TheVariants.{Valid, Faulty}
 use Rattle.settling.specs.Making.{InStore}
-
--- a motif that is judged valid
-pub valid-makes : {t : List ℕ} {ms : List Motif} {made : Made} {ops : List Own} → Judges t ms (Valid made) (valid ops) → Makes t ms made ops
-valid-makes (judges_valid k) = k
-
--- one that is judged faulty is not valid
-pub faulty-none : {A : Type 0} {t : List ℕ} {ms : List Motif} {code place : ℕ} {ops : List Own} → Judges t ms (Faulty code place) (valid ops) → A
-faulty-none = elim [ ]
 
 -- what is held is what its bytes say
 pub sound-at : {set : Setting} {ms : List Motif} {m : Motif} (name : List ℕ) → Sound set ms → held_as name ms ≡ Held.is m → motif_of set m.bytes ≡ valid m.ops

@@ -31,9 +31,6 @@ use Rattle.settling.proofs.Summing.{summed_row, sums_up, row-unfolds}
 abbrev pub turned : (t : List ℕ) → (i level sum : ℕ) → List ℕ
 turned t i level sum = set (set t (i * 10 + 5) level) (i * 10 + 6) sum
 
-pub turned-length : (t : List ℕ) (i level sum : ℕ) → length (turned t i level sum) ≡ length t
-turned-length t i level sum = simp length-set
-
 -- an earlier level is one
 some_level : (level c : ℕ) → earlier_of true level c ≡ true → eqb level 0 ≡ false
 unfolding earlier_of
@@ -144,11 +141,7 @@ module _ (t : List ℕ) (n : ℕ) (ms : List Motif) (d i : ℕ) (w : Turned t n 
             let z : k ≡ i → ⊥ = eqb-false k i e in
             rw (other_row t i level sum k 5 z (omega arith), other_row t i level sum k 6 z (omega arith)) (w.summed k m r)
 
--- before the first turn, and after the last
-pub turned_none : (t : List ℕ) (n : ℕ) (ms : List Motif) (d : ℕ) → Rounded t n ms d → Turned t n ms d 0
-turned_none t n ms d w =
-    record { keeps = w.keeps; noted = w.noted; done = λ k m r l. absurd (omega arith); todo = λ k m r l. w.settled.level k m r; summed = w.settled.summed }
-
+-- after the last turn
 pub turned-all : (t : List ℕ) (n : ℕ) (ms : List Motif) (d : ℕ) → Turned t n ms d n → Rounded t n ms (suc d)
 turned-all t n ms d w =
     record {

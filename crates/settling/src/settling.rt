@@ -1,5 +1,5 @@
 // Each motif is read once for whom it calls, and once more in the round in which it gets its level, for what it comes to.
-ghost use Rattle.std.specs.Prelude.{◌≡◌, not, List, ℕ, suc, ◌+◌, ◌≤◌, ◌<◌, length, eqb};
+ghost use Rattle.std.specs.Prelude.{◌≡◌, List, ℕ, suc, ◌+◌, ◌≤◌, ◌<◌, length};
 ghost use Rattle.setting.specs.Views.{setting_as};
 ghost use Rattle.scope.specs.Arm.{Stroke};
 ghost use Rattle.scope.specs.Motif.{Own, Motif, valid};
@@ -20,13 +20,11 @@ use summary::EMPTY;
 use within::{Judged, Made};
 
 // A motif that calls nobody and comes to nothing.
-fn nothing() -> Made {
-    Made {
-        sum: EMPTY,
-        calls: 0,
-        missing: false,
-    }
-}
+const NOTHING: Made = Made {
+    sum: EMPTY,
+    calls: 0,
+    missing: false,
+};
 
 // What is noted of a valid motif; of a faulty one, which is never held, nothing.
 fn made_of(judged: Judged) -> Made
@@ -34,7 +32,7 @@ fn made_of(judged: Judged) -> Made
 {
     match judged {
         Judged::Valid(made) => made,
-        Judged::Faulty(_, _) => nothing(),
+        Judged::Faulty(_, _) => NOTHING,
     }
 }
 
@@ -46,21 +44,11 @@ fn read(work: &[u8], set: Setting, motifs: &[usize; 704], held: usize, i: usize)
 {
     let start = motifs[i * ROW + START];
     let long = motifs[i * ROW + LENGTH];
-    if work.len() < start {
-        return nothing();
-    }
-    if work.len() - start < long {
-        return nothing();
+    if work.len() < start || work.len() - start < long {
+        return NOTHING;
     }
     let end = start + long;
     made_of(stream::judge_motif(&work[start..end], set, motifs, held))
-}
-
-// 1 for yes, 0 for no.
-fn number_of(b: bool) -> usize
-    ensures { not (eqb result 0) ≡ b }
-{
-    if b { 1 } else { 0 }
 }
 
 // Whom the motif of row i calls, and whether it names one that is not held; it has no level yet.
@@ -71,11 +59,10 @@ fn note(work: &[u8], set: Setting, motifs: &mut [usize; 704], held: usize, i: us
         → NotedTo motifs.new held ms (i + 1) }
 {
     let made = read(work, set, motifs, held, i);
-    let missing = number_of(made.missing);
     motifs[i * ROW + LEVEL] = 0;
     motifs[i * ROW + SUM] = EMPTY;
     motifs[i * ROW + CALLS] = made.calls;
-    motifs[i * ROW + MISSING] = missing;
+    motifs[i * ROW + MISSING] = usize::from(made.missing);
 }
 
 // Every motif noted.
@@ -85,10 +72,8 @@ fn note_all(work: &[u8], set: Setting, motifs: &mut [usize; 704], held: usize)
     ensures noted_to { (ms : List Motif) → InStore (setting_as set) work.now ms → Keeps motifs.old held ms
         → NotedTo motifs.new held ms held }
 {
-    let mut i: usize = 0;
-    while i < held {
+    for i in 0..held {
         note(work, set, motifs, held, i);
-        i += 1;
     }
 }
 
@@ -107,14 +92,11 @@ fn sum_next(
     ensures sums_as { (ms : List Motif) (m : Motif) → Keeps motifs.now held ms → InStore (setting_as set) work.now ms → InRow ms i m
         → level_in motifs.now i ≡ 0 → (level ≡ 0 → ⊥) → (f : Name → List Stroke) → SumsUp motifs.now ms f → (k : ℕ) → SumsAs result (flat f k m.ops) }
 {
-    if motifs[i * ROW + LEVEL] != 0 {
-        return motifs[i * ROW + SUM];
+    if motifs[i * ROW + LEVEL] != 0 || level == 0 {
+        motifs[i * ROW + SUM]
+    } else {
+        read(work, set, motifs, held, i).sum
     }
-    if level == 0 {
-        return motifs[i * ROW + SUM];
-    }
-    let made = read(work, set, motifs, held, i);
-    made.sum
 }
 
 // Round t: each motif that gets its level in it is summed up from those that it calls, which have theirs from earlier rounds.
@@ -124,13 +106,11 @@ fn one_round(work: &[u8], set: Setting, motifs: &mut [usize; 704], held: usize, 
     ensures rounded { (ms : List Motif) (d : ℕ) → t ≡ suc d → d < 32 → InStore (setting_as set) work.now ms → Rounded motifs.old held ms d
         → Rounded motifs.new held ms (suc d) }
 {
-    let mut i: usize = 0;
-    while i < held {
+    for i in 0..held {
         let level = rounds::next(motifs, held, i, t);
         let sum = sum_next(work, set, motifs, held, i, level);
         motifs[i * ROW + LEVEL] = level;
         motifs[i * ROW + SUM] = sum;
-        i += 1;
     }
 }
 
@@ -142,9 +122,7 @@ pub fn remake(work: &[u8], set: Setting, motifs: &mut [usize; 704], held: usize)
 {
     let n = motif::in_use(held);
     note_all(work, set, motifs, n);
-    let mut t: usize = 1;
-    while t <= NESTING_MOST {
+    for t in 1..=NESTING_MOST {
         one_round(work, set, motifs, n, t);
-        t += 1;
     }
 }

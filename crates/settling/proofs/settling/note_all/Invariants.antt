@@ -1,5 +1,4 @@
 -- `note_all`: row after row.
-use Prim.Native.Nat.{◌-◌, ◌≤◌}
 use mathlib.Core.Path.{◌≡◌}
 use mathlib.Core.List.{List}
 use lib.ListN.{length}
@@ -10,9 +9,5 @@ use Rattle.settling.specs.Making.{InStore, NotedTo}
 use Rattle.settling.proofs.settling.note_all.Given as goal
 
 abbrev pub invariant-loop-i : goal.invariant-loop-i
-invariant-loop-i l = (l.i ≤ l.held)
-    × (length l.motifs ≡ length l.initial.motifs)
+invariant-loop-i l = (length l.motifs ≡ length l.initial.motifs)
     × ((ms : List Motif) → InStore (setting_as l.set) l.work ms → Keeps l.initial.motifs l.held ms → NotedTo l.motifs l.held ms l.i)
-
-abbrev pub decreases-loop-i : goal.decreases-loop-i
-decreases-loop-i l = l.held - l.i

@@ -1,5 +1,5 @@
 -- `remake`: after t - 1 rounds.
-use Prim.Native.Nat.{◌-◌, ◌≤◌, ◌<◌}
+use Prim.Native.Nat.{◌-◌}
 use mathlib.Core.Path.{◌≡◌}
 use mathlib.Core.List.{List}
 use lib.ListN.{length}
@@ -9,10 +9,5 @@ use Rattle.settling.specs.Making.{InStore, Rounded}
 use Rattle.settling.proofs.settling.remake.Given as goal
 
 abbrev pub invariant-loop-t : goal.invariant-loop-t
-invariant-loop-t l = (0 < l.t)
-    × (l.t ≤ 33)
-    × (length l.motifs ≡ length l.initial.motifs)
+invariant-loop-t l = (length l.motifs ≡ length l.initial.motifs)
     × ((ms : List Motif) → InStore (setting_as l.set) l.work ms → Rounded l.initial.motifs l.n ms 0 → Rounded l.motifs l.n ms (l.t - 1))
-
-abbrev pub decreases-loop-t : goal.decreases-loop-t
-decreases-loop-t l = 33 - l.t
