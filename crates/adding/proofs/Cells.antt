@@ -2,14 +2,13 @@
 -- Assumes nothing.
 use Prim.Native.Nat.{ℕ, zero, suc, ◌+◌, ◌-◌, ◌*◌, ◌≤◌, ◌<◌}
 use mathlib.Core.Logic.{◌≢◌}
-use mathlib.Core.Path.{◌≡◌, refl, sym, ap, ◌∙◌, subst}
-use mathlib.Core.Bool.{Bool, true, false, not}
+use mathlib.Core.Path.{◌≡◌, refl, ap, ◌∙◌, subst}
+use mathlib.Core.Bool.{not}
 use mathlib.Core.List.{List, [], ◌∷◌}
 use native.Mathlib.Omega.{arith}
 use lib.ListN.{length, get_or, set, length-set}
 use lib.Seq.{get_or-set_same, get_or-set_other}
 use lib.Dec.{eqb}
-use borrow.Author.Tests.{eqb-true, eqb-false}
 use Rattle.scope.specs.Arm.{Stroke}
 use Rattle.scope.specs.Motif.{Own, Motif, Held, held_as}
 use Rattle.scope.specs.Reach.{Name}
@@ -126,11 +125,3 @@ module _ {s t : List ℕ} {n : ℕ} (a : Alike s t n) where
 
     pub makes-same : {made : Made} {ops : List Own} → Makes s ms made ops → Makes t ms made ops
     makes-same k = record { whom = k.whom; lacks = k.lacks; summed = λ f u d. k.summed f (sums_back f u) d }
-
--- what holds of all below j and of j holds of all below j + 1
-pub one_more : (P : ℕ → Type 0) (j : ℕ) → ((i : ℕ) → i < j → P i) → P j → (i : ℕ) → i < j + 1 → P i
-one_more P j h p i l = by (eqb i j) refl
-  where
-    by : (b : Bool) → eqb i j ≡ b → P i
-    by true b = subst P (sym (eqb-true i j b)) p
-    by false b = let z : i < j = omega (arith, eqb-false i j b) in h i z

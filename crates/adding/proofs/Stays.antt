@@ -1,7 +1,7 @@
 -- One motif more, under a new name, where all that each held motif calls are held: a held name means what it meant, nests as deep and unfolds to the same, and the
 -- marks of those that call it are right still. The new one unfolds to its own operators with what each of those that it calls unfolds to.
 -- Assumes nothing.
-use Prim.Native.Nat.{ℕ, zero, suc, ◌-◌, ◌≤◌}
+use Prim.Native.Nat.{ℕ, zero, suc, ◌≤◌}
 use mathlib.Core.Path.{◌≡◌, refl, sym, ap, ◌∙◌}
 use mathlib.Core.Bool.{Bool, true, false, not}
 use mathlib.Core.List.{List, [], ◌∷◌}

@@ -4,7 +4,6 @@ ghost use Rattle.scope.specs.Choice.{pick};
 ghost use Rattle.scope.specs.Motif.{Own, Motif, Held, held_as};
 ghost use Rattle.scope.specs.Sound.{Sound};
 ghost use Rattle.setting.specs.Views.{setting_as};
-ghost use Rattle.summary.specs.Sums.{bit_of};
 ghost use Rattle.key.specs.Keys.{key_of};
 ghost use Rattle.motif.specs.Tables.{Tables};
 ghost use Rattle.motif.specs.Stored.{Stores, Stored};
@@ -17,16 +16,6 @@ use names::limits::MOTIFS_MOST;
 use setting::Setting;
 use summary::EMPTY;
 use within::Made;
-
-// A truth as a number.
-fn bit(b: bool) -> usize
-    ensures { result ≡ bit_of b }
-{
-    if b {
-        return 1;
-    }
-    0
-}
 
 // Row i is written, of a motif that has no level yet.
 fn write_row(
@@ -41,7 +30,6 @@ fn write_row(
     ensures { motifs.new ≡ written motifs.old (i * 10) 0 (new_row (key_of name.now) start long made) }
 {
     let key = key::key_of(name);
-    let missing = bit(made.missing);
     motifs[i * ROW] = key.first;
     motifs[i * ROW + 1] = key.next;
     motifs[i * ROW + 2] = key.long;
@@ -50,7 +38,7 @@ fn write_row(
     motifs[i * ROW + LEVEL] = 0;
     motifs[i * ROW + SUM] = EMPTY;
     motifs[i * ROW + CALLS] = made.calls;
-    motifs[i * ROW + MISSING] = missing;
+    motifs[i * ROW + MISSING] = usize::from(made.missing);
 }
 
 // The motif of row j has a level, and no mark for the row that comes next: of marks the table says only those of rows in use.
@@ -59,10 +47,7 @@ fn is_done(motifs: &[usize; 704], next: usize, j: usize) -> bool
     requires j_bound { j < 64 }
     ensures { result ≡ true → Done motifs.now next j }
 {
-    if motifs[j * ROW + LEVEL] == 0 {
-        return false;
-    }
-    !key::has_mark(motifs[j * ROW + CALLS], next)
+    motifs[j * ROW + LEVEL] != 0 && !key::has_mark(motifs[j * ROW + CALLS], next)
 }
 
 // So it is with every motif held.
@@ -70,12 +55,10 @@ fn all_done(motifs: &[usize; 704], held: usize) -> bool
     requires { held < 64 }
     ensures { result ≡ true → (j : ℕ) → j < held → Done motifs.now held j }
 {
-    let mut j: usize = 0;
-    while j < held {
+    for j in 0..held {
         if !is_done(motifs, held, j) {
             return false;
         }
-        j += 1;
     }
     true
 }
@@ -84,10 +67,7 @@ fn all_done(motifs: &[usize; 704], held: usize) -> bool
 fn sum_for(level: usize, sum: usize) -> usize
     ensures { result ≡ pick (eqb level 0) 48 sum }
 {
-    if level == 0 {
-        return EMPTY;
-    }
-    sum
+    if level == 0 { EMPTY } else { sum }
 }
 
 // Level and summary of the motif of row i, the last one, which names held motifs only: a new name changes nothing of the others, where each has its level.
@@ -109,15 +89,11 @@ fn settle(work: &[u8], set: Setting, motifs: &mut [usize; 704], held: usize, mad
     ensures tables { (m : Motif) (ms : List Motif) → Fresh motifs.old held made m ms → Stores work.now (m ∷ ms)
         → Sound (setting_as set) (m ∷ ms) → Tables motifs.new (held + 1) (m ∷ ms) }
 {
-    if made.missing {
+    if made.missing || !all_done(motifs, held) {
         settling::remake(work, set, motifs, held + 1);
-        return;
+    } else {
+        settle_last(motifs, held, made);
     }
-    if !all_done(motifs, held) {
-        settling::remake(work, set, motifs, held + 1);
-        return;
-    }
-    settle_last(motifs, held, made);
 }
 
 // The motif becomes held as the last one, unless there is no row for it.

@@ -13,17 +13,6 @@ use motif::{Kept, LENGTH, ROW, START};
 use names::limits::STORE_MOST;
 use setting::Setting;
 
-// A length of the table; no more than the store holds.
-fn at_most(long: usize) -> usize
-    ensures upper_bound { result ≤ 16384 }
-    ensures value { long ≤ 16384 → result ≡ long }
-{
-    if STORE_MOST < long {
-        return STORE_MOST;
-    }
-    long
-}
-
 // Where each motif's bytes begin, anew: behind those of the motifs before it.
 fn lay_out(motifs: &mut [usize; 704], held: usize)
     ensures motifs_len_unchanged { length motifs.new ≡ length motifs.old }
@@ -34,12 +23,10 @@ fn lay_out(motifs: &mut [usize; 704], held: usize)
 {
     let n = motif::in_use(held);
     let mut start: usize = 0;
-    let mut i: usize = 0;
-    while i < n {
-        let long = at_most(motifs[i * ROW + LENGTH]);
+    for i in 0..n {
+        let long = motifs[i * ROW + LENGTH].min(STORE_MOST);
         motifs[i * ROW + START] = start;
         start += long;
-        i += 1;
     }
 }
 

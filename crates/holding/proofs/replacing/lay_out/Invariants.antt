@@ -1,10 +1,7 @@
 -- `holding::replacing::lay_out` meets its contract: after i turns the first i rows are right, and the next bytes begin behind theirs.
-use Prim.Native.Nat.{◌-◌, ◌*◌, ◌≤◌}
+use Prim.Native.Nat.{◌*◌, ◌≤◌}
 use Rattle.holding.specs.Laid.{Laid}
 use Rattle.holding.proofs.replacing.lay_out.Given as goal
 
 abbrev pub invariant-loop-i : goal.invariant-loop-i
-invariant-loop-i l = (l.i ≤ l.n) × (l.n ≤ 64) × (l.start ≤ l.i * 16384) × Laid l.initial.motifs l.motifs l.i l.start
-
-abbrev pub decreases-loop-i : goal.decreases-loop-i
-decreases-loop-i l = l.n - l.i
+invariant-loop-i l = (l.start ≤ l.i * 16384) × Laid l.initial.motifs l.motifs l.i l.start
