@@ -1,11 +1,10 @@
 -- What the code's images and lengths of data say in 01's words.
 -- Assumes nothing.
-use Rattle.std.specs.Prelude.{ℕ, Bool, List}
+use Rattle.std.specs.Prelude.{ℕ, Bool, List, Option, Some, None}
 use Rattle.scope.specs.Choice.{pick}
 use Rattle.scope.specs.Item.{Attribute}
 use Rattle.scope.specs.Attributes.{has, value_in}
 use Rattle.scope.specs.Data as Def
-use Rattle.due.specs.declared.due.Due as code_due
 use Rattle.due.specs.declared.due.Image.{Image}
 
 -- an image that is being read, or a pattern
@@ -13,9 +12,9 @@ abbrev pub image_as : Image → Def.Image
 image_as i = record { width = i.width; depth = i.depth; height = i.height; rows = i.rows }
 
 -- how much data an operator reads
-abbrev pub due_as : code_due.Due → Def.Due
-due_as (code_due.TheVariants.Reads n) = Def.reads n
-due_as code_due.TheVariants.Nothing = Def.none
+abbrev pub due_as : Option ℕ → Def.Due
+due_as (Some n) = Def.reads n
+due_as None = Def.none
 
 -- a line reads its points, if it has NumberOfPoints
 unfoldable pub points_due : Bool → List ℕ → List Attribute → Def.Due

@@ -21,13 +21,6 @@ pub struct Image {
     pub rows: u32,
 }
 
-// So many bytes, or none if the operator reads none.
-#[derive(Clone, Copy)]
-pub enum Due {
-    Reads(usize),
-    Nothing,
-}
-
 // The bits of a row.
 fn row_bits(width: u16, depth: u16) -> usize
     ensures value { result ≡ width * bits_of depth }
@@ -65,10 +58,7 @@ pub fn pad_of(s: &[u8], high: bool, attrs: &[usize; 80], n: usize) -> u16
 pub fn reads_rows(tag: u8) -> bool
     ensures { result ≡ reads_rows tag }
 {
-    if tag == READ_IMAGE {
-        return true;
-    }
-    tag == READ_RAST_PATTERN
+    matches!(tag, READ_IMAGE | READ_RAST_PATTERN)
 }
 
 // Their data: BlockHeight rows.
@@ -89,44 +79,43 @@ fn point_bytes(kind: u32, n: u32) -> usize
 }
 
 // Of a line: its points, if it has NumberOfPoints.
-fn points_due(s: &[u8], high: bool, attrs: &[usize; 80], n: usize) -> Due
+fn points_due(s: &[u8], high: bool, attrs: &[usize; 80], n: usize) -> Option<usize>
     ensures { Sized attrs.now n → due_as result ≡ points_due high s.now (rows_of attrs.now n) }
 {
     if !attributes::has(attrs, n, NUMBER_OF_POINTS) {
-        return Due::Nothing;
+        return None;
     }
     let kind = attributes::value_in(s, high, attrs, n, POINT_TYPE);
     let many = attributes::value_in(s, high, attrs, n, NUMBER_OF_POINTS);
-    Due::Reads(point_bytes(kind, many))
+    Some(point_bytes(kind, many))
 }
 
-// How much data an operator reads, of which the attributes are taken.
-pub fn due_of(s: &[u8], high: bool, image: Image, tag: u8, attrs: &[usize; 80], n: usize) -> Due
+// How many bytes of data an operator reads, of which the attributes are taken; none if it reads no data.
+pub fn due_of(
+    s: &[u8],
+    high: bool,
+    image: Image,
+    tag: u8,
+    attrs: &[usize; 80],
+    n: usize,
+) -> Option<usize>
     ensures { Sized attrs.now n → due_as result ≡ due_of high s.now (image_as image) tag (rows_of attrs.now n) }
 {
-    if tag == READ_STREAM {
-        return Due::Reads(attributes::value_in(s, high, attrs, n, STREAM_DATA_LENGTH) as usize);
+    match tag {
+        READ_STREAM => Some(attributes::value_in(s, high, attrs, n, STREAM_DATA_LENGTH) as usize),
+        READ_IMAGE | READ_RAST_PATTERN => Some(block_due(s, high, image, attrs, n)),
+        LINE_PATH | LINE_REL_PATH => points_due(s, high, attrs, n),
+        _ => None,
     }
-    if reads_rows(tag) {
-        return Due::Reads(block_due(s, high, image, attrs, n));
-    }
-    if tag != LINE_PATH {
-        if tag != LINE_REL_PATH {
-            return Due::Nothing;
-        }
-    }
-    points_due(s, high, attrs, n)
 }
 
 // BlockByteLength, if it is there, is the length due.
 fn length_fits(s: &[u8], high: bool, image: Image, attrs: &[usize; 80], n: usize) -> bool
     ensures { Sized attrs.now n → result ≡ length_fits high s.now (image_as image) (rows_of attrs.now n) }
 {
-    if !attributes::has(attrs, n, BLOCK_BYTE_LENGTH) {
-        return true;
-    }
-    let told = attributes::long_in(s, high, attrs, n, BLOCK_BYTE_LENGTH) as usize;
-    told == block_due(s, high, image, attrs, n)
+    !attributes::has(attrs, n, BLOCK_BYTE_LENGTH)
+        || attributes::long_in(s, high, attrs, n, BLOCK_BYTE_LENGTH) as usize
+            == block_due(s, high, image, attrs, n)
 }
 
 // StartLine is the number of rows read so far, rows do not exceed SourceHeight, and BlockByteLength is right.
@@ -137,14 +126,8 @@ pub fn rows_fit(s: &[u8], high: bool, image: Image, tag: u8, attrs: &[usize; 80]
         return true;
     }
     let start = attributes::value_in(s, high, attrs, n, START_LINE);
-    let rows = image.rows;
-    if start != rows {
-        return false;
-    }
     let block = attributes::value_in(s, high, attrs, n, BLOCK_HEIGHT);
-    let height = image.height as usize;
-    if height < rows as usize + block as usize {
-        return false;
-    }
-    length_fits(s, high, image, attrs, n)
+    start == image.rows
+        && image.rows as usize + block as usize <= image.height as usize
+        && length_fits(s, high, image, attrs, n)
 }

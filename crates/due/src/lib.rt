@@ -3,4 +3,4 @@
 
 mod due;
 
-pub use due::{Due, Image, due_of, pad_of, reads_rows, row_of, rows_fit};
+pub use due::{Image, due_of, pad_of, reads_rows, row_of, rows_fit};

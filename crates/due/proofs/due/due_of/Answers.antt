@@ -1,34 +1,37 @@
 -- `due_of`: by the operator.
 -- Assumes nothing.
-use mathlib.Core.Path.{◌≡◌, sym, ◌∙◌}
-use mathlib.Core.Bool.{true, ◌||◌}
+use mathlib.Core.Path.{◌≡◌}
+use mathlib.Core.Bool.{true, false, ◌||◌}
+use native.Mathlib.Omega.{arith}
+use Rattle.std.proofs.lemmas.Bool.Decides.{nat_tests}
 use lib.Dec.{eqb}
-use borrow.Author.Tests.{eq-eqb, ne_eqb}
-use Rattle.scope.specs.Data.{due_of}
+use Rattle.scope.specs.Data.{due_of, reads_rows}
 use Rattle.due.specs.Views.{points_due}
-use Rattle.due.proofs.due.due_of.Goals.{Joined-tag-ne-LINE_PATH, then-tag-ne-LINE_PATH+else-tag-ne-LINE_REL_PATH, else-tag-ne-LINE_PATH}
 use Rattle.due.proofs.due.due_of.Goals as goal
 
--- where points are read, the tag is one of a line's two
-is-line : (c : Joined-tag-ne-LINE_PATH) → let tag = c.args.tag in (eqb tag 0x9b || eqb tag 0x9d) ≡ true
-is-line c =
-    elim c.if-tag-ne-LINE_PATH.branch [
-      | then-tag-ne-LINE_PATH+else-tag-ne-LINE_REL_PATH w ↦ simp (ne_eqb _ _ w.if-tag-ne-LINE_PATH.true, eq-eqb _ _ w.if-tag-ne-LINE_REL_PATH.false)
-      | else-tag-ne-LINE_PATH w ↦ simp (eq-eqb _ _ w.if-tag-ne-LINE_PATH.false)
-    ]
+pub returns-in-92 : goal.returns-in-92
+unfolding due_of reads_rows
+returns-in-92 c = λ z. rw (c.in-92.is, ← c.value_in.ensures.value z)
 
-pub returns-then-tag-eq-READ_STREAM : goal.returns-then-tag-eq-READ_STREAM
-unfolding due_of
-returns-then-tag-eq-READ_STREAM c = λ z. rw (eq-eqb _ _ c.if-tag-eq-READ_STREAM.true, ← c.value_in.ensures.value z)
+pub returns-in-177 : goal.returns-in-177
+unfolding due_of reads_rows
+returns-in-177 c = λ z.
+    let a : eqb c.args.tag 0x5c ≡ false = grind (arith, nat_tests) in
+    let b : (eqb c.args.tag 0xb1 || eqb c.args.tag 0xb4) ≡ true = grind (arith, nat_tests) in
+    rw (a, b, ← c.block_due.ensures z)
 
-pub returns-then-reads_rows : goal.returns-then-reads_rows
-unfolding due_of
-returns-then-reads_rows c = λ z. rw (ne_eqb _ _ c.if-tag-eq-READ_STREAM.false, sym c.reads_rows.ensures ∙ c.if-reads_rows.true, ← c.block_due.ensures z)
+pub returns-in-155 : goal.returns-in-155
+unfolding due_of reads_rows points_due
+returns-in-155 c = λ z.
+    let a : eqb c.args.tag 0x5c ≡ false = grind (arith, nat_tests) in
+    let b : (eqb c.args.tag 0xb1 || eqb c.args.tag 0xb4) ≡ false = grind (arith, nat_tests) in
+    let d : (eqb c.args.tag 0x9b || eqb c.args.tag 0x9d) ≡ true = grind (arith, nat_tests) in
+    rw (a, b, d) (c.points_due.ensures z)
 
-pub returns-then-tag-ne-LINE_REL_PATH : goal.returns-then-tag-ne-LINE_REL_PATH
-unfolding due_of
-returns-then-tag-ne-LINE_REL_PATH c = λ z. rw (ne_eqb _ _ c.if-tag-eq-READ_STREAM.false, sym c.reads_rows.ensures ∙ c.if-reads_rows.false, ne_eqb _ _ c.if-tag-ne-LINE_PATH.true, ne_eqb _ _ c.if-tag-ne-LINE_REL_PATH.true)
-
-pub returns : goal.returns
-unfolding due_of points_due
-returns c = λ z. rw (ne_eqb _ _ c.if-tag-eq-READ_STREAM.false, sym c.reads_rows.ensures ∙ c.if-reads_rows.false, is-line (goal.at.returns c).Joined-tag-ne-LINE_PATH) (c.points_due.ensures z)
+pub returns-in_default : goal.returns-in_default
+unfolding due_of reads_rows
+returns-in_default c = λ z.
+    let a : eqb c.args.tag 0x5c ≡ false = grind (arith, nat_tests) in
+    let b : (eqb c.args.tag 0xb1 || eqb c.args.tag 0xb4) ≡ false = grind (arith, nat_tests) in
+    let d : (eqb c.args.tag 0x9b || eqb c.args.tag 0x9d) ≡ false = grind (arith, nat_tests) in
+    rw (a, b, d)

@@ -1,13 +1,14 @@
 -- `reads_rows` meets its contract.
 -- Assumes nothing.
-use borrow.Author.Tests.{eq-eqb, ne_eqb}
+use native.Mathlib.Omega.{arith}
+use Rattle.std.proofs.lemmas.Bool.Decides.{nat_tests}
 use Rattle.scope.specs.Data.{reads_rows}
 use Rattle.due.proofs.due.reads_rows.Goals as goal
 
-pub returns-then-tag-eq-READ_IMAGE : goal.returns-then-tag-eq-READ_IMAGE
+pub returns-in-177 : goal.returns-in-177
 unfolding reads_rows
-returns-then-tag-eq-READ_IMAGE c = simp (eq-eqb _ _ c.if-tag-eq-READ_IMAGE.true)
+returns-in-177 c = grind (arith, nat_tests)
 
-pub returns : goal.returns
+pub returns-in_default : goal.returns-in_default
 unfolding reads_rows
-returns c = simp (ne_eqb _ _ c.if-tag-eq-READ_IMAGE.false)
+returns-in_default c = grind (arith, nat_tests)
