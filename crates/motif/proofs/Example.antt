@@ -10,7 +10,7 @@ use Rattle.motif.specs.Before.{before}
 use Rattle.motif.specs.Sorted.{middle, halve}
 use Rattle.motif.specs.Search.{place_of, row_at, find_in, put_in, entered_in}
 use Rattle.scope.specs.Choice.{same}
-use Rattle.motif.specs.declared.held.Where.TheVariants.{At, Nowhere}
+use Rattle.std.specs.Prelude.{Some, None}
 
 -- "ab" before "abc", byte 127 before byte 128, "b" not before "ab", "a" before "a" and a zero byte
 ordered : (before (97 ∷ 98 ∷ []) (97 ∷ 98 ∷ 99 ∷ []) ≡ true)
@@ -38,6 +38,6 @@ column : take 3 (drop 640 held) ≡ 1 ∷ 2 ∷ 0 ∷ []
 unfolding held came b a ab packed key_of before middle halve place_of put_in entered_in
 column = refl
 
-found : (find_in held (key_of b) 3 ≡ At 0) × ((find_in held (key_of a) 3 ≡ At 1) × ((find_in held (key_of ab) 3 ≡ At 2) × (find_in held (key_of (98 ∷ 97 ∷ [])) 3 ≡ Nowhere)))
+found : (find_in held (key_of b) 3 ≡ Some 0) × ((find_in held (key_of a) 3 ≡ Some 1) × ((find_in held (key_of ab) 3 ≡ Some 2) × (find_in held (key_of (98 ∷ 97 ∷ [])) 3 ≡ None)))
 unfolding held came b a ab packed key_of before same middle halve place_of row_at find_in put_in entered_in
 found = (refl, (refl, (refl, refl)))

@@ -18,9 +18,9 @@ use Rattle.key.specs.Keys.{key_of}
 use Rattle.key.proofs.Packs.{Bytes, key-eq}
 use Rattle.motif.specs.Before.{before}
 use Rattle.motif.specs.Held.{Keeps, InRow, Finds, finds_at, finds_none, cell, key_in, order_in}
-use Rattle.motif.specs.Search.{few, place_of, row_at, find_in, Row}
-use Rattle.motif.specs.declared.held.Where.{Where}
-use Rattle.motif.specs.declared.held.Where.TheVariants.{At, Nowhere}
+use Rattle.motif.specs.Search.{place_of, row_at, find_in, Row}
+use Rattle.std.specs.Bool.{then_some}
+use Rattle.std.specs.Prelude.{Option, Some, None}
 use Rattle.motif.proofs.Ordered.{Three, lower, level, higher, three, not-before}
 use Rattle.motif.proofs.Halves.{First, place_first}
 use Rattle.motif.proofs.Rowed.{held-row, held_in, in_below, row-held}
@@ -59,21 +59,21 @@ find_row t key n =
 
 -- the search, by what stands at the place that was come to
 module _ (t key : List ℕ) (n p : ℕ) (e : p ≡ place_of t key n) where
-  pub find_over : n ≤ p → Nowhere ≡ find_in t key n
+  pub find_over : n ≤ p → None ≡ find_in t key n
   unfolding find_in row_at
   find_over h = rw (← e, le-ltb p n h)
 
-  pub find_at : p < n → same (key_in t (order_in t p)) key ≡ true → At (order_in t p) ≡ find_in t key n
+  pub find_here : p < n → then_some (same (key_in t (order_in t p)) key) (order_in t p) ≡ find_in t key n
   unfolding find_in row_at
-  find_at h s = rw (← e, lt-ltb p n h, s)
-
-  pub find_other : p < n → same (key_in t (order_in t p)) key ≡ false → Nowhere ≡ find_in t key n
-  unfolding find_in row_at
-  find_other h s = rw (← e, lt-ltb p n h, s)
+  find_here h = rw (← e, lt-ltb p n h) (by (same (key_in t (order_in t p)) key))
+    where
+      by : (b : Bool) → then_some b (order_in t p) ≡ pick b (Some (order_in t p)) None
+      by true = refl
+      by false = refl
 
 module _ {t : List ℕ} {n : ℕ} {ms : List Motif} (k : Keeps t n ms) (name : List ℕ) (q : Bytes name) where
   -- a row that has the key is that of the motif held under the name
-  here : (p : ℕ) → p < n → same (key_in t (order_in t p)) (key_of name) ≡ true → Finds ms name (At (order_in t p))
+  here : (p : ℕ) → p < n → same (key_in t (order_in t p)) (key_of name) ≡ true → Finds ms name (Some (order_in t p))
   here p h e =
       let r = row-held k.rows (order_in t p) (k.sorted.below p h) in
       let z : key_of r.0.name ≡ key_of name = sym (row-key k.rows r.1) ∙ same-eq (key_in t (order_in t p)) (key_of name) e in
@@ -113,7 +113,7 @@ module _ {t : List ℕ} {n : ℕ} {ms : List Motif} (k : Keeps t n ms) (name : L
       f = place_first (key_in t) (order_in t) (key_of name) n k.sorted k.most
 
       by : (u : Bool) → ltb p n ≡ u → (v : Bool) → same (key_in t (order_in t p)) (key_of name) ≡ v → (x : Held) → held_as name ms ≡ x
-          → Finds ms name (pick u (pick v (At (order_in t p)) Nowhere) Nowhere)
+          → Finds ms name (pick u (pick v (Some (order_in t p)) None) None)
       by true u true v x e = here p (ltb-true p n u) v
       by true u false v Held.none e = finds_none e
       by true u false v (Held.is m) e = clash-of (sym (only p f m e).1 ∙ v)
@@ -121,9 +121,9 @@ module _ {t : List ℕ} {n : ℕ} {ms : List Motif} (k : Keeps t n ms) (name : L
       by false u v w (Held.is m) e = absurd (omega (arith, ltb-false p n u, (only p f m e).0))
 
 -- what a search through the rows in use promises
-pub found : (t name : List ℕ) (held n : ℕ) (r : Where) → Bytes name → (n ≡ few held) × ((n ≤ 64) × (held ≤ 64 → n ≡ held)) → r ≡ find_in t (key_of name) n
-    → Row r × ((r ≡ find_in t (key_of name) (few held)) × ((ms : List Motif) → Keeps t held ms → Finds ms name r))
-found t name held n r q u e = (
-  rw e (find_row t (key_of name) n),
-  (e ∙ ap (find_in t (key_of name)) u.0, λ ms k. rw (e, u.1.1 k.most) (find_held k name q)),
-)
+module _ (t name : List ℕ) (held n : ℕ) (r : Option ℕ) (e : r ≡ find_in t (key_of name) n) where
+  pub found_row : Row r
+  found_row = rw e (find_row t (key_of name) n)
+
+  pub found_finds : Bytes name → (held ≤ 64 → n ≡ held) → (ms : List Motif) → Keeps t held ms → Finds ms name r
+  found_finds q u ms k = rw (e, u k.most) (find_held k name q)

@@ -2,12 +2,10 @@
 -- in the order of names. A row has the motif's name as three numbers (Keys), where its bytes begin in the store and how many they are, its level, its summary, whom
 -- it calls, and whether it names one that is not held (Tables); one number is spare.
 -- Assumes nothing.
-use Rattle.std.specs.Prelude.{ℕ, suc, ◌+◌, ◌*◌, ◌%◌, ◌≤◌, ◌≡◌, List, [], ◌∷◌, ◌++◌, length, get_or}
+use Rattle.std.specs.Prelude.{ℕ, suc, ◌+◌, ◌*◌, ◌%◌, ◌≤◌, ◌≡◌, Option, Some, None, List, [], ◌∷◌, ◌++◌, length, get_or}
 use Rattle.scope.specs.Motif.{Motif, Held, held_as, bytes_held}
 use Rattle.key.specs.Keys.{key_of, IsName}
 use Rattle.motif.specs.Sorted.{Sorted}
-use Rattle.motif.specs.declared.held.Where.{Where}
-use Rattle.motif.specs.declared.held.Where.TheVariants.{At, Nowhere}
 
 -- a number of a row
 abbrev pub cell : (t : List ℕ) → (row column : ℕ) → ℕ
@@ -59,9 +57,9 @@ pub record InRow (ms : List Motif) (i : ℕ) (m : Motif) : Type 0 where
   pub row : m.number ≡ suc i
 
 -- what a search by name finds: the row of the motif held under it, or that none is
-pub data Finds (ms : List Motif) (name : List ℕ) : Where → Type 0 where
-  finds_at : {i : ℕ} {m : Motif} → held_as name ms ≡ Held.is m → InRow ms i m → Finds ms name (At i)
-  finds_none : held_as name ms ≡ Held.none → Finds ms name Nowhere
+pub data Finds (ms : List Motif) (name : List ℕ) : Option ℕ → Type 0 where
+  finds_at : {i : ℕ} {m : Motif} → held_as name ms ≡ Held.is m → InRow ms i m → Finds ms name (Some i)
+  finds_none : held_as name ms ≡ Held.none → Finds ms name None
 
 -- the bytes of the held motifs, in the order of their numbers
 unfoldable pub store_of : List Motif → List ℕ

@@ -32,24 +32,13 @@ pub const MISSING: usize = 8;
 // Behind the 64 rows the column of their numbers in the order of names.
 pub const ORDER: usize = 640;
 
-// The row of a held motif, or none.
-#[derive(Clone, Copy)]
-pub enum Where {
-    At(usize),
-    Nowhere,
-}
-
 // The rows in use; 64 at most.
 pub fn in_use(held: usize) -> usize
     ensures value { result ≡ few held }
     ensures upper_bound { result ≤ 64 }
     ensures value_2 { held ≤ 64 → result ≡ held }
 {
-    if held < MOTIFS_MOST {
-        held
-    } else {
-        MOTIFS_MOST
-    }
+    held.min(MOTIFS_MOST)
 }
 
 // Row i is that of a name: lengths first, most names differ there.
@@ -57,17 +46,13 @@ fn is_name(motifs: &[usize; 704], i: usize, key: Key) -> bool
     requires { i < 64 }
     ensures { result ≡ same (key_in motifs.now i) (key_as key) }
 {
-    if motifs[i * ROW + 2] != key.long {
-        return false;
-    }
-    if motifs[i * ROW] != key.first {
-        return false;
-    }
-    motifs[i * ROW + 1] == key.next
+    motifs[i * ROW + 2] == key.long
+        && motifs[i * ROW] == key.first
+        && motifs[i * ROW + 1] == key.next
 }
 
-// The row of the motif held under a name: it stands at the first place whose name is not before that one.
-pub fn find(motifs: &[usize; 704], held: usize, name: &[u8]) -> Where
+// The row of the motif held under a name, if one is: it stands at the first place whose name is not before that one.
+pub fn find(motifs: &[usize; 704], held: usize, name: &[u8]) -> Option<usize>
     ensures row { Row result }
     ensures value { result ≡ find_in motifs.now (key_of name.now) (few held) }
     ensures finds { (ms : List Motif) → Keeps motifs.now held ms → Finds ms name.now result }
@@ -76,11 +61,8 @@ pub fn find(motifs: &[usize; 704], held: usize, name: &[u8]) -> Where
     let n = in_use(held);
     let place = place_of(motifs, n, key);
     if n <= place {
-        return Where::Nowhere;
+        return None;
     }
     let i = motifs[ORDER + place] % MOTIFS_MOST;
-    if is_name(motifs, i, key) {
-        return Where::At(i);
-    }
-    Where::Nowhere
+    is_name(motifs, i, key).then_some(i)
 }

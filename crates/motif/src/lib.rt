@@ -6,5 +6,5 @@ mod held;
 mod kept;
 
 pub use column::enter;
-pub use held::{CALLS, LENGTH, LEVEL, MISSING, ORDER, ROW, START, SUM, Where, find, in_use};
+pub use held::{CALLS, LENGTH, LEVEL, MISSING, ORDER, ROW, START, SUM, find, in_use};
 pub use kept::Kept;

@@ -1,15 +1,19 @@
 -- `in_use` meets its contract: fewer than 64, or 64.
 -- Assumes nothing.
-use mathlib.Core.Path.{refl}
 use native.Mathlib.Omega.{arith}
-use borrow.Author.Tests.{lt-ltb, le-ltb}
+use mathlib.Core.Path.{◌≡◌, refl}
+use mathlib.Core.Bool.{Bool, true, false}
+use Prim.Native.Nat.{ℕ, min}
+use lib.Dec.{ltb}
+use borrow.Author.Tests.{ltb-true, ltb-false}
+use Rattle.scope.specs.Choice.{pick}
 use Rattle.motif.specs.Search.{few}
 use Rattle.motif.proofs.held.in_use.Goals as goal
 
-pub returns-then-held-lt-MOTIFS_MOST : goal.returns-then-held-lt-MOTIFS_MOST
-unfolding few
-returns-then-held-lt-MOTIFS_MOST c = let h = c.if-held-lt-MOTIFS_MOST.true in record { value = rw (lt-ltb _ _ h) refl; upper_bound = omega arith; value_2 = λ k. refl }
+fewer : (n : ℕ) (b : Bool) → ltb n 64 ≡ b → min n 64 ≡ pick b n 64
+fewer n true e = let h = ltb-true n 64 e in omega arith
+fewer n false e = let h = ltb-false n 64 e in omega arith
 
-pub returns-else-held-lt-MOTIFS_MOST : goal.returns-else-held-lt-MOTIFS_MOST
+pub returns-clause-value : goal.returns-clause-value
 unfolding few
-returns-else-held-lt-MOTIFS_MOST c = let h = c.if-held-lt-MOTIFS_MOST.false in record { value = rw (le-ltb _ _ h) refl; upper_bound = omega arith; value_2 = λ k. omega arith }
+returns-clause-value c = rw c.min.ensures (fewer c.args.held _ refl)
