@@ -7,6 +7,7 @@ use mathlib.Core.List.{List, []}
 use native.Mathlib.Omega.{arith}
 use lib.Dec.{eqb}
 use borrow.Author.Tests.{eq-eqb, ne_eqb}
+use Rattle.std.specs.Prelude.{Some, None, Result, Ok, Err}
 use Rattle.scope.specs.Choice.{pick}
 use Rattle.scope.specs.Motif.{Motif, Held, held_as, is_held}
 use Rattle.scope.specs.Calls.{unfolded, nothing, met}
@@ -16,13 +17,13 @@ use Rattle.scope.proofs.Apart.{clash-of}
 use Rattle.scope.proofs.Graph.{fits_more}
 use Rattle.scope.proofs.Levels.{missing-exactly, nests-exactly}
 use Rattle.motif.specs.Held.{Keeps, InRow, Finds, finds_at, finds_none, level_in, sum_in}
-use Rattle.motif.specs.declared.held.Where.TheVariants.{At, Nowhere}
 use Rattle.motif.specs.Tables.{level_of, settled_row, Settled, Tables}
 use Rattle.motif.proofs.Rowed.{held-row}
 use Rattle.summary.specs.Sums.{SumsAs}
 use Rattle.patterns.specs.Selects.{wants_from}
 use Rattle.calls.specs.declared.calls.Called.{Called}
-use Rattle.calls.specs.declared.calls.Called.TheVariants.{Sum, No}
+use Rattle.refusal.specs.declared.code.Code.{Code}
+use Rattle.refusal.specs.declared.code.Code.TheVariants as code_is
 use Rattle.calls.specs.Judged.{Calls, calls_sum, calls_missing, calls_deep}
 use Rattle.calls.proofs.Marking.{alike}
 
@@ -40,11 +41,11 @@ unfolding lost is_held
 unheld ms zero name h = rw h refl
 unheld ms (suc d) name h = rw h refl
 
-pub calls-nowhere : {of_page of_session : List ℕ} {ms : List Motif} (name : Name) → Finds ms name Nowhere → Calls of_page of_session ms name (No 21)
+pub calls-nowhere : {of_page of_session : List ℕ} {ms : List Motif} (name : Name) → Finds ms name None → Calls of_page of_session ms name (Err code_is.NotHeld)
 calls-nowhere {ms = ms} name (finds_none h) = calls_missing ((missing-exactly ms 32 name).1 (unheld ms 32 name h))
 
 -- a name that is held means the motif of its row
-pub calls_at : {of_page of_session t : List ℕ} {n i : ℕ} {ms : List Motif} {r : Called} (name : Name) → Keeps t n ms → Finds ms name (At i)
+pub calls_at : {of_page of_session t : List ℕ} {n i : ℕ} {ms : List Motif} {r : Result Called Code} (name : Name) → Keeps t n ms → Finds ms name (Some i)
     → ((m : Motif) → InRow ms i m → Calls of_page of_session ms m.name r) → Calls of_page of_session ms name r
 calls_at {of_page} {of_session} {ms = ms} {r = r} name k (finds_at {m = m} h q) f =
     subst (λ x. Calls of_page of_session ms x r) (held-row name k.rows h).0 (f m q)
@@ -65,14 +66,14 @@ level-fits ms (suc d) x = by (eqb (level_of ms d x) 0) refl (fits (holds ms) (ca
 
 module _ {t : List ℕ} {ms : List Motif} {i : ℕ} {m : Motif} (settled : Settled t ms 32) (here : InRow ms i m) where
   -- a motif with a level
-  pub calls-level : {of_page of_session : List ℕ} {b : Bool} → (level_in t i ≡ 0 → ⊥)
-      → b ≡ some_missing of_page of_session (wants_from (unfolded ms 32 [] m.name) [])
-      → Calls of_page of_session ms m.name (Sum (sum_in t i) b)
+  pub calls-level : {of_page of_session : List ℕ} {r : Called} → (level_in t i ≡ 0 → ⊥) → r.sum ≡ sum_in t i
+      → r.bare ≡ some_missing of_page of_session (wants_from (unfolded ms 32 [] m.name) [])
+      → Calls of_page of_session ms m.name (Ok r)
   unfolding settled_row
-  calls-level h w =
+  calls-level h e w =
       let z : eqb (level_in t i) 0 ≡ false = ne_eqb (level_in t i) 0 h in
       calls_sum ((nests-exactly ms 31 m.name).1 (fit (fits (holds ms) (called_by ms) 32 m.name) refl (sym z ∙ ap (λ l. eqb l 0) (settled.level i m here) ∙ level-fits ms 32 m.name)))
-      (subst (λ b. SumsAs (sum_in t i) (pick b [] (unfolded ms 32 [] m.name))) z (settled.summed i m here)) w
+      (rw e (subst (λ b. SumsAs (sum_in t i) (pick b [] (unfolded ms 32 [] m.name))) z (settled.summed i m here))) w
     where
       fit : (b : Bool) → fits (holds ms) (called_by ms) 32 m.name ≡ b → false ≡ not b → b ≡ true
       fit true e f = refl
@@ -86,7 +87,7 @@ module _ {t : List ℕ} {ms : List Motif} {i : ℕ} {m : Motif} (settled : Settl
       clash-of (sym z ∙ ap (λ l. eqb l 0) (settled.level i m here) ∙ level-fits ms 32 m.name ∙ ap not f)
 
   pub calls-left : {of_page of_session : List ℕ} → level_in t i ≡ 0 → (met ms 32 [] m.name).missing ≡ false → (met ms 32 [] m.name).again ≡ false
-      → Calls of_page of_session ms m.name (No 22)
+      → Calls of_page of_session ms m.name (Err code_is.Deep)
   calls-left h a b = calls_deep a b (by (met ms 32 [] m.name).deep refl)
     where
       by : (c : Bool) → (met ms 32 [] m.name).deep ≡ c → c ≡ true

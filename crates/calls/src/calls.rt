@@ -9,17 +9,23 @@ ghost use Rattle.calls.specs.Judged.{Calls};
 
 use crate::bare::lacks_any;
 use crate::why::why_not;
-use motif::{LEVEL, ROW, SUM, Where, find};
+use motif::{LEVEL, ROW, SUM, find};
+use refusal::Code;
 
-// Its motif's summary, and whether a pattern that is selected there is not defined; or a code: 21, 32 or 22.
+// What a call comes to: its motif's summary, and whether a pattern that is selected there is not defined.
 #[derive(Clone, Copy)]
-pub enum Called {
-    Sum(usize, bool),
-    No(u32),
+pub struct Called {
+    pub sum: usize,
+    pub bare: bool,
 }
 
 // A call of the motif of row i: its summary, if it has a level, and whether a pattern is not defined; else why it is refused.
-fn of_row(motifs: &[usize; 704], patterns: &mut [u16; 4487], held: usize, i: usize) -> Called
+fn of_row(
+    motifs: &[usize; 704],
+    patterns: &mut [u16; 4487],
+    held: usize,
+    i: usize,
+) -> Result<Called, Code>
     requires { i < 64 }
     ensures same_rows { SameRows patterns.old patterns.new }
     ensures selects { (ms : List Motif) → Tables motifs.now held ms → Selects patterns.old ms → Few patterns.old
@@ -28,10 +34,13 @@ fn of_row(motifs: &[usize; 704], patterns: &mut [u16; 4487], held: usize, i: usi
         → Few patterns.old → InRow ms i m
         → Calls (numbers_in patterns.old OfPage) (numbers_in patterns.old OfSession) ms m.name result }
 {
-    if motifs[i * ROW + LEVEL] != 0 {
-        return Called::Sum(motifs[i * ROW + SUM], lacks_any(motifs, patterns, held, i));
+    if motifs[i * ROW + LEVEL] == 0 {
+        return Err(why_not(motifs, held, i));
     }
-    Called::No(why_not(motifs, held, i))
+    Ok(Called {
+        sum: motifs[i * ROW + SUM],
+        bare: lacks_any(motifs, patterns, held, i),
+    })
 }
 
 // A call of a name: 21 if it or one that it unfolds to is not held, 32 if a motif calls itself, 22 if calls nest over 32. That it lacks no pattern is remembered.
@@ -40,15 +49,15 @@ pub fn call_of(
     patterns: &mut [u16; 4487],
     held: usize,
     name: &[u8],
-) -> Called
+) -> Result<Called, Code>
     ensures same_rows { SameRows patterns.old patterns.new }
     ensures selects { (ms : List Motif) → Tables motifs.now held ms → Selects patterns.old ms → Few patterns.old
         → Selects patterns.new ms }
     ensures calls { (ms : List Motif) → Tables motifs.now held ms → Selects patterns.old ms → Few patterns.old
         → Calls (numbers_in patterns.old OfPage) (numbers_in patterns.old OfSession) ms name.now result }
 {
-    match find(motifs, held, name) {
-        Where::At(i) => of_row(motifs, patterns, held, i),
-        Where::Nowhere => Called::No(21),
-    }
+    let Some(i) = find(motifs, held, name) else {
+        return Err(Code::NotHeld);
+    };
+    of_row(motifs, patterns, held, i)
 }

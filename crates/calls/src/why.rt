@@ -1,5 +1,5 @@
 // Why a call is refused, by rounds over whom each motif calls. A table of the rounds is one number, with a mark for each row.
-ghost use Rattle.std.specs.Prelude.{◌≡◌, Bool, true, List, [], ℕ, suc, ◌<◌, ◌≤◌, eqb, ltb};
+ghost use Rattle.std.specs.Prelude.{◌≡◌, Bool, true, Err, List, [], ℕ, suc, ◌<◌, ◌≤◌, eqb, ltb};
 ghost use Rattle.scope.specs.Choice.{pick};
 ghost use Rattle.scope.specs.Motif.{Motif};
 ghost use Rattle.scope.specs.Calls.{met};
@@ -8,11 +8,11 @@ ghost use Rattle.motif.specs.Held.{InRow, level_in};
 ghost use Rattle.motif.specs.Tables.{Tables};
 ghost use Rattle.calls.specs.Marks.{Adds, lacks, reaches, closes};
 ghost use Rattle.calls.specs.Judged.{Calls};
-ghost use Rattle.calls.specs.declared.calls.Called.TheVariants.{No};
 
 use key::{has_mark, with_mark};
 use motif::{CALLS, MISSING, ROW, in_use};
 use names::limits::NESTING_MOST;
+use refusal::Code;
 
 // The marks given, and one for each of the first n rows of which a test is true.
 pub(crate) fn marks<F: Fn(usize) -> bool>(own: usize, n: usize, test: F) -> usize
@@ -103,16 +103,16 @@ fn turns(motifs: &[usize; 704], n: usize, i: usize) -> bool
 }
 
 // Why a call of the motif of row i, which has no level, is refused: the first of 21, 32, 22 that it meets.
-pub fn why_not(motifs: &[usize; 704], held: usize, i: usize) -> u32
+pub fn why_not(motifs: &[usize; 704], held: usize, i: usize) -> Code
     ensures { (of_page of_session : List ℕ) (ms : List Motif) (m : Motif) → Tables motifs.now held ms → InRow ms i m
-        → level_in motifs.now i ≡ 0 → Calls of_page of_session ms m.name (No result) }
+        → level_in motifs.now i ≡ 0 → Calls of_page of_session ms m.name (Err result) }
 {
     let n = in_use(held);
     if loses(motifs, n, i) {
-        return 21;
+        Code::NotHeld
+    } else if turns(motifs, n, i) {
+        Code::Ring
+    } else {
+        Code::Deep
     }
-    if turns(motifs, n, i) {
-        return 32;
-    }
-    22
 }

@@ -13,7 +13,7 @@ returns-then-turns c = λ of_page of_session ms m h r e.
     calls_again (sym (c.loses.ensures ms m (used c.in_use-n.ensures.value_2 h) r) ∙ c.if-loses.false)
     (sym (c.turns.ensures ms m (used c.in_use-n.ensures.value_2 h) r) ∙ c.if-turns.true)
 
-pub returns : goal.returns
-returns c = λ of_page of_session ms m h r e.
+pub returns-else-turns : goal.returns-else-turns
+returns-else-turns c = λ of_page of_session ms m h r e.
     calls-left h.settled r e (sym (c.loses.ensures ms m (used c.in_use-n.ensures.value_2 h) r) ∙ c.if-loses.false)
     (sym (c.turns.ensures ms m (used c.in_use-n.ensures.value_2 h) r) ∙ c.if-turns.false)
