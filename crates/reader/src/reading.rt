@@ -11,7 +11,7 @@ ghost use Rattle.due.specs.Views.{image_as};
 ghost use Rattle.reader.specs.Reads.{found_as, Placed, context_as, one_as, OneWithin, read_as, data_at, line_at, Within};
 
 use crate::data::block_at;
-use due::{Due, Image, due_of, rows_fit};
+use due::{Image, due_of, rows_fit};
 use items::{Tagged, scan_at};
 use order::{Phase, may_come};
 use refusal::{Code, Refusal};
@@ -109,7 +109,7 @@ fn whole_at(c: Context, s: &[u8], found: Tagged, attrs: &[usize; 80]) -> Result<
         });
     }
     match due_of(s, c.set.high, image, tag, attrs, n) {
-        Due::Nothing => Ok(Operator {
+        None => Ok(Operator {
             tag,
             at,
             count: n,
@@ -118,7 +118,7 @@ fn whole_at(c: Context, s: &[u8], found: Tagged, attrs: &[usize; 80]) -> Result<
             first: 0,
             next: at + 1,
         }),
-        Due::Reads(length) => {
+        Some(length) => {
             let first = data_at(c, s, at, length)?;
             Ok(Operator {
                 tag,
