@@ -28,8 +28,7 @@ use Rattle.order.specs.Pictures.{picture_as}
 use Rattle.key.specs.Mark.{mark}
 use Rattle.motif.specs.Held.{Finds, finds_at, finds_none}
 use Rattle.motif.specs.Tables.{calls_row, lacks_one, SumFor, SumsUp}
-use Rattle.motif.specs.declared.held.Where.{Where}
-use Rattle.motif.specs.declared.held.Where.TheVariants.{At, Nowhere}
+use Rattle.std.specs.Prelude.{Some, None}
 use Rattle.within.proofs.Naming.{deed-row, deed-lacks, held-row, held-lacks, none_row, none-lacks}
 use Rattle.within.specs.Judging.{Follows, Judges, judges_valid, judges_faulty, after_in, Called}
 use Rattle.within.specs.declared.inside.Inside.{Inside}
@@ -97,23 +96,17 @@ module _ (t : List ℕ) (ms : List Motif) (set : Setting) (s : List ℕ) (o : Op
       })
 
   -- a name that is not held: that is noted, and it performs nothing besides
-  pub call_none : {r : Where} → r ≡ Nowhere → Finds ms name r → Called old o.next old.calls true 48 new → Follows t ms new (after_in set s o w)
-  call_none {r} q f c = by (subst (λ x. Finds ms name x) q f)
-    where
-      by : Finds ms name Nowhere → Follows t ms new (after_in set s o w)
-      by (finds_none e) =
-          on_call c (λ j l. follows.whom j l ∙ sym (none_row ms w.ops o name e j l)) (sym (none-lacks ms w.ops o name e)) (λ f u. none-summed t ms f name u e)
+  pub call_none : Finds ms name None → Called old o.next old.calls true 48 new → Follows t ms new (after_in set s o w)
+  call_none (finds_none e) c =
+      on_call c (λ j l. follows.whom j l ∙ sym (none_row ms w.ops o name e j l)) (sym (none-lacks ms w.ops o name e)) (λ f u. none-summed t ms f name u e)
 
   -- a held one: its row is marked, and it performs what the table sums up for it
-  pub call_at : {r : Where} (i marks : ℕ) → r ≡ At i → Finds ms name r → ((j : ℕ) → mark marks j ≡ pick (eqb i j) true (mark old.calls j))
+  pub call_at : (i marks : ℕ) → Finds ms name (Some i) → ((j : ℕ) → mark marks j ≡ pick (eqb i j) true (mark old.calls j))
       → Called old o.next marks old.missing (get_or t (i * 10 + 6) 0) new → Follows t ms new (after_in set s o w)
-  call_at {r} i marks q f k c = by (subst (λ x. Finds ms name x) q f)
-    where
-      by : Finds ms name (At i) → Follows t ms new (after_in set s o w)
-      by (finds_at {m = m} e n) =
-          let row : m.number - 1 ≡ i = let z = n.row in omega arith in
-          on_call c (λ j l. k j ∙ ap (λ b. pick (eqb i j) true b) (follows.whom j l) ∙ sym (held-row ms w.ops o name i m e n j))
-          (follows.lacks ∙ sym (held-lacks ms w.ops o name m e)) (λ f u. rw row at (is-summed t ms f name u m e))
+  call_at i marks (finds_at {m = m} e n) k c =
+      let row : m.number - 1 ≡ i = let z = n.row in omega arith in
+      on_call c (λ j l. k j ∙ ap (λ b. pick (eqb i j) true b) (follows.whom j l) ∙ sym (held-row ms w.ops o name i m e n j))
+      (follows.lacks ∙ sym (held-lacks ms w.ops o name m e)) (λ f u. rw row at (is-summed t ms f name u m e))
 
 -- what the table sums up is balanced
 nothing-balanced : Balanced []

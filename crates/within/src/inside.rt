@@ -18,7 +18,7 @@ ghost use Rattle.within.specs.Judging.{Follows, Turns, Judges, Ahead, Called, af
 use act::act_of;
 use both::both::Both;
 use key::{name_in, with_mark};
-use motif::{ROW, SUM, Where, find};
+use motif::{ROW, SUM, find};
 use names::operators::{EXEC_STREAM, POP_GS, PUSH_GS};
 use order::{Phase, Picture, picture_after};
 use page::page::Select;
@@ -123,8 +123,8 @@ fn call(
     let first = name.first;
     let end = first + name.count;
     match find(motifs, held, &s[first..end]) {
-        Where::Nowhere => called(inside, o.next, inside.calls, true, EMPTY),
-        Where::At(i) => called(
+        None => called(inside, o.next, inside.calls, true, EMPTY),
+        Some(i) => called(
             inside,
             o.next,
             with_mark(inside.calls, i),

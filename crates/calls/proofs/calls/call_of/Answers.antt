@@ -8,4 +8,4 @@ returns-in_default-clause-calls c = λ ms h s w. calls-nowhere c.args.name.now (
 
 pub returns-clause-calls : goal.returns-clause-calls
 returns-clause-calls c = λ ms h s w.
-    calls_at c.args.name.now h.keeps (rw c.in-Some.is at (c.find.ensures.finds ms h.keeps)) (λ m r. c.of_row.ensures.calls ms m h s w r)
+    calls_at c.args.name.now h.keeps (c.in-Some.ensures.finds ms h.keeps) (λ m r. c.of_row.ensures.calls ms m h s w r)
