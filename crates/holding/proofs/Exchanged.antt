@@ -17,7 +17,7 @@ use Rattle.motif.specs.Held.{Rows, Keeps, InRow, key_in, start_in, long_in, orde
 use Rattle.motif.specs.Tables.{Tables}
 use Rattle.motif.specs.Stored.{Stores, Stored}
 use Rattle.motif.specs.declared.kept.Kept.{Kept}
-use Rattle.motif.specs.declared.held.Where.TheVariants.{At, Nowhere}
+use Rattle.std.specs.Prelude.{Some, None}
 use Rattle.motif.proofs.Rowed.{sorted-beside}
 use Rattle.motif.proofs.Stored.{row-start, row-long}
 use Rattle.holding.specs.Laid.{Named}
@@ -26,10 +26,10 @@ use Rattle.holding.proofs.Swapped.{named-swapped, bytes-swapped, sound-swapped}
 use Rattle.holding.proofs.Moves.{stores-swapped}
 
 -- what a search has found
-pub found_at : {ms : List Motif} {name : List ℕ} {i : ℕ} → Finds ms name (At i) → (m : Motif) × (held_as name ms ≡ Held.is m) × InRow ms i m
+pub found_at : {ms : List Motif} {name : List ℕ} {i : ℕ} → Finds ms name (Some i) → (m : Motif) × (held_as name ms ≡ Held.is m) × InRow ms i m
 found_at (finds_at {m = m} e r) = (m, e, r)
 
-pub found_none : {ms : List Motif} {name : List ℕ} → Finds ms name Nowhere → held_as name ms ≡ Held.none
+pub found_none : {ms : List Motif} {name : List ℕ} → Finds ms name None → held_as name ms ≡ Held.none
 found_none (finds_none e) = e
 
 module _ {set₀ : Setting} {work t : List ℕ} {kept : Kept} {joined : ℕ} {name : List ℕ} {ms : List Motif} {bytes : List ℕ} {ops : List Own} {i : ℕ} {m : Motif}

@@ -9,7 +9,7 @@ ghost use Rattle.within.specs.Judging.{Makes};
 
 use crate::replacing::replaced;
 use adding::added;
-use motif::{Kept, Where};
+use motif::Kept;
 use names::limits::STORE_MOST;
 use setting::Setting;
 use within::Made;
@@ -51,7 +51,7 @@ pub fn hold(
         return kept;
     }
     match motif::find(motifs, kept.held, name) {
-        Where::At(i) => replaced(work, motifs, set, kept, i, joined),
-        Where::Nowhere => added(work, motifs, set, name, kept, joined, made),
+        Some(i) => replaced(work, motifs, set, kept, i, joined),
+        None => added(work, motifs, set, name, kept, joined, made),
     }
 }
