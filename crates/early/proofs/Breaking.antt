@@ -24,10 +24,12 @@ use Rattle.pattern_rows.specs.Numbers.{OfPage, OfSession, OfMotif, numbers_in, c
 use Rattle.patterns.specs.Selects.{selects_in, wants_from}
 use Rattle.motif.specs.Held.{Finds, finds_at, finds_none}
 use Rattle.motif.specs.Stored.{full}
-use Rattle.motif.specs.declared.held.Where.TheVariants.{At, Nowhere}
+use Rattle.std.specs.Prelude.{Some, None, Ok, Err}
 use Rattle.scope.proofs.Placed.{motif-placed}
 use Rattle.calls.specs.Judged.{Calls, calls_sum, calls_missing, calls_again, calls_deep}
-use Rattle.calls.specs.declared.calls.Called.TheVariants as called_is
+use Rattle.calls.specs.declared.calls.Called.{Called}
+use Rattle.refusal.specs.Codes.{number_of}
+use Rattle.refusal.specs.declared.code.Code.{Code}
 use Rattle.within.specs.Judging.{Judges, judges_valid, judges_faulty}
 use Rattle.within.specs.declared.inside.Made.{Made}
 use Rattle.within.specs.declared.inside.Judged.TheVariants.{Valid, Faulty}
@@ -139,10 +141,10 @@ module _ (set : Setting) (t p job attrs : List ℕ) (x : Session) (o : Operator)
     pub begin-few : {n : ℕ} → length x.held ≡ n → n < 64 → EarliesIn set t p job attrs x o Fine
     begin-few l h = begin-fine (few-full x.held named (rw l h))
 
-    pub begin-at : {name : List ℕ} {i : ℕ} → name ≡ named → Finds x.held name (At i) → EarliesIn set t p job attrs x o Fine
+    pub begin-at : {name : List ℕ} {i : ℕ} → name ≡ named → Finds x.held name (Some i) → EarliesIn set t p job attrs x o Fine
     begin-at e (finds_at f r) = begin-fine (held-full x.held named (rw e at f))
 
-    pub begin-nowhere : {name : List ℕ} {n : ℕ} → length x.held ≡ n → 64 ≤ n → name ≡ named → Finds x.held name Nowhere
+    pub begin-nowhere : {name : List ℕ} {n : ℕ} → length x.held ≡ n → 64 ≤ n → name ≡ named → Finds x.held name None
         → EarliesIn set t p job attrs x o (No 19 outer)
     unfolding EarliesIn
     begin-nowhere l h e (finds_none f) =
@@ -196,17 +198,17 @@ module _ (set : Setting) (t p job attrs : List ℕ) (x : Session) (o : Operator)
     missing-call h st = rw (h.page, h.session, call-wants set job x.held (operator_as o attrs) (page_of x.busy) st.performed b)
 
     -- ExecStream by what a call comes to
-    pub exec_sum : {r name : List ℕ} {v : ℕ} {m : Bool} → Hatched r x → name ≡ named
-        → Calls (numbers_in r OfPage) (numbers_in r OfSession) x.held name (called_is.Sum v m) → EarliesIn set t p job attrs x o (Call v m)
+    pub exec_sum : {r name : List ℕ} {m : Called} → Hatched r x → name ≡ named
+        → Calls (numbers_in r OfPage) (numbers_in r OfSession) x.held name (Ok m) → EarliesIn set t p job attrs x o (Call m.sum m.bare)
     unfolding EarliesIn case_of
-    exec_sum {r} {v = v} {m} h e (calls_sum k s w) =
+    exec_sum {r} {m = m} h e (calls_sum k s w) =
         let n : met x.held 32 [] named ≡ nothing = rw e at k in
-        let q : SumsAs v (unfolded x.held 32 [] named) = rw e at s in
-        let z : m ≡ some_missing (numbers_in r OfPage) (numbers_in r OfSession) (wants_from (unfolded x.held 32 [] named) []) = rw e at w in
+        let q : SumsAs m.sum (unfolded x.held 32 [] named) = rw e at s in
+        let z : m.bare ≡ some_missing (numbers_in r OfPage) (numbers_in r OfSession) (wants_from (unfolded x.held 32 [] named) []) = rw e at w in
         λ st. early_call (eq-eqb o.tag 0x5e b) q (z ∙ missing-call h st)
         (record { room = exec_much st; place = exec_place st; sound = exec_sound st; met = met-call st ∙ n })
 
-    pub exec_no : {u w name : List ℕ} {code : ℕ} → name ≡ named → Calls u w x.held name (called_is.No code) → EarliesIn set t p job attrs x o (No code outer)
+    pub exec_no : {u w name : List ℕ} {code : Code} → name ≡ named → Calls u w x.held name (Err code) → EarliesIn set t p job attrs x o (No (number_of code) outer)
     unfolding EarliesIn
     exec_no e (calls_missing m) =
         λ st. no-21 t p (of-it st) (exec_much st) (exec_place st) (exec_sound st) (ap (λ (y : Met). y.missing) (met-call st) ∙ (rw e at m))

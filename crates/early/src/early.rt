@@ -21,8 +21,7 @@ ghost use Rattle.early.specs.Hatched.{Hatched};
 ghost use Rattle.place.specs.declared.place.Busy.TheVariants as busy_is;
 
 use crate::hatching::begin_pattern;
-use calls::Called;
-use motif::{Kept, Where};
+use motif::Kept;
 use names::limits::{MOTIFS_MOST, STORE_MOST};
 use names::operators::{BEGIN_RAST_PATTERN, BEGIN_STREAM, EXEC_STREAM, READ_STREAM};
 use place::{Busy, Place};
@@ -61,8 +60,8 @@ fn begin_stream(
     let first = name.first;
     let count = name.count;
     match motif::find(motifs, held, &job[first..first + count]) {
-        Where::At(_) => Early::Fine,
-        Where::Nowhere => Early::No(19, OUTER),
+        Some(_) => Early::Fine,
+        None => Early::No(19, OUTER),
     }
 }
 
@@ -167,8 +166,8 @@ fn exec_stream(motifs: &[usize; 704], patterns: &mut [u16; 4487], held: usize, n
         → name.now ≡ bytes_in job (rows_of attrs o.count) 139 → o.tag ≡ 0x5e → EarliesIn set motifs.now p job attrs x o result }
 {
     match calls::call_of(motifs, patterns, held, name) {
-        Called::Sum(sum, bare) => Early::Call(sum, bare),
-        Called::No(code) => Early::No(code, OUTER),
+        Ok(called) => Early::Call(called.sum, called.bare),
+        Err(code) => Early::No(code.number(), OUTER),
     }
 }
 

@@ -12,16 +12,16 @@ pub returns-then-held-lt-MOTIFS_MOST : goal.returns-then-held-lt-MOTIFS_MOST
 returns-then-held-lt-MOTIFS_MOST c = let a = c.args in
     λ set p x k z t. begin-few set a.motifs.now p a.job.now a.attrs.now x a.o t (rows-length k.rows) c.if-held-lt-MOTIFS_MOST.true
 
-pub returns-in-At : goal.returns-in-At
-returns-in-At c = let a = c.args in
+pub returns-in-Some : goal.returns-in-Some
+returns-in-Some c = let a = c.args in
     let r = c.name_in-name.result in
     let l : r.first + r.count - r.first ≡ r.count = omega arith in
     λ set p x k z t. begin-at set a.motifs.now p a.job.now a.attrs.now x a.o t (part_same a.job.now r.first l ∙ c.name_in-name.ensures.s_value z)
-    (rw c.in-At.is at (c.find.ensures.finds x.held k))
+    (c.in-Some.ensures.finds x.held k)
 
-pub returns-in-Nowhere : goal.returns-in-Nowhere
-returns-in-Nowhere c = let a = c.args in
+pub returns-in-None : goal.returns-in-None
+returns-in-None c = let a = c.args in
     let r = c.name_in-name.result in
     let l : r.first + r.count - r.first ≡ r.count = omega arith in
     λ set p x k z t. begin-nowhere set a.motifs.now p a.job.now a.attrs.now x a.o t (rows-length k.rows) c.if-held-lt-MOTIFS_MOST.false
-    (part_same a.job.now r.first l ∙ c.name_in-name.ensures.s_value z) (rw c.in-Nowhere.is at (c.find.ensures.finds x.held k))
+    (part_same a.job.now r.first l ∙ c.name_in-name.ensures.s_value z) (c.in-None.ensures.finds x.held k)

@@ -3,20 +3,10 @@
 use Rattle.early.proofs.Breaking.{exec_sum, exec_no}
 use Rattle.early.proofs.early.exec_stream.Goals as goal
 
-pub returns-in-Sum : goal.returns-in-Sum
-returns-in-Sum c = let a = c.args in
-    record {
-      same_rows = c.call_of.ensures.same_rows;
-      selects = λ x k s h. c.call_of.ensures.selects x.held k s h.few;
-      earlies_in = λ set p job attrs x o k s h e t. exec_sum set a.motifs.now p job attrs x o t h e
-          (rw c.in-Sum.is at (c.call_of.ensures.calls x.held k s h.few));
-    }
+pub returns-in-Ok-clause-earlies_in : goal.returns-in-Ok-clause-earlies_in
+returns-in-Ok-clause-earlies_in c = λ set p job attrs x o k s h e t.
+    exec_sum set c.args.motifs.now p job attrs x o t h e (c.in-Ok.ensures.calls x.held k s h.few)
 
-pub returns-in-No : goal.returns-in-No
-returns-in-No c = let a = c.args in
-    record {
-      same_rows = c.call_of.ensures.same_rows;
-      selects = λ x k s h. c.call_of.ensures.selects x.held k s h.few;
-      earlies_in = λ set p job attrs x o k s h e t. exec_no set a.motifs.now p job attrs x o t e
-          (rw c.in-No.is at (c.call_of.ensures.calls x.held k s h.few));
-    }
+pub returns-in-Err-clause-earlies_in : goal.returns-in-Err-clause-earlies_in
+returns-in-Err-clause-earlies_in c = λ set p job attrs x o k s h e t.
+    rw c.number.ensures (exec_no set c.args.motifs.now p job attrs x o t e (c.in-Err.ensures.calls x.held k s h.few))
