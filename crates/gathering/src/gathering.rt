@@ -10,7 +10,7 @@ ghost use Rattle.place.specs.declared.place.Busy.TheVariants as busy_is;
 ghost use Rattle.place.specs.declared.place.Place.TheVariants as place_is;
 
 use early::Early;
-use motif::{Kept, Where};
+use motif::Kept;
 use names::limits::STORE_MOST;
 use names::operators::READ_STREAM;
 use page::page::Page;
@@ -76,9 +76,8 @@ fn keep_own(patterns: &mut [u16; 4487], motifs: &[usize; 704], held: usize, name
     ensures own_kept { (ms : List Motif) (m : Motif) → Keeps motifs.now held ms → held_as name.now ms ≡ Held.is m
         → OwnKept patterns.old m.number patterns.new }
 {
-    match motif::find(motifs, held, name) {
-        Where::At(i) => patterns::keep(patterns, i),
-        Where::Nowhere => {}
+    if let Some(i) = motif::find(motifs, held, name) {
+        patterns::keep(patterns, i);
     }
 }
 
