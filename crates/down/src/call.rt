@@ -1,7 +1,7 @@
 // An operator of a page or of a motif performed, a call from what its motif comes to.
 use arm::seen::Seen;
 use keeping::MANY;
-use motif::{ROW, SUM, Where};
+use motif::{ROW, SUM};
 use names::limits::MOTIFS_MOST;
 use names::operators::EXEC_STREAM;
 use setting::Setting;
@@ -20,10 +20,7 @@ fn row_in(s: &[u8], motifs: &[usize; 704], attrs: &[usize; 80], st: &[usize; 16]
     let name = key::name_in(s, attrs, st[COUNT]);
     let first = name.first;
     let count = name.count;
-    match motif::find(motifs, st[MANY], &s[first..first + count]) {
-        Where::At(k) => k,
-        Where::Nowhere => NONE,
-    }
+    motif::find(motifs, st[MANY], &s[first..first + count]).unwrap_or(NONE)
 }
 
 // What is seen after an operator that is no call.
