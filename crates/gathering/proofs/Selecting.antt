@@ -11,24 +11,14 @@ use Rattle.scope.specs.Motif.{Own, Motif, Held, held_as, Judged, valid, faulty, 
 use Rattle.scope.specs.Session.{kept_as}
 use Rattle.scope.proofs.Apart.{same-eq, same_refl}
 use Rattle.scope.proofs.Replaces.{kept-replaced}
-use Rattle.motif.specs.Held.{InRow, Finds, finds_at, finds_none}
+use Rattle.motif.specs.Held.{InRow}
 use Rattle.motif.specs.Stored.{Stored}
-use Rattle.std.specs.Prelude.{Some, None}
 use Rattle.motif.specs.declared.kept.Kept.{Kept}
-use Rattle.motif.proofs.Rowed.{is_same, none_is, held-row, row_one, in_below}
-use Rattle.pattern_rows.specs.Numbers.{OfMotif, numbers_in, collected, OtherRows, Unknown, Quiet}
+use Rattle.motif.proofs.Rowed.{is_same, held-row, row_one, in_below}
+use Rattle.pattern_rows.specs.Numbers.{OfMotif, numbers_in, collected}
 use Rattle.patterns.specs.Selects.{selects_in, Selects}
 use Rattle.settling.proofs.Reading.{sound-at}
 use Rattle.gathering.specs.Selected.{OwnKept}
-
--- the row that a search for the name finds
-pub own_at : {p p₁ name : List ℕ} {i : ℕ} {ms : List Motif} {m : Motif} → Finds ms name (Some i) → held_as name ms ≡ Held.is m → i < 64
-    → numbers_in p₁ i ≡ numbers_in p OfMotif → OtherRows p i p₁ → (Quiet p → Quiet p₁) → Unknown p₁ → OwnKept p m.number p₁
-own_at {i = i} (finds_at f r) h l n o q u =
-    record { row = i; is = ap (λ (x : Motif). x.number) (is_same (sym h ∙ f)) ∙ r.row; below = l; own = n; others = o; quiet = q; unknown = u }
-
-pub own-nowhere : {A : Type 0} {name : List ℕ} {ms : List Motif} {m : Motif} → Finds ms name None → held_as name ms ≡ Held.is m → A
-own-nowhere (finds_none f) h = none_is (sym f ∙ h)
 
 -- the operators of a motif that is valid
 abbrev ops_of : Judged → List Own

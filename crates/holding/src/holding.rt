@@ -19,13 +19,7 @@ fn fits(len: usize, used: usize, joined: usize) -> bool
     ensures joined_bound { result ≡ true → (used + joined ≤ 16384) × (used + joined ≤ len) }
     ensures value { used + joined ≤ 16384 → 16384 ≤ len → result ≡ true }
 {
-    if STORE_MOST < used {
-        return false;
-    }
-    if STORE_MOST - used < joined {
-        return false;
-    }
-    used + joined <= len
+    used <= STORE_MOST && joined <= STORE_MOST - used && used + joined <= len
 }
 
 // The motif of so many bytes, which stand in the work buffer behind those held: it replaces the one that its name holds, or becomes held as the last one.
