@@ -1,6 +1,6 @@
 -- A line by its end point with nothing between its items: how it is read where it may come, as in a page and in a motif.
 -- Assumes nothing.
-use Prim.Native.Nat.{ℕ, ◌+◌, ◌*◌, ◌≤◌, ◌<◌}
+use Prim.Native.Nat.{ℕ, ◌+◌, ◌*◌, ◌≤◌}
 use mathlib.Core.Path.{◌≡◌, refl, sym, ap, ◌∙◌}
 use mathlib.Core.Bool.{Bool, true, false}
 use mathlib.Core.List.{List, [], ◌∷◌}
@@ -21,16 +21,15 @@ use Rattle.scope.specs.Reading.{Context, Read, with_data, as_whole, with_attribu
 use Rattle.number.proofs.Digits.{one-digit}
 use Rattle.items.proofs.Pairs.{numbers-all, scan_tag, black-item}
 use Rattle.white.proofs.Spaces.{after-black}
-use Rattle.end_point.specs.EndPoint.{line_of, Point, point_ubyte, point_uint16, point_sint16, point_real, point_none, Drawn, drawn_path, drawn_rel, Ends, Line}
+use Rattle.end_point.specs.EndPoint.{line_of, Point, point_ubyte, point_uint16, point_sint16, point_real, Drawn, drawn_path, drawn_rel, Ends, Line}
 
 -- whole numbers are taken
-pub whole-taken : (high : Bool) (s : List ℕ) (first : ℕ) {tag bytes : ℕ} → 0 < bytes → bytes ≤ 4 → Point tag bytes → point_in (two_at high s tag first) ≡ true
+pub whole-taken : (high : Bool) (s : List ℕ) (first : ℕ) {tag bytes : ℕ} → bytes ≤ 4 → Point tag bytes → point_in (two_at high s tag first) ≡ true
 unfolding two_at
-whole-taken high s first h k point_ubyte = refl
-whole-taken high s first h k point_uint16 = refl
-whole-taken high s first h k point_sint16 = refl
-whole-taken high s first h k point_real = absurd (omega arith)
-whole-taken high s first h k point_none = absurd (omega arith)
+whole-taken high s first k point_ubyte = refl
+whole-taken high s first k point_uint16 = refl
+whole-taken high s first k point_sint16 = refl
+whole-taken high s first k point_real = absurd (omega arith)
 
 -- a point's tag: two numbers, no white space and no operator
 record IsPoint (tag bytes : ℕ) : Type 0 where
@@ -40,13 +39,12 @@ record IsPoint (tag bytes : ℕ) : Type 0 where
   black : white tag ≡ false
   value : between 0x41 0xbf tag ≡ false
 
-is-point : {tag bytes : ℕ} → 0 < bytes → Point tag bytes → IsPoint tag bytes
+is-point : {tag bytes : ℕ} → Point tag bytes → IsPoint tag bytes
 unfolding kind_of width_of white
-is-point h point_ubyte = record { wide = 1; kind = refl; long = refl; black = refl; value = refl }
-is-point h point_uint16 = record { wide = 2; kind = refl; long = refl; black = refl; value = refl }
-is-point h point_sint16 = record { wide = 2; kind = refl; long = refl; black = refl; value = refl }
-is-point h point_real = record { wide = 4; kind = refl; long = refl; black = refl; value = refl }
-is-point h point_none = absurd (omega arith)
+is-point point_ubyte = record { wide = 1; kind = refl; long = refl; black = refl; value = refl }
+is-point point_uint16 = record { wide = 2; kind = refl; long = refl; black = refl; value = refl }
+is-point point_sint16 = record { wide = 2; kind = refl; long = refl; black = refl; value = refl }
+is-point point_real = record { wide = 4; kind = refl; long = refl; black = refl; value = refl }
 
 drawn-black : {tag : ℕ} → Drawn tag → white tag ≡ false
 unfolding white
@@ -98,28 +96,26 @@ module _ (high : Bool) (s : List ℕ) (at bytes : ℕ) (p : IsPoint (get_or s at
 
 -- it breaks no rule of reading, where it may come
 module _ (high gray opened asked : Bool) (phase : Phase) (s : List ℕ) (at op : ℕ) where
-  lined : (class : Class) {point tag bytes : ℕ} → 0 < bytes → Point point bytes → point_in (two_at high s point (at + 1)) ≡ true → Drawn tag → may_come phase opened tag ≡ true
+  lined : (class : Class) {point tag bytes : ℕ} → Point point bytes → point_in (two_at high s point (at + 1)) ≡ true → Drawn tag → may_come phase opened tag ≡ true
       → with_line (record { set = record { class = class; high = high; gray = gray }; phase = phase; opened = opened; asked = asked }) s tag op (end_point point at ∷ []) (line_in (table class) tag)
       ≡ Read.operator (line_of point tag at op)
   unfolding with_line line_in table_one table_two table among with_attributes one_by_one attribute_code rule_in has two_at type_taken in_range as_whole form_code rows_fit with_data due_of reads_rows
-  lined one h point_ubyte e drawn_path m = rw m
-  lined one h point_ubyte e drawn_rel m = rw m
-  lined one h point_uint16 e drawn_path m = rw m
-  lined one h point_uint16 e drawn_rel m = rw m
-  lined one h point_sint16 e drawn_path m = rw m
-  lined one h point_sint16 e drawn_rel m = rw m
-  lined one h point_real e drawn_path m = rw (m, e)
-  lined one h point_real e drawn_rel m = rw (m, e)
-  lined one h point_none e d m = absurd (omega arith)
-  lined two h point_ubyte e drawn_path m = rw m
-  lined two h point_ubyte e drawn_rel m = rw m
-  lined two h point_uint16 e drawn_path m = rw m
-  lined two h point_uint16 e drawn_rel m = rw m
-  lined two h point_sint16 e drawn_path m = rw m
-  lined two h point_sint16 e drawn_rel m = rw m
-  lined two h point_real e drawn_path m = rw (m, e)
-  lined two h point_real e drawn_rel m = rw (m, e)
-  lined two h point_none e d m = absurd (omega arith)
+  lined one point_ubyte e drawn_path m = rw m
+  lined one point_ubyte e drawn_rel m = rw m
+  lined one point_uint16 e drawn_path m = rw m
+  lined one point_uint16 e drawn_rel m = rw m
+  lined one point_sint16 e drawn_path m = rw m
+  lined one point_sint16 e drawn_rel m = rw m
+  lined one point_real e drawn_path m = rw (m, e)
+  lined one point_real e drawn_rel m = rw (m, e)
+  lined two point_ubyte e drawn_path m = rw m
+  lined two point_ubyte e drawn_rel m = rw m
+  lined two point_uint16 e drawn_path m = rw m
+  lined two point_uint16 e drawn_rel m = rw m
+  lined two point_sint16 e drawn_path m = rw m
+  lined two point_sint16 e drawn_rel m = rw m
+  lined two point_real e drawn_path m = rw (m, e)
+  lined two point_real e drawn_rel m = rw (m, e)
 
 -- the operator of such a line
 pub line-drawn : {high : Bool} {s : List ℕ} {at op : ℕ} → Line high s at op → Drawn (get_or s op 0)
@@ -130,8 +126,8 @@ pub line_read : (c : Context) (s : List ℕ) (at op : ℕ) → Line c.set.high s
 unfolding operator_at scanned
 line_read c s at op l m =
     ap (scanned c s)
-    (scan_is c.set.high s at l.bytes (is-point l.some l.point) l.ends ∙ ap (λ x. Scan.tagged (get_or s x 0) x (end_point (get_or s at 0) at ∷ [])) (sym l.is))
-    ∙ lined c.set.high c.set.gray c.opened c.asked c.phase s at op c.set.class l.some l.point l.numbers (line-drawn l) m
+    (scan_is c.set.high s at l.bytes (is-point l.point) l.ends ∙ ap (λ x. Scan.tagged (get_or s x 0) x (end_point (get_or s at 0) at ∷ [])) (sym l.is))
+    ∙ lined c.set.high c.set.gray c.opened c.asked c.phase s at op c.set.class l.point l.numbers (line-drawn l) m
 
 -- it may come in a page, and in a motif
 pub line-in_page : (saved : ℕ) (opened : Bool) {tag : ℕ} → Drawn tag → may_come (in_page saved) opened tag ≡ true

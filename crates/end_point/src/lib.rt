@@ -3,4 +3,4 @@
 
 mod end_point;
 
-pub use end_point::{LineEnd, line_to};
+pub use end_point::line_to;
