@@ -14,7 +14,7 @@ use Rattle.pattern_rows.specs.Numbers.{numbers_in, collected}
 use Rattle.within.specs.Judging.{Follows, Judges, Turns, turns_go, turns_stop, Notes, NotesOn}
 use Rattle.within.specs.declared.inside.Inside.{Inside}
 use Rattle.within.specs.declared.inside.Judged.{Judged}
-use Rattle.within.specs.declared.inside.Turn.TheVariants.{Go, Stop}
+use Rattle.std.specs.declared.ops.ControlFlow.TheVariants.{Continue, Break}
 use native.Mathlib.Nat.{zero-div}
 use Rattle.scope.specs.Calls.{flat}
 use Rattle.scope.specs.Reach.{any, names_in}
@@ -66,29 +66,29 @@ pub record Stands (t : List ℕ) (ms : List Motif) (set : Setting) (s : List ℕ
 
 -- the walk goes on from where the code goes on, and stops with what the code stops with
 module _ (t : List ℕ) (ms : List Motif) (set : Setting) (s : List ℕ) (end : scope.Judged) where
-  goes : (first was own : List ℕ) (i : Inside) (ops : List Own) (n : Next scope.Inside scope.Judged) → Turns t ms (Go i) n → onward (judged_inside set s) n ≡ end
+  goes : (first was own : List ℕ) (i : Inside) (ops : List Own) (n : Next scope.Inside scope.Judged) → Turns t ms (Continue i) n → onward (judged_inside set s) n ≡ end
       → (numbers_in first 0 ≡ [] → Notes was ops) → NotesOn was own ops n → Stands t ms set s end first own i
   goes first was own i ops (stop _) x5 e p q = elim x5 [ ]
   goes first was own i ops (go w) (turns_go f) e p q = record { stands = w; follows = f; judged = e; notes = λ z. q (p z) }
 
-  stops : (j : Judged) (n : Next scope.Inside scope.Judged) → Turns t ms (Stop j) n → onward (judged_inside set s) n ≡ end → Judges t ms j end
+  stops : (j : Judged) (n : Next scope.Inside scope.Judged) → Turns t ms (Break j) n → onward (judged_inside set s) n ≡ end → Judges t ms j end
   stops j (go _) x3 e = elim x3 [ ]
   stops j (stop r) (turns_stop h) e = subst (λ x. Judges t ms j x) e h
 
-  pub turned-go : (first was own : List ℕ) (i : Inside) (w : scope.Inside) → judged_inside set s w ≡ end → Turns t ms (Go i) (motif_step set s w)
+  pub turned-go : (first was own : List ℕ) (i : Inside) (w : scope.Inside) → judged_inside set s w ≡ end → Turns t ms (Continue i) (motif_step set s w)
       → (numbers_in first 0 ≡ [] → Notes was w.ops) → NotesOn was own w.ops (motif_step set s w) → Stands t ms set s end first own i
   turned-go first was own i w e k = goes first was own i w.ops (motif_step set s w) k (sym (motif-step set s w) ∙ e)
 
-  pub turned-stop : (j : Judged) (w : scope.Inside) → judged_inside set s w ≡ end → Turns t ms (Stop j) (motif_step set s w) → Judges t ms j end
+  pub turned-stop : (j : Judged) (w : scope.Inside) → judged_inside set s w ≡ end → Turns t ms (Break j) (motif_step set s w) → Judges t ms j end
   turned-stop j w e k = stops j (motif_step set s w) k (sym (motif-step set s w) ∙ e)
 
 -- where the walk stops with a valid motif, what its operators select is noted
 module _ (t : List ℕ) (ms : List Motif) (set : Setting) (s : List ℕ) (was own : List ℕ) (j : Judged) (ops : List Own) where
-  stop-notes : (before : List Own) (n : Next scope.Inside scope.Judged) → Turns t ms (Stop j) n → onward (judged_inside set s) n ≡ scope.valid ops
+  stop-notes : (before : List Own) (n : Next scope.Inside scope.Judged) → Turns t ms (Break j) n → onward (judged_inside set s) n ≡ scope.valid ops
       → Notes was before → NotesOn was own before n → Notes own ops
   stop-notes before (go _) x5 e p q = elim x5 [ ]
   stop-notes before (stop r) (turns_stop h) e p q = subst (λ x. NotesOn was own before (stop x)) e q p
 
-  pub turned-notes : (w : scope.Inside) → judged_inside set s w ≡ scope.valid ops → Turns t ms (Stop j) (motif_step set s w) → Notes was w.ops
+  pub turned-notes : (w : scope.Inside) → judged_inside set s w ≡ scope.valid ops → Turns t ms (Break j) (motif_step set s w) → Notes was w.ops
       → NotesOn was own w.ops (motif_step set s w) → Notes own ops
   turned-notes w e k = stop-notes w.ops (motif_step set s w) k (sym (motif-step set s w) ∙ e)

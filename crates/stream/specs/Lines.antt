@@ -1,6 +1,6 @@
 -- Operators of a motif that leave the page as it is, with no image open, one after the other with nothing between them, and where they lead to.
 -- Assumes nothing.
-use Rattle.std.specs.Prelude.{ℕ, ◌+◌, ◌≤◌, ◌<◌, ◌≡◌, Bool, true, false, List, length, get_or}
+use Rattle.std.specs.Prelude.{ℕ, ◌+◌, ◌≤◌, ◌<◌, ◌≡◌, Bool, true, false, List, length, get_or, Option, IfSome}
 use Rattle.scope.specs.Names.{CloseSubPath, PaintPath}
 use Rattle.end_point.specs.EndPoint.{Line}
 use Rattle.scope.specs.Setting.{Setting}
@@ -9,8 +9,6 @@ use Rattle.patterns.specs.Selects.{selects_in}
 use Rattle.within.specs.Judging.{Follows}
 use Rattle.within.specs.declared.inside.Inside.{Inside}
 use Rattle.stream.specs.declared.lines.Run.{Run}
-use Rattle.stream.specs.declared.lines.Pass.{Pass}
-use Rattle.stream.specs.declared.lines.Pass.TheVariants.{To, No}
 
 -- CloseSubPath or PaintPath
 pub data Quiet : ℕ → Type 0 where
@@ -25,14 +23,12 @@ pub data Strip (high : Bool) (s : List ℕ) (start : ℕ) : Run → Type 0 where
       → Strip high s start (record { at = run.at + 1; count = run.count + 1; drawn = run.drawn })
 
 -- one operator more of such a run
-abbrev pub Stripped : (high : Bool) (s : List ℕ) (start : ℕ) → Pass → Type 0
-Stripped high s start (To run) = Strip high s start run
-Stripped high s start No = Unit {0}
+abbrev pub Stripped : (high : Bool) (s : List ℕ) (start : ℕ) → Option Run → Type 0
+Stripped high s start more = IfSome more (λ run. Strip high s start run)
 
 -- a run goes on further on and within the bytes, by one operator
-abbrev pub Beyond : (len : ℕ) → Run → Pass → Type 0
-Beyond len run (To on) = (run.at < on.at) × (on.at ≤ len) × (on.count ≡ run.count + 1)
-Beyond len run No = Unit {0}
+abbrev pub Beyond : (len : ℕ) → Run → Option Run → Type 0
+Beyond len run more = IfSome more (λ on. (run.at < on.at) × (on.at ≤ len) × (on.count ≡ run.count + 1))
 
 -- the code stands where the definition comes to from w on
 pub record Comes (t : List ℕ) (ms : List scope.Motif) (set : Setting) (s : List ℕ) (w : scope.Inside) (i : Inside) : Type 0 where

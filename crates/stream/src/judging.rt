@@ -13,7 +13,8 @@ use crate::lines::run_from;
 use both::both::Both;
 use order::Picture;
 use setting::Setting;
-use within::{Inside, Judged, Turn, advance};
+use std::ops::ControlFlow;
+use within::{Inside, Judged, advance};
 
 // Past the run of operators that stands next and leaves the page as it is, with no image open.
 fn past_run(s: &[u8], set: Setting, inside: Inside) -> Inside
@@ -21,23 +22,14 @@ fn past_run(s: &[u8], set: Setting, inside: Inside) -> Inside
     ensures at_le_at { (inside.at ≤ result.at) × (result.at ≤ length s.now) × (result.saved ≤ result.at) }
     ensures by_index { (t : List ℕ) (ms : List Motif) (w : scope.Inside) → Follows t ms inside w → Comes t ms (setting_as set) s.now w result }
 {
-    let picture = inside.picture;
-    match picture {
-        Picture::Being(_) => inside,
-        Picture::Hatching(_, _) => inside,
-        Picture::Nothing => {
-            let both = inside.both;
-            let run = run_from(s, set.high, inside.at);
-            let kept = both.keep(run.count, run.drawn);
-            Inside {
-                at: run.at,
-                saved: inside.saved,
-                picture,
-                calls: inside.calls,
-                missing: inside.missing,
-                both: kept,
-            }
-        }
+    let Picture::Nothing = inside.picture else {
+        return inside;
+    };
+    let run = run_from(s, set.high, inside.at);
+    Inside {
+        at: run.at,
+        both: inside.both.keep(run.count, run.drawn),
+        ..inside
     }
 }
 
@@ -72,12 +64,8 @@ fn operators(
     loop {
         let from = past_run(s, set, inside);
         match advance(s, set, from, motifs, held, attrs, own) {
-            Turn::Go(on) => {
-                inside = on;
-            }
-            Turn::Stop(judged) => {
-                return judged;
-            }
+            ControlFlow::Continue(on) => inside = on,
+            ControlFlow::Break(judged) => return judged,
         }
     }
 }

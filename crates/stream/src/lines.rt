@@ -2,7 +2,7 @@
 ghost use Rattle.std.specs.Prelude.{◌≡◌, true, ℕ, ◌≤◌, length};
 ghost use Rattle.stream.specs.Lines.{Quiet, Strip, Stripped, Beyond};
 
-use end_point::LineEnd;
+use end_point::line_to;
 use names::operators::{CLOSE_SUB_PATH, PAINT_PATH};
 
 // Where a run has come to, of how many operators, and whether a line is among them.
@@ -13,51 +13,42 @@ pub struct Run {
     pub drawn: bool,
 }
 
-// One operator more, or the run ends.
-#[derive(Clone, Copy)]
-pub enum Pass {
-    To(Run),
-    No,
-}
-
 // CloseSubPath or PaintPath: the tag alone, that needs nothing and does nothing to the page.
+#[tactic(auto, using(crate::specs::Lines::quiet_close, crate::specs::Lines::quiet_paint))]
 fn is_quiet(tag: u8) -> bool
     ensures { result ≡ true → Quiet tag }
 {
-    if tag == CLOSE_SUB_PATH {
-        return true;
-    }
-    tag == PAINT_PATH
+    matches!(tag, CLOSE_SUB_PATH | PAINT_PATH)
 }
 
-// The next operator of a run.
-fn pass_one(s: &[u8], high: bool, run: Run) -> Pass
+// One operator more, or the run ends.
+#[tactic(auto, using(crate::specs::Lines::strip_line, crate::specs::Lines::strip_quiet))]
+fn pass_one(s: &[u8], high: bool, run: Run) -> Option<Run>
     requires { run.count ≤ run.at }
     ensures beyond { Beyond (length s.now) run result }
     ensures by_index { (start : ℕ) → Strip high s.now start run → Stripped high s.now start result }
 {
     let at = run.at;
     if s.len() <= at {
-        return Pass::No;
+        return None;
     }
     if is_quiet(s[at]) {
-        return Pass::To(Run {
+        return Some(Run {
             at: at + 1,
             count: run.count + 1,
             drawn: run.drawn,
         });
     }
-    match end_point::line_to(s, high, at) {
-        LineEnd::At(op) => Pass::To(Run {
-            at: op + 1,
-            count: run.count + 1,
-            drawn: true,
-        }),
-        LineEnd::No => Pass::No,
-    }
+    let op = line_to(s, high, at)?;
+    Some(Run {
+        at: op + 1,
+        count: run.count + 1,
+        drawn: true,
+    })
 }
 
 // The whole of a run from `at` on.
+#[tactic(auto, using(crate::specs::Lines::strip_none))]
 pub(crate) fn run_from(s: &[u8], high: bool, at: usize) -> Run
     requires { at ≤ length s.now }
     ensures at_le_at { (at ≤ result.at) × (result.at ≤ length s.now) }
@@ -68,14 +59,8 @@ pub(crate) fn run_from(s: &[u8], high: bool, at: usize) -> Run
         count: 0,
         drawn: false,
     };
-    loop {
-        match pass_one(s, high, run) {
-            Pass::To(on) => {
-                run = on;
-            }
-            Pass::No => {
-                return run;
-            }
-        }
+    while let Some(on) = pass_one(s, high, run) {
+        run = on;
     }
+    run
 }

@@ -21,7 +21,7 @@ use Rattle.within.specs.Judging.{Follows, Judges, judges_faulty, Turns, turns_go
 use Rattle.within.specs.declared.inside.Inside.{Inside}
 use Rattle.within.specs.declared.inside.Judged.{Judged}
 use Rattle.within.specs.declared.inside.Judged.TheVariants.{Faulty}
-use Rattle.within.specs.declared.inside.Turn.TheVariants.{Go, Stop}
+use Rattle.std.specs.declared.ops.ControlFlow.TheVariants.{Continue, Break}
 
 -- what reading knows where the definition stands
 pub context_is : (t : List ℕ) (ms : List Motif) (set : Setting) (s : List ℕ) (i : Inside) (w : scope.Inside) (p : Phase) → Follows t ms i w
@@ -68,15 +68,15 @@ pop-read set s w o e t =
     (good-may (subst (λ r. GoodRead (length s) w.at (may_come (phase_in w.saved w.picture) true) r) e (read-good (context_in set w) s w.at))) t
 
 module _ (t : List ℕ) (ms : List Motif) (set : Setting) (s : List ℕ) (w : scope.Inside) where
-  pub step-no : (code place : ℕ) → operator_at (context_in set w) s w.at ≡ Read.no code place → Turns t ms (Stop (Faulty code place)) (motif_step set s w)
+  pub step-no : (code place : ℕ) → operator_at (context_in set w) s w.at ≡ Read.no code place → Turns t ms (Break (Faulty code place)) (motif_step set s w)
   unfolding motif_step on_read
   step-no code place e = rw e (turns_stop judges_faulty)
 
-  pub step-ended : (j : Judged) → operator_at (context_in set w) s w.at ≡ Read.ended → Judges t ms j (on_end s w w.picture) → Turns t ms (Stop j) (motif_step set s w)
+  pub step-ended : (j : Judged) → operator_at (context_in set w) s w.at ≡ Read.ended → Judges t ms j (on_end s w w.picture) → Turns t ms (Break j) (motif_step set s w)
   unfolding motif_step on_read
   step-ended j e h = rw e (turns_stop h)
 
-  pub step-on : (i : Inside) (o : Operator) → operator_at (context_in set w) s w.at ≡ Read.operator o → Follows t ms i (after_in set s o w) → Turns t ms (Go i) (motif_step set s w)
+  pub step-on : (i : Inside) (o : Operator) → operator_at (context_in set w) s w.at ≡ Read.operator o → Follows t ms i (after_in set s o w) → Turns t ms (Continue i) (motif_step set s w)
   unfolding motif_step on_read after_in
   step-on i o e h = rw e (turns_go h)
 
@@ -103,5 +103,5 @@ notes-ended set s w own e = rw e (by w.picture (eqb w.saved 0) refl)
     by scope.Picture.none false z = rw z tt
 
 -- an operator that ends further on leaves the judging there
-pub ahead : (len at next saved : ℕ) (i : Inside) → at < next → next ≤ len → saved ≤ at → (i.at ≡ next) × (i.saved ≤ saved + 1) → Ahead len at (Go i)
+pub ahead : (len at next saved : ℕ) (i : Inside) → at < next → next ≤ len → saved ≤ at → (i.at ≡ next) × (i.saved ≤ saved + 1) → Ahead len at (Continue i)
 ahead len at next saved i a b c (d, e) = (omega arith, omega arith, omega arith)

@@ -1,6 +1,8 @@
 -- What the judging of a motif keeps, and its answers in 01's words.
 -- Assumes nothing.
-use Rattle.std.specs.Prelude.{ℕ, ◌+◌, ◌≤◌, ◌<◌, ◌≡◌, Bool, List, [], ◌∷◌, ◌++◌}
+use Rattle.std.specs.Prelude.{ℕ, ◌≤◌, ◌<◌, ◌≡◌, Bool, List, [], ◌∷◌, ◌++◌}
+use Rattle.std.specs.declared.ops.ControlFlow.{ControlFlow}
+use Rattle.std.specs.declared.ops.ControlFlow.TheVariants.{Continue, Break}
 use Rattle.scope.specs.Iterate.{Next, go, stop}
 use Rattle.scope.specs.Setting.{Setting}
 use Rattle.scope.specs.Reading.{Operator}
@@ -20,8 +22,6 @@ use Rattle.within.specs.declared.inside.Inside.{Inside}
 use Rattle.within.specs.declared.inside.Made.{Made}
 use Rattle.within.specs.declared.inside.Judged.{Judged}
 use Rattle.within.specs.declared.inside.Judged.TheVariants.{Valid, Faulty}
-use Rattle.within.specs.declared.inside.Turn.{Turn}
-use Rattle.within.specs.declared.inside.Turn.TheVariants.{Go, Stop}
 
 -- the code stands where the definition stands: the two runs are those of the operators so far, where a call performs besides what the table sums up for its name,
 -- whatever the motif's number will be; and the names called so far are noted
@@ -47,14 +47,14 @@ pub data Judges (t : List ℕ) (ms : List scope.Motif) : Judged → scope.Judged
   judges_faulty : {code place : ℕ} → Judges t ms (Faulty code place) (scope.faulty code place)
 
 -- after a turn: the code goes on where the definition does, or stops with its judgement
-pub data Turns (t : List ℕ) (ms : List scope.Motif) : Turn → Next scope.Inside scope.Judged → Type 0 where
-  turns_go : {i : Inside} {w : scope.Inside} → Follows t ms i w → Turns t ms (Go i) (go w)
-  turns_stop : {j : Judged} {r : scope.Judged} → Judges t ms j r → Turns t ms (Stop j) (stop r)
+pub data Turns (t : List ℕ) (ms : List scope.Motif) : ControlFlow Judged Inside → Next scope.Inside scope.Judged → Type 0 where
+  turns_go : {i : Inside} {w : scope.Inside} → Follows t ms i w → Turns t ms (Continue i) (go w)
+  turns_stop : {j : Judged} {r : scope.Judged} → Judges t ms j r → Turns t ms (Break j) (stop r)
 
 -- judging goes on further on and within the bytes, with no more saved than bytes passed
-abbrev pub Ahead : (len at : ℕ) → Turn → Type 0
-Ahead len at (Go i) = (at < i.at) × (i.at ≤ len) × (i.saved ≤ i.at)
-Ahead len at (Stop j) = Unit {0}
+abbrev pub Ahead : (len at : ℕ) → ControlFlow Judged Inside → Type 0
+Ahead len at (Continue i) = (at < i.at) × (i.at ≤ len) × (i.saved ≤ i.at)
+Ahead len at (Break j) = Unit {0}
 
 -- where the judging of a motif stands after an operator
 unfoldable pub after_in : Setting → List ℕ → Operator → scope.Inside → scope.Inside

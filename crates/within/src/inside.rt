@@ -24,6 +24,7 @@ use order::{Phase, Picture, picture_after};
 use page::page::Select;
 use reader::{Context, Operator};
 use setting::Setting;
+use std::ops::ControlFlow;
 use summary::EMPTY;
 
 // What is noted of a valid motif: its summary, where a call performs besides what the table sums up for its name; a mark for each row that it calls; and whether it
@@ -53,14 +54,8 @@ pub struct Inside {
     pub both: Both,
 }
 
-// The judging goes on, or has ended.
-#[derive(Clone, Copy)]
-pub enum Turn {
-    Go(Inside),
-    Stop(Judged),
-}
-
 // Where an operator of a motif stands: in its image, if one is open, or in a pattern.
+#[tactic(auto, unfolding(scope::specs::Motif::phase_in))]
 fn phase_in(saved: usize, picture: Picture) -> Phase
     ensures { phase_as result ≡ phase_in saved (picture_as picture) }
 {
@@ -72,20 +67,16 @@ fn phase_in(saved: usize, picture: Picture) -> Phase
 }
 
 // How many states are saved after an operator.
+#[tactic(auto, unfolding(scope::specs::Motif::saved_after))]
 fn saved_after(tag: u8, saved: usize) -> usize
     requires { saved < 2 ^ 63 }
     ensures { result ≡ saved_after tag saved }
 {
-    if tag == PUSH_GS {
-        return saved + 1;
+    match tag {
+        PUSH_GS => saved + 1,
+        POP_GS => saved.saturating_sub(1),
+        _ => saved,
     }
-    if tag != POP_GS {
-        return saved;
-    }
-    if saved == 0 {
-        return 0;
-    }
-    saved - 1
 }
 
 // A call leads past itself and performs what this summary sums up besides; saved states and image stay as they are.
@@ -211,7 +202,7 @@ fn ended(len: usize, inside: Inside) -> Judged
     }
 }
 
-// One operator of a motif.
+// One operator of a motif: the judging goes on, or has ended.
 pub fn advance(
     s: &[u8],
     set: Setting,
@@ -220,7 +211,7 @@ pub fn advance(
     held: usize,
     attrs: &mut [usize; 80],
     own: &mut [u16; 66],
-) -> Turn
+) -> ControlFlow<Judged, Inside>
     requires { (inside.at ≤ length s.now) × (inside.saved ≤ inside.at) }
     ensures attrs_len_unchanged { length attrs.new ≡ length attrs.old }
     ensures ahead { Ahead (length s.now) inside.at result }
@@ -238,13 +229,13 @@ pub fn advance(
         asked: false,
     };
     match reader::operator_at(context, s, inside.at, attrs) {
-        Err(refusal) => Turn::Stop(Judged::Faulty(refusal.code.number(), refusal.place)),
-        Ok(None) => Turn::Stop(ended(s.len(), inside)),
+        Err(refusal) => ControlFlow::Break(Judged::Faulty(refusal.code.number(), refusal.place)),
+        Ok(None) => ControlFlow::Break(ended(s.len(), inside)),
         Ok(Some(o)) => {
             if o.tag == EXEC_STREAM {
-                return Turn::Go(call(s, o, attrs, inside, motifs, held));
+                return ControlFlow::Continue(call(s, o, attrs, inside, motifs, held));
             }
-            Turn::Go(deed(s, set, o, attrs, inside, own))
+            ControlFlow::Continue(deed(s, set, o, attrs, inside, own))
         }
     }
 }

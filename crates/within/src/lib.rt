@@ -3,4 +3,4 @@
 
 mod inside;
 
-pub use inside::{Inside, Judged, Made, Turn, advance};
+pub use inside::{Inside, Judged, Made, advance};

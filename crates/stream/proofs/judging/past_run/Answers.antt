@@ -1,15 +1,11 @@
 -- `past_run`: the definition comes to the end of the run, operator by operator, where the code comes to at once.
 -- Assumes nothing.
 use mathlib.Core.Path.{refl}
-use native.Mathlib.Omega.{arith}
 use Rattle.setting.specs.Views.{setting_as}
 use Rattle.stream.proofs.Strips.{run-comes}
 use Rattle.stream.proofs.judging.past_run.Goals as goal
 
-pub returns-in-Nothing : goal.returns-in-Nothing
-returns-in-Nothing c = let a = c.args in
-    record {
-      at_le_at = (c.run_from-run.ensures.at_le_at.0, c.run_from-run.ensures.at_le_at.1, omega (arith, c.run_from-run.ensures.at_le_at.0, c.requires.1));
-      by_index = λ t ms w f. run-comes t ms (setting_as a.set) a.s.now w a.inside _ c.run_from-run.result f (rw c.in-Nothing.is refl) c.run_from-run.ensures.strip
-          refl refl refl refl refl c.keep-kept.ensures;
-    }
+pub returns-clause-by_index : goal.returns-clause-by_index
+returns-clause-by_index c = let a = c.args in
+    λ t ms w f. run-comes t ms (setting_as a.set) a.s.now w a.inside _ c.run_from-run.result f (rw c.in-Nothing.is refl) c.run_from-run.ensures.strip
+    refl refl refl refl refl c.keep.ensures
