@@ -28,33 +28,22 @@ pub enum Place {
     Inside(bool, Kept, Busy),
 }
 
-fn phase_drawing(page: Page, picture: Picture) -> Phase
-    ensures { (q : scope.Busy) (job work p : List ℕ) (kept : Kept) (ms : List Motif) → BusyHolds job work p kept ms (Drawing page picture) q → phase_as result ≡ phase_busy q }
-{
-    match picture {
-        Picture::Nothing => Phase::InPage(page.depth as usize),
-        Picture::Being(image) => Phase::InImage(image),
-        Picture::Hatching(image, _) => Phase::InPattern(image),
-    }
-}
-
-fn phase_busy(busy: Busy) -> Phase
-    ensures { (q : scope.Busy) (job work p : List ℕ) (kept : Kept) (ms : List Motif) → BusyHolds job work p kept ms busy q → phase_as result ≡ phase_busy q }
-{
-    match busy {
-        Busy::Resting => Phase::InSession,
-        Busy::Reading(_, _, _) => Phase::InStream,
-        Busy::Drawing(page, picture) => phase_drawing(page, picture),
-    }
-}
-
 // The phase that reading has to know.
+#[tactic(auto, using(crate::proofs::Standing::page_place), unfolding(scope::specs::Session::phase_of, scope::specs::Session::phase_busy, scope::specs::Session::phase_drawing))]
 pub fn phase_of(place: Place) -> Phase
     ensures { (q : scope.Place) (set : Setting) (job work t p : List ℕ) → PlaceHolds set job work t p place q → phase_as result ≡ phase_of q }
 {
     match place {
         Place::Outside(_) => Phase::BetweenSessions,
-        Place::Inside(_, _, busy) => phase_busy(busy),
+        Place::Inside(_, _, Busy::Resting) => Phase::InSession,
+        Place::Inside(_, _, Busy::Reading(_, _, _)) => Phase::InStream,
+        Place::Inside(_, _, Busy::Drawing(page, Picture::Nothing)) => {
+            Phase::InPage(page.depth as usize)
+        }
+        Place::Inside(_, _, Busy::Drawing(_, Picture::Being(image))) => Phase::InImage(image),
+        Place::Inside(_, _, Busy::Drawing(_, Picture::Hatching(image, _))) => {
+            Phase::InPattern(image)
+        }
     }
 }
 
@@ -68,22 +57,14 @@ pub fn opened_in(place: Place) -> bool
     }
 }
 
-fn page_busy(busy: Busy) -> Page
-    ensures { (q : scope.Busy) (job work p : List ℕ) (kept : Kept) (ms : List Motif) → BusyHolds job work p kept ms busy q → PageHolds result (page_of q) }
-{
-    match busy {
-        Busy::Resting => page::page::blank(false),
-        Busy::Reading(_, _, _) => page::page::blank(false),
-        Busy::Drawing(page, _) => page,
-    }
-}
-
 // The page that is being drawn; outside a page one on which nothing was done.
 pub fn page_in(place: Place) -> Page
     ensures { (q : scope.Place) (set : Setting) (job work t p : List ℕ) → PlaceHolds set job work t p place q → PageHolds result (page_of (session_of q).busy) }
 {
     match place {
-        Place::Outside(_) => page::page::blank(false),
-        Place::Inside(_, _, busy) => page_busy(busy),
+        Place::Inside(_, _, Busy::Drawing(page, _)) => page,
+        Place::Outside(_) | Place::Inside(_, _, Busy::Resting | Busy::Reading(_, _, _)) => {
+            page::page::blank(false)
+        }
     }
 }
