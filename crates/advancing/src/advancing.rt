@@ -11,7 +11,8 @@ use performing::perform;
 use reader::Context;
 use running::run_on;
 use setting::Setting;
-use state::{OUTER, State, Step, Verdict, end_code, is_over, stop};
+use state::{OUTER, State, Verdict, end_code, is_over, stop};
+use std::ops::ControlFlow;
 
 // One operator of the job, or its end.
 fn advance(
@@ -23,7 +24,7 @@ fn advance(
     patterns: &mut [u16; 4487],
     attrs: &mut [usize; 80],
     st: State,
-) -> Step
+) -> ControlFlow<Verdict, State>
     requires { (length job.now ≤ 61440) × (16384 ≤ length work.old) × (st.at ≤ length job.now) × (st.records ≤ st.at * 17) }
     ensures lasts { Lasts work.old list.old work.new list.new }
     ensures attrs_len_unchanged { length attrs.new ≡ length attrs.old }
@@ -35,7 +36,7 @@ fn advance(
 {
     let place = st.place;
     if is_over(job.len(), st) {
-        return Step::Stop(stop(st, end_code(place), job.len(), OUTER));
+        return ControlFlow::Break(stop(st, end_code(place), job.len(), OUTER));
     }
     let context = Context {
         set,
@@ -44,8 +45,8 @@ fn advance(
         asked: true,
     };
     match reader::operator_at(context, job, st.at, attrs) {
-        Err(refusal) => Step::Stop(stop(st, refusal.code.number(), refusal.place, OUTER)),
-        Ok(None) => Step::Stop(stop(st, end_code(place), job.len(), OUTER)),
+        Err(refusal) => ControlFlow::Break(stop(st, refusal.code.number(), refusal.place, OUTER)),
+        Ok(None) => ControlFlow::Break(stop(st, end_code(place), job.len(), OUTER)),
         Ok(Some(o)) => perform(job, set, work, list, motifs, patterns, attrs, st, o),
     }
 }
@@ -80,12 +81,8 @@ pub fn with_tables(
             &mut attrs,
             next,
         ) {
-            Step::Go(on) => {
-                st = on;
-            }
-            Step::Stop(verdict) => {
-                return verdict;
-            }
+            ControlFlow::Continue(on) => st = on,
+            ControlFlow::Break(verdict) => return verdict,
         }
     }
 }

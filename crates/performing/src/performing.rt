@@ -13,7 +13,8 @@ use arm::moved::Moved;
 use reader::Operator;
 use ruling::{inner_of, judge};
 use setting::Setting;
-use state::{OUTER, State, Step, stop};
+use state::{OUTER, State, Verdict, stop};
+use std::ops::ControlFlow;
 
 // An operator that the rules let pass: it, what they leave of it, and how many are performed then.
 #[derive(Clone, Copy)]
@@ -34,7 +35,7 @@ fn go_on(
     attrs: &[usize; 80],
     st: State,
     allowed: Allowed,
-) -> Step
+) -> ControlFlow<Verdict, State>
     requires { (length job.now ≤ 61440) × (16384 ≤ length work.old) × (st.at ≤ allowed.o.at) × (allowed.o.at < allowed.o.next) × (allowed.o.next ≤ length job.now)
         × (allowed.o.count ≤ 16) × (st.records ≤ st.at * 17) }
     ensures lasts { Lasts work.old list.old work.new list.new }
@@ -53,10 +54,10 @@ fn go_on(
     if !listed::list_operator(
         list, st.records, attrs, o.count, o.tag, o.at, o.length, o.first,
     ) {
-        return Step::Stop(stop(st, 28, o.at, OUTER));
+        return ControlFlow::Break(stop(st, 28, o.at, OUTER));
     }
     let next = after::place_after(job, set, o, attrs, passed, place, work, motifs, patterns);
-    Step::Go(State {
+    ControlFlow::Continue(State {
         at: o.next,
         place: next,
         performed: allowed.performed,
@@ -75,7 +76,7 @@ pub fn perform(
     attrs: &[usize; 80],
     st: State,
     o: Operator,
-) -> Step
+) -> ControlFlow<Verdict, State>
     requires { (length job.now ≤ 61440) × (16384 ≤ length work.old) × (st.at ≤ o.at) × (o.at < o.next) × (o.next ≤ length job.now) × (o.count ≤ 16) × (st.records ≤ st.at * 17) }
     ensures lasts { Lasts work.old list.old work.new list.new }
     ensures goes { Goes (length job.now) st.at result }
@@ -88,7 +89,7 @@ pub fn perform(
     let place = st.place;
     let early = early::early_of(job, set, work, motifs, patterns, attrs, place, o);
     match judge(job, set, attrs, patterns, early, place, o, st.performed) {
-        Moved::No(code) => Step::Stop(stop(st, code, o.at, inner_of(early))),
+        Moved::No(code) => ControlFlow::Break(stop(st, code, o.at, inner_of(early))),
         Moved::To(page, performed) => go_on(
             job,
             set,

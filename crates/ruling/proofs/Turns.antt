@@ -37,8 +37,8 @@ use Rattle.state.specs.Views.{verdict_as}
 use Rattle.state.specs.Standing.{Listed, Lent, Stands, Steps, steps_go, steps_stop, Comes, end_code}
 use Rattle.state.specs.declared.verdict.Verdict.{Verdict}
 use Rattle.state.specs.declared.state.State as Code
-use Rattle.state.specs.declared.state.Step.{Step}
-use Rattle.state.specs.declared.state.Step.TheVariants.{Go, Stop}
+use Rattle.std.specs.declared.ops.ControlFlow.{ControlFlow}
+use Rattle.std.specs.declared.ops.ControlFlow.TheVariants.{Continue, Break}
 use Rattle.ruling.proofs.Bytes.{bytes-taken}
 use Rattle.ruling.proofs.Short.{short-taken}
 
@@ -92,9 +92,9 @@ module _ (set : Setting) (s : List ℕ) (room : ℕ) (d : State) (o : Operator) 
 
 -- a stop, where the list is kept
 pub stopped : {set : Setting} {job list₀ : List ℕ} {l : Lent} {d : State} (v : Verdict) (n : Next State Outcome) (code position inner : ℕ)
-    → Listed list₀ d.past l.list → n ≡ stop (refused_at code position inner d) → verdict_as v ≡ verdict.told (refused_at code position inner d) → Steps set job list₀ l (Stop v) n
+    → Listed list₀ d.past l.list → n ≡ stop (refused_at code position inner d) → verdict_as v ≡ verdict.told (refused_at code position inner d) → Steps set job list₀ l (Break v) n
 stopped {set} {job} {list₀} {l} {d} v n code position inner h e f =
-    subst⁻¹ (λ x. Steps set job list₀ l (Stop v) x) e (steps_stop {e = refused_at code position inner d} f h)
+    subst⁻¹ (λ x. Steps set job list₀ l (Break v) x) e (steps_stop {e = refused_at code position inner d} f h)
 
 -- the list with one operator more
 module _ (list₀ list : List ℕ) (past : List Operator) (n : ℕ) (o : Operator) (h : Listed list₀ past list) (k : length (verdict.records_before past []) ≡ n * 16) where
@@ -120,13 +120,13 @@ pub gone : {job list₀ : List ℕ} {l l₁ : Lent} {st t : Code.State} {d : Sta
     (place_after set job o (case_of set job d (session_of d.place) o).seen.page d.place)
     → t.performed ≡ (case_of set job d (session_of d.place) o).seen.count → t.records ≡ st.records + length o.attrs + 1
     → l₁.list ≡ over l.list (st.records * 16) (records_for o.tag o.at o.length o.first o.attrs)
-    → length l₁.table ≡ length l.table → Steps set job list₀ l₁ (Go t) n
+    → length l₁.table ≡ length l.table → Steps set job list₀ l₁ (Continue t) n
 unfolding after case_of
 gone {job} {list₀} {l} {l₁} {st} {t} {d} set o n h e a p c r w x =
     let q : t.records ≡ d.records + suc (length o.attrs) = let z = h.records in omega arith in
     let v : l₁.list ≡ over l.list (d.records * 16) (records_for o.tag o.at o.length o.first o.attrs) =
     w ∙ ap (λ k. over l.list (k * 16) (records_for o.tag o.at o.length o.first o.attrs)) h.records in
-    subst⁻¹ (λ z. Steps set job list₀ l₁ (Go t) z) e
+    subst⁻¹ (λ z. Steps set job list₀ l₁ (Continue t) z) e
     (steps_go
     (record {
       at = a;
@@ -171,20 +171,20 @@ module _ (job list₀ : List ℕ) (set : Setting) (end : Outcome) where
   abbrev J : State → Outcome
   J = judged_from every set job (length list₀)
 
-  goes : (l : Lent) (t : Code.State) (n : Next State Outcome) → Steps set job list₀ l (Go t) n → onward J n ≡ end → (d : State) × (Stands set job list₀ l t d × (J d ≡ end))
+  goes : (l : Lent) (t : Code.State) (n : Next State Outcome) → Steps set job list₀ l (Continue t) n → onward J n ≡ end → (d : State) × (Stands set job list₀ l t d × (J d ≡ end))
   goes l t (stop _) x3 e = elim x3 [ ]
   goes l t (go d) (steps_go h) e = (d, (h, e))
 
-  stops : (l : Lent) (v : Verdict) (n : Next State Outcome) → Steps set job list₀ l (Stop v) n → onward J n ≡ end
+  stops : (l : Lent) (v : Verdict) (n : Next State Outcome) → Steps set job list₀ l (Break v) n → onward J n ≡ end
       → (verdict_as v ≡ verdict.told end) × Listed list₀ end.state.past l.list
   stops l v (go _) x3 e = elim x3 [ ]
   stops l v (stop r) (steps_stop h k) e = (h ∙ ap verdict.told e, subst (λ x. Listed list₀ x.state.past l.list) e k)
 
-  pub turned-go : (l : Lent) (t : Code.State) (d : State) → J d ≡ end → Steps set job list₀ l (Go t) (job_step every set job (length list₀) d)
+  pub turned-go : (l : Lent) (t : Code.State) (d : State) → J d ≡ end → Steps set job list₀ l (Continue t) (job_step every set job (length list₀) d)
       → (d' : State) × (Stands set job list₀ l t d' × (J d' ≡ end))
   turned-go l t d e h = goes l t (job_step every set job (length list₀) d) h (sym (judged-step every set job (length list₀) d) ∙ e)
 
-  pub turned-stop : (l : Lent) (v : Verdict) (d : State) → J d ≡ end → Steps set job list₀ l (Stop v) (job_step every set job (length list₀) d)
+  pub turned-stop : (l : Lent) (v : Verdict) (d : State) → J d ≡ end → Steps set job list₀ l (Break v) (job_step every set job (length list₀) d)
       → (verdict_as v ≡ verdict.told end) × Listed list₀ end.state.past l.list
   turned-stop l v d e h = stops l v (job_step every set job (length list₀) d) h (sym (judged-step every set job (length list₀) d) ∙ e)
 
@@ -205,9 +205,9 @@ module _ (job list₀ : List ℕ) (l : Lent) (st : Code.State) (d : State) (set 
 
   pub listed-no : (list₁ : List ℕ) (v : Verdict) → list₁ ≡ l.list → false ≡ leb ((st.records + suc n) * 16) (length l.list)
       → verdict_as v ≡ verdict.told (refused_at 28 o.at outer d)
-      → Steps set job list₀ (record { table = l.table; patterns = l.patterns; work = l.work; list = list₁ }) (Stop v) (on_read every set job (length list₀) d (Read.operator o))
+      → Steps set job list₀ (record { table = l.table; patterns = l.patterns; work = l.work; list = list₁ }) (Break v) (on_read every set job (length list₀) d (Read.operator o))
   listed-no list₁ v e r f =
-      subst⁻¹ (λ x. Steps set job list₀ (record { table = l.table; patterns = l.patterns; work = l.work; list = x }) (Stop v) (on_read every set job (length list₀) d (Read.operator o))) e
+      subst⁻¹ (λ x. Steps set job list₀ (record { table = l.table; patterns = l.patterns; work = l.work; list = x }) (Break v) (on_read every set job (length list₀) d (Read.operator o))) e
       (stopped v (on_read every set job (length list₀) d (Read.operator o)) 28 o.at outer h.listed (step_room set job (length list₀) d o ruled (room-is false r)) f)
 
   pub listed-go : (l₁ : Lent) (t : Code.State) → true ≡ leb ((st.records + suc n) * 16) (length l.list) → t.at ≡ o.next
@@ -215,7 +215,7 @@ module _ (job list₀ : List ℕ) (l : Lent) (st : Code.State) (d : State) (set 
       (place_after set job o (case_of set job d (session_of d.place) o).seen.page d.place)
       → t.performed ≡ (case_of set job d (session_of d.place) o).seen.count → t.records ≡ st.records + n + 1
       → l₁.list ≡ over l.list (st.records * 16) (records_for o.tag o.at o.length o.first o.attrs)
-      → length l₁.table ≡ length l.table → Steps set job list₀ l₁ (Go t) (on_read every set job (length list₀) d (Read.operator o))
+      → length l₁.table ≡ length l.table → Steps set job list₀ l₁ (Continue t) (on_read every set job (length list₀) d (Read.operator o))
   listed-go l₁ t r a p c k w x =
       gone {l = l} {l₁ = l₁} {st = st} {t = t} set o (on_read every set job (length list₀) d (Read.operator o)) h (step_fits set job (length list₀) d o ruled (room-is true r)) a p c
       (k ∙ ap (λ z. st.records + z + 1) many) w x
@@ -244,7 +244,7 @@ pub comes-bytes : (t p job list₀ : List ℕ) (set : Setting) (d : State) (o : 
 comes-bytes t p job list₀ set d o early page n m = read-bytes (context_of every set d.place) job d.at o m.read
 
 -- a step over an operator that was read
-pub steps-read : {job list₀ : List ℕ} {l : Lent} {t : Step} (set : Setting) (d : State) (o : Operator) → operator_at (context_of every set d.place) job d.at ≡ Read.operator o
+pub steps-read : {job list₀ : List ℕ} {l : Lent} {t : ControlFlow Verdict Code.State} (set : Setting) (d : State) (o : Operator) → operator_at (context_of every set d.place) job d.at ≡ Read.operator o
     → Steps set job list₀ l t (on_read every set job (length list₀) d (Read.operator o)) → Steps set job list₀ l t (job_step every set job (length list₀) d)
 steps-read {job} {list₀} {l} {t} set d o e h = subst⁻¹ (λ n. Steps set job list₀ l t n) (step-operator set job (length list₀) d o e) h
 

@@ -44,20 +44,7 @@ use Rattle.running.proofs.EndPoint.{judged-line, place-line}
 use Rattle.ruling.proofs.Turns.{turned-go, listed-go, steps-read}
 use Rattle.ruling.proofs.Judgements.{judged-rules, judged-page, judged-count}
 
--- no operator, and one run after another
-pub runs_none : {job list : List ℕ} {high : Bool} {st : State} → Runs job high list list st st
-runs_none =
-    record {
-      long = refl;
-      on = omega arith;
-      within = λ h. h;
-      counted = omega arith;
-      leads = λ list₀ table patterns work set d order e h. record { there = d; stands = h; judged = refl };
-    }
-
-pub runs-still : {job list list₁ : List ℕ} {high : Bool} {st : State} → list₁ ≡ list → Runs job high list list₁ st st
-runs-still {job} {list} {high = high} {st = st} e = subst⁻¹ (λ x. Runs job high list x st st) e runs_none
-
+-- one run after another
 pub runs_then : {job a b c : List ℕ} {high : Bool} {r s t : State} → Runs job high a b r s → Runs job high b c s t → Runs job high a c r t
 runs_then f g =
     record {

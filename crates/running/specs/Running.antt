@@ -1,6 +1,6 @@
 -- Where a run of operators leads that are their tag alone, or a line by its end point.
 -- Assumes nothing.
-use Rattle.std.specs.Prelude.{ℕ, ◌+◌, ◌≤◌, ◌<◌, ◌≡◌, Bool, List, length}
+use Rattle.std.specs.Prelude.{ℕ, ◌+◌, ◌≤◌, ◌<◌, ◌≡◌, Bool, List, length, Option, IfSome}
 use Rattle.scope.specs.Setting.{Setting}
 use Rattle.scope.specs.Judge as scope
 use Rattle.scope.specs.Judge.{judged_from}
@@ -10,8 +10,6 @@ use Rattle.order.specs.declared.picture.Picture.TheVariants.{Nothing}
 use Rattle.place.specs.declared.place.Busy.TheVariants.{Drawing}
 use Rattle.place.specs.declared.place.Place.TheVariants.{Inside}
 use Rattle.state.specs.Standing.{Stands}
-use Rattle.running.specs.declared.running.Pass.{Pass}
-use Rattle.running.specs.declared.running.Pass.TheVariants.{To, No}
 use Rattle.running.specs.declared.running.Run.{Run}
 use Rattle.state.specs.declared.state.State.{State}
 
@@ -20,15 +18,9 @@ abbrev pub in_session : (opened : Bool) (kept : Kept) → Run → State
 in_session opened kept r =
     record { at = r.at; place = Inside opened kept (Drawing r.page Nothing); performed = r.performed; records = r.records }
 
--- where a run stands after one operator more, or still
-abbrev pub standing : Run → Pass → Run
-standing r (To t) = t
-standing r No = r
-
 -- one operator more lies further on in the job
-abbrev pub Further : (len : ℕ) → Run → Pass → Type 0
-Further len r (To t) = (r.at < t.at) × (t.at ≤ len)
-Further len r No = Unit {0}
+abbrev pub Further : (len : ℕ) → Run → Option Run → Type 0
+Further len r more = IfSome more (λ t. (r.at < t.at) × (t.at ≤ len))
 
 -- the code stands where the definition comes to from d, and is judged from there as from d
 pub record Reaches (job list₀ table patterns work list : List ℕ) (set : Setting) (st : State) (d : scope.State) : Type 0 where

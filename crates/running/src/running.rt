@@ -1,13 +1,13 @@
 // Operators that are their tag alone, and lines by their end point, in a page with no image and no pattern open: a run of them is judged in one small loop,
 // as far as nothing could refuse them. White space may stand between them, and is passed with the operator behind it.
-ghost use Rattle.std.specs.Prelude.{◌≡◌, Bool, ◌<◌, length};
+ghost use Rattle.std.specs.Prelude.{◌≡◌, Bool, ◌<◌, length, IfSome, unwrap_or};
 ghost use Rattle.scope.specs.Item.{after};
 ghost use Rattle.order.specs.declared.picture.Picture.TheVariants.{Nothing};
 ghost use Rattle.place.specs.declared.place.Busy.TheVariants.{Drawing};
 ghost use Rattle.place.specs.declared.place.Place.TheVariants.{Inside};
-ghost use Rattle.running.specs.Running.{in_session, standing, Further, Runs};
+ghost use Rattle.running.specs.Running.{in_session, Further, Runs};
 
-use end_point::LineEnd;
+use end_point::line_to;
 use motif::Kept;
 use names::attributes::END_POINT;
 use names::limits::PERFORMED_MOST;
@@ -26,92 +26,67 @@ pub struct Run {
     pub records: usize,
 }
 
-// One operator more, or the run ends.
-#[derive(Clone, Copy)]
-pub enum Pass {
-    To(Run),
-    No,
-}
-
-// The first place from `at` on that is not white; or the end, where more than 16 bytes are white: those are left to the scan of items, which passes them faster.
-fn near_item(job: &[u8], at: usize) -> usize
+// The first place from `at` on that is not white; none where more than 16 bytes are white: those are left to the scan of items, which passes them faster.
+fn near_item(job: &[u8], at: usize) -> Option<usize>
     requires { at < length job.now }
-    ensures { result < length job.now → result ≡ after job.now at }
+    ensures { IfSome result (λ p. (p ≡ after job.now at) × (p < length job.now)) }
 {
-    let last = at + 16;
-    let mut p = at;
-    while p < job.len() {
+    for p in at..job.len().min(at + 17) {
         if !is_white(job[p]) {
-            return p;
+            return Some(p);
         }
-        if last <= p {
-            return job.len();
-        }
-        p += 1;
     }
-    p
+    None
 }
 
-// Where the next item stands: most often right here, as a byte from 0x41 on is not white, else behind white space; or the end.
-fn item_at(job: &[u8], at: usize) -> usize
+// Where the next item stands: most often right here, as a byte from 0x41 on is not white, else behind white space.
+fn item_at(job: &[u8], at: usize) -> Option<usize>
     requires { at < length job.now }
-    ensures { result < length job.now → result ≡ after job.now at }
+    ensures { IfSome result (λ p. (p ≡ after job.now at) × (p < length job.now)) }
 {
     if 0x41 <= job[at] {
-        return at;
+        return Some(at);
     }
     near_item(job, at)
 }
 
 // The next operator of a run, where it is its tag alone and stands at `at`.
-fn pass_alone(job: &[u8], list: &mut [u8], from: Run, at: usize) -> Pass
+fn pass_alone(job: &[u8], list: &mut [u8], from: Run, at: usize) -> Option<Run>
     requires { (at ≡ after job.now from.at) × (at < length job.now) × (from.performed < 1_000_000) }
     ensures further { Further (length job.now) from result }
     ensures runs { (high opened : Bool) (kept : Kept)
-        → Runs job.now high list.old list.new (in_session opened kept from) (in_session opened kept (standing from result)) }
+        → Runs job.now high list.old list.new (in_session opened kept from) (in_session opened kept (unwrap_or result from)) }
 {
-    let page = from.page;
-    let performed = from.performed;
-    let records = from.records;
     let tag = job[at];
-    match page.past(tag) {
-        Passed::No => Pass::No,
-        Passed::To(next) => {
-            if !listed::list_alone(list, records, tag, at) {
-                return Pass::No;
-            }
-            Pass::To(Run {
-                at: at + 1,
-                page: next,
-                performed: performed + 1,
-                records: records + 1,
-            })
-        }
+    let performed = from.performed + 1;
+    let Passed::To(page) = from.page.past(tag) else {
+        return None;
+    };
+    if !listed::list_alone(list, from.records, tag, at) {
+        return None;
     }
+    Some(Run {
+        at: at + 1,
+        page,
+        performed,
+        records: from.records + 1,
+    })
 }
 
 // The next operator of a run, where it is a line by its end point, from `at` on, and the cursor is set.
-fn pass_line(job: &[u8], high: bool, list: &mut [u8], from: Run, at: usize) -> Pass
+fn pass_line(job: &[u8], high: bool, list: &mut [u8], from: Run, at: usize) -> Option<Run>
     requires { (at ≡ after job.now from.at) × (at < length job.now) × (from.performed < 1_000_000) }
     ensures further { Further (length job.now) from result }
     ensures runs { (opened : Bool) (kept : Kept)
-        → Runs job.now high list.old list.new (in_session opened kept from) (in_session opened kept (standing from result)) }
+        → Runs job.now high list.old list.new (in_session opened kept from) (in_session opened kept (unwrap_or result from)) }
 {
-    let page = from.page;
-    let performed = from.performed;
-    let records = from.records;
-    if !page.cursor {
-        return Pass::No;
+    if !from.page.cursor {
+        return None;
     }
-    let op = match end_point::line_to(job, high, at) {
-        LineEnd::At(op) => op,
-        LineEnd::No => {
-            return Pass::No;
-        }
-    };
+    let op = line_to(job, high, at)?;
     if !listed::list_one(
         list,
-        records,
+        from.records,
         END_POINT,
         job[at],
         at,
@@ -120,32 +95,26 @@ fn pass_line(job: &[u8], high: bool, list: &mut [u8], from: Run, at: usize) -> P
         job[op],
         op,
     ) {
-        return Pass::No;
+        return None;
     }
-    Pass::To(Run {
+    Some(Run {
         at: op + 1,
-        page,
-        performed: performed + 1,
-        records: records + 2,
+        page: from.page,
+        performed: from.performed + 1,
+        records: from.records + 2,
     })
 }
 
-// The next operator of a run, behind white space if there is any: from 0xd0 on a tag may be that of a point, below it that of an operator.
-fn pass_one(job: &[u8], high: bool, list: &mut [u8], from: Run) -> Pass
+// The next operator of a run, behind white space if there is any; or the run ends. From 0xd0 on a tag may be that of a point, below it that of an operator.
+fn pass_one(job: &[u8], high: bool, list: &mut [u8], from: Run) -> Option<Run>
     ensures further { Further (length job.now) from result }
     ensures runs { (opened : Bool) (kept : Kept)
-        → Runs job.now high list.old list.new (in_session opened kept from) (in_session opened kept (standing from result)) }
+        → Runs job.now high list.old list.new (in_session opened kept from) (in_session opened kept (unwrap_or result from)) }
 {
-    if job.len() <= from.at {
-        return Pass::No;
+    if job.len() <= from.at || PERFORMED_MOST <= from.performed {
+        return None;
     }
-    if PERFORMED_MOST <= from.performed {
-        return Pass::No;
-    }
-    let at = item_at(job, from.at);
-    if job.len() <= at {
-        return Pass::No;
-    }
+    let at = item_at(job, from.at)?;
     if job[at] < 0xd0 {
         pass_alone(job, list, from, at)
     } else {
@@ -159,16 +128,10 @@ fn run_from(job: &[u8], high: bool, list: &mut [u8], from: Run) -> Run
         → Runs job.now high list.old list.new (in_session opened kept from) (in_session opened kept result) }
 {
     let mut run = from;
-    loop {
-        match pass_one(job, high, list, run) {
-            Pass::To(on) => {
-                run = on;
-            }
-            Pass::No => {
-                return run;
-            }
-        }
+    while let Some(on) = pass_one(job, high, list, run) {
+        run = on;
     }
+    run
 }
 
 // In a page with no image and no pattern open: past the run that stands next.
@@ -205,13 +168,7 @@ fn past_run(
 
 // A run may start here: this is not the tag of one number or of an array, with which none starts.
 fn may_start(job: &[u8], p: usize) -> bool {
-    if job.len() <= p {
-        return false;
-    }
-    if job[p] < 0xc0 {
-        return true;
-    }
-    0xd0 <= job[p]
+    p < job.len() && !matches!(job[p], 0xc0..=0xcf)
 }
 
 // Past the run of operators that are their tag alone and of lines by their end point, if one stands next.
@@ -221,17 +178,10 @@ pub fn run_on(job: &[u8], high: bool, list: &mut [u8], st: State) -> State
     if !may_start(job, st.at) {
         return st;
     }
-    let place = st.place;
-    match place {
-        Place::Outside(_) => st,
-        Place::Inside(opened, kept, busy) => match busy {
-            Busy::Resting => st,
-            Busy::Reading(_, _, _) => st,
-            Busy::Drawing(page, picture) => match picture {
-                Picture::Being(_) => st,
-                Picture::Hatching(_, _) => st,
-                Picture::Nothing => past_run(job, high, list, st, opened, kept, page),
-            },
-        },
+    match st.place {
+        Place::Inside(opened, kept, Busy::Drawing(page, Picture::Nothing)) => {
+            past_run(job, high, list, st, opened, kept, page)
+        }
+        _ => st,
     }
 }

@@ -16,8 +16,8 @@ use Rattle.early.specs.declared.early.Early.{Early}
 use Rattle.state.specs.Views.{verdict_as}
 use Rattle.state.specs.declared.verdict.Verdict.{Verdict}
 use Rattle.state.specs.declared.state.State.{State}
-use Rattle.state.specs.declared.state.Step.{Step}
-use Rattle.state.specs.declared.state.Step.TheVariants.{Go, Stop}
+use Rattle.std.specs.declared.ops.ControlFlow.{ControlFlow}
+use Rattle.std.specs.declared.ops.ControlFlow.TheVariants.{Continue, Break}
 
 -- the list, which was list₀ when it was lent, has the records of these operators, and behind them what stood there
 pub record Listed (list₀ : List ℕ) (past : List Operator) (list : List ℕ) : Type 0 where
@@ -41,16 +41,16 @@ pub record Stands (set : Setting) (job list₀ : List ℕ) (l : Lent) (st : Stat
   pub table_long : length l.table ≡ 704
 
 -- after a step the code stands where the definition goes on, or both have ended with the same verdict and list
-pub data Steps (set : Setting) (job list₀ : List ℕ) (l : Lent) : Step → Next scope.State scope.Outcome → Type 0 where
-  steps_go : {t : State} {d : scope.State} → Stands set job list₀ l t d → Steps set job list₀ l (Go t) (go d)
-  steps_stop : {v : Verdict} {e : scope.Outcome} → verdict_as v ≡ verdict.told e → Listed list₀ e.state.past l.list → Steps set job list₀ l (Stop v) (stop e)
+pub data Steps (set : Setting) (job list₀ : List ℕ) (l : Lent) : ControlFlow Verdict State → Next scope.State scope.Outcome → Type 0 where
+  steps_go : {t : State} {d : scope.State} → Stands set job list₀ l t d → Steps set job list₀ l (Continue t) (go d)
+  steps_stop : {v : Verdict} {e : scope.Outcome} → verdict_as v ≡ verdict.told e → Listed list₀ e.state.past l.list → Steps set job list₀ l (Break v) (stop e)
 
 -- the four lists, each by its name
 abbrev pub lent : (table patterns work list : List ℕ) → Lent
 lent table patterns work list = record { table = table; patterns = patterns; work = work; list = list }
 
 -- before, after, one step: wherever the code stands as the definition does, with these lists lent, and what is asked there holds, one step brings both on alike
-abbrev pub StepsOn : (set : Setting) (job : List ℕ) (before after : Lent) → State → (asks : List ℕ → scope.State → Type 0) → Step
+abbrev pub StepsOn : (set : Setting) (job : List ℕ) (before after : Lent) → State → (asks : List ℕ → scope.State → Type 0) → ControlFlow Verdict State
     → (next : (room : ℕ) → scope.State → Next scope.State scope.Outcome) → Type 0
 StepsOn set job before after st asks r next =
     (d : scope.State) (list₀ : List ℕ) → length list₀ ≡ length before.list → Stands set job list₀ before st d → asks list₀ d
@@ -67,9 +67,9 @@ abbrev pub Ready : (len : ℕ) → State → Type 0
 Ready len st = (st.at ≤ len) × (st.records ≤ st.at * 17)
 
 -- a step goes on further on
-abbrev pub Goes : (len at : ℕ) → Step → Type 0
-Goes len at (Go t) = (at < t.at) × (t.at ≤ len) × (t.records ≤ t.at * 17)
-Goes len at (Stop v) = Unit {0}
+abbrev pub Goes : (len at : ℕ) → ControlFlow Verdict State → Type 0
+Goes len at (Continue t) = (at < t.at) × (t.at ≤ len) × (t.records ≤ t.at * 17)
+Goes len at (Break v) = Unit {0}
 
 -- what a step leaves as it is: the lengths of the two lent buffers, and the work buffer from byte 16,384 on
 pub record Lasts (work list work₁ list₁ : List ℕ) : Type 0 where

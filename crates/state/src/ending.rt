@@ -1,6 +1,5 @@
 // Where a job ends, with which code, and the verdict where the judging stands.
 ghost use Rattle.std.specs.Prelude.{◌≡◌, true, List, ℕ, ◌≤◌, ◌<◌};
-ghost use Rattle.scope.specs.Choice.{pick};
 ghost use Rattle.scope.specs.Setting.{Setting as setting_of};
 ghost use Rattle.scope.specs.Session as session;
 ghost use Rattle.scope.specs.Judge as scope;
@@ -21,19 +20,13 @@ pub fn stop(st: State, code: u32, position: usize, inner: u32) -> Verdict
     told(code, position, inner, st.records, st.performed)
 }
 
-fn pass_after(one: bool) -> u32
-    ensures { result ≡ pick one 0 27 }
-{
-    if one { 0 } else { 27 }
-}
-
 // The code at the end of the job: pass between sessions, after one at least; else 27.
 pub fn end_code(place: Place) -> u32
     ensures { (q : session.Place) (by : setting_of) (job work t p : List ℕ) → PlaceHolds by job work t p place q → result ≡ end_code q }
 {
     match place {
-        Place::Outside(after_one) => pass_after(after_one),
-        Place::Inside(_, _, _) => 27,
+        Place::Outside(true) => 0,
+        Place::Outside(false) | Place::Inside(_, _, _) => 27,
     }
 }
 

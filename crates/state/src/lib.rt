@@ -6,5 +6,5 @@ mod state;
 mod verdict;
 
 pub use ending::{end_code, is_over, stop};
-pub use state::{State, Step};
+pub use state::State;
 pub use verdict::{OUTER, Verdict, told};

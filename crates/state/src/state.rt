@@ -1,5 +1,4 @@
 // Where the judging of a job stands between two operators.
-use crate::verdict::Verdict;
 use place::Place;
 
 // Where the judging of a job stands.
@@ -9,11 +8,4 @@ pub struct State {
     pub place: Place,
     pub performed: u32,
     pub records: usize,
-}
-
-// The judging goes on, or ends with a verdict.
-#[derive(Clone, Copy)]
-pub enum Step {
-    Go(State),
-    Stop(Verdict),
 }

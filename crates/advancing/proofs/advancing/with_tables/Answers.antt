@@ -29,14 +29,14 @@ advance-requires c = let p = past (goal.at.advance-requires c).After-run_on-next
     (search rules, search rules, p.0, p.1)
 
 pub loop-on-smaller : goal.loop-on-smaller
-loop-on-smaller c = let p = rw c.in-Go.is at c.advance.ensures.goes in
+loop-on-smaller c = let p = rw c.in-Continue.is at c.advance.ensures.goes in
     let y = c.run_on-next.ensures.on in
     omega (arith, p)
 
 pub loop-on-preserved : goal.loop-on-preserved
 loop-on-preserved c = let i = c.loop-on.invariant in
     let a = c.args in
-    let p = rw c.in-Go.is at c.advance.ensures.goes in
+    let p = rw c.in-Continue.is at c.advance.ensures.goes in
     let set : Setting = setting_as a.set in
     let l = c.run_on-next.ensures.long ∙ i.1 in (
       c.advance.ensures.lasts.work_long ∙ i.0,
@@ -48,11 +48,11 @@ loop-on-preserved c = let i = c.loop-on.invariant in
       λ d first s h.
           let j = i.6 d first s h in
           let g = c.run_on-next.ensures.leads first _ _ _ set j.0 refl (s ∙ sym i.1) j.1.0 in
-          turned-go a.job.now first set _ _ _ g.there (g.judged ∙ j.1.1) (rw c.in-Go.is at (c.advance.ensures.steps_on g.there first (s ∙ sym l) g.stands i.2)),
+          turned-go a.job.now first set _ _ _ g.there (g.judged ∙ j.1.1) (rw c.in-Continue.is at (c.advance.ensures.steps_on g.there first (s ∙ sym l) g.stands i.2)),
     )
 
-pub returns-in-Stop : goal.returns-in-Stop
-returns-in-Stop c = let i = c.loop-on.invariant in
+pub returns-in-Break : goal.returns-in-Break
+returns-in-Break c = let i = c.loop-on.invariant in
     let a = c.args in
     let set : Setting = setting_as a.set in
     let l = c.run_on-next.ensures.long ∙ i.1 in record {
@@ -60,5 +60,5 @@ returns-in-Stop c = let i = c.loop-on.invariant in
       judged_to = λ d first s h.
           let j = i.6 d first s h in
           let g = c.run_on-next.ensures.leads first _ _ _ set j.0 refl (s ∙ sym i.1) j.1.0 in
-          turned-stop a.job.now first set _ _ _ g.there (g.judged ∙ j.1.1) (rw c.in-Stop.is at (c.advance.ensures.steps_on g.there first (s ∙ sym l) g.stands i.2));
+          turned-stop a.job.now first set _ _ _ g.there (g.judged ∙ j.1.1) (rw c.in-Break.is at (c.advance.ensures.steps_on g.there first (s ∙ sym l) g.stands i.2));
     }

@@ -14,4 +14,4 @@ unfolding white
 black b h = rw (ne_eqb b 0x00 (λ e. omega arith), le-leb 0x09 b (omega arith), lt-leb b 0x0d (omega arith), ne_eqb b 0x20 (λ e. omega arith))
 
 pub returns-then-job-at-ge65 : goal.returns-then-job-at-ge65
-returns-then-job-at-ge65 c = λ _. sym (after-black c.args.job.now c.args.at c.requires (black _ c.if-job-at-ge65.true))
+returns-then-job-at-ge65 c = (sym (after-black c.args.job.now c.args.at c.requires (black _ c.if-job-at-ge65.true)), c.requires)
