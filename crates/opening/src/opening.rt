@@ -18,49 +18,37 @@ use setting::Setting;
 use state::State;
 
 // The tag of an operator that begins or ends a session, or opens or closes its source.
+#[tactic(auto, using(crate::specs::Opening::begins, crate::specs::Opening::ends, crate::specs::Opening::opens, crate::specs::Opening::closes))]
 fn is_edge(tag: u8) -> bool
     ensures { result ≡ true → Edge tag }
 {
-    if tag == BEGIN_SESSION {
-        return true;
-    }
-    if tag == END_SESSION {
-        return true;
-    }
-    if tag == OPEN_DATA_SOURCE {
-        return true;
-    }
-    tag == CLOSE_DATA_SOURCE
+    matches!(
+        tag,
+        BEGIN_SESSION | END_SESSION | OPEN_DATA_SOURCE | CLOSE_DATA_SOURCE
+    )
 }
 
 // Outside a session, or in one with no page open and no motif being read.
+#[tactic(auto, using(crate::specs::Opening::rests_outside, crate::specs::Opening::rests_inside))]
 fn at_rest(place: Place) -> bool
     ensures { result ≡ true → Rests place }
 {
-    match place {
-        Place::Outside(_) => true,
-        Place::Inside(_, _, busy) => match busy {
-            Busy::Resting => true,
-            Busy::Reading(_, _, _) => false,
-            Busy::Drawing(_, _) => false,
-        },
-    }
+    matches!(
+        place,
+        Place::Outside(_) | Place::Inside(_, _, Busy::Resting)
+    )
 }
 
 // In a session at rest: EndSession drops all, OpenDataSource opens the source, CloseDataSource closes it.
 fn past_in(tag: u8, opened: bool, kept: Kept) -> Place
     ensures { Edge tag → Past (Inside opened kept Resting) tag result }
 {
-    if tag == END_SESSION {
-        return Place::Outside(true);
+    match tag {
+        END_SESSION => Place::Outside(true),
+        OPEN_DATA_SOURCE => Place::Inside(true, kept, Busy::Resting),
+        CLOSE_DATA_SOURCE => Place::Inside(false, kept, Busy::Resting),
+        _ => Place::Inside(opened, kept, Busy::Resting),
     }
-    if tag == OPEN_DATA_SOURCE {
-        return Place::Inside(true, kept, Busy::Resting);
-    }
-    if tag == CLOSE_DATA_SOURCE {
-        return Place::Inside(false, kept, Busy::Resting);
-    }
-    Place::Inside(opened, kept, Busy::Resting)
 }
 
 // The place after such an operator, at rest: outside a session one begins, without motifs.
@@ -79,11 +67,7 @@ fn pass(list: &mut [u8], attrs: &[usize; 80], st: State, o: Operator) -> State
     ensures { (job : List ℕ) (set : setting_of) → Rests st.place → Sized attrs.now o.count → Within (length job) st.at (Ok (Some o))
         → Reads job set st (operator_as o attrs.now) → Opens job set list.old list.new st result }
 {
-    let place = st.place;
-    if o.reads {
-        return st;
-    }
-    if !is_edge(o.tag) {
+    if o.reads || !is_edge(o.tag) {
         return st;
     }
     if !listed::list_operator(
@@ -93,7 +77,7 @@ fn pass(list: &mut [u8], attrs: &[usize; 80], st: State, o: Operator) -> State
     }
     State {
         at: o.next,
-        place: place_past(o.tag, place),
+        place: place_past(o.tag, st.place),
         performed: st.performed + 1,
         records: st.records + o.count + 1,
     }
@@ -105,10 +89,7 @@ fn open_one(job: &[u8], set: Setting, list: &mut [u8], attrs: &mut [usize; 80], 
     ensures opens { length attrs.old ≡ 80 → Opens job.now (setting_as set) list.old list.new st result }
 {
     let place = st.place;
-    if PERFORMED_MOST <= st.performed {
-        return st;
-    }
-    if !at_rest(place) {
+    if PERFORMED_MOST <= st.performed || !at_rest(place) {
         return st;
     }
     let context = Context {

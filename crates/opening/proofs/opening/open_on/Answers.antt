@@ -1,6 +1,5 @@
 -- The invariant: it is a run from where it began.
 -- Assumes nothing.
-use Prim.Native.Nat.{◌-◌}
 use mathlib.Core.Path.{refl, ◌∙◌}
 use native.Mathlib.Omega.{arith}
 use Rattle.opening.proofs.Opens.{opens-none, opens-then}

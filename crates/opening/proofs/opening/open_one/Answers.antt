@@ -1,9 +1,8 @@
 -- `open_one`: what was read is what the definition reads where it stands; else the job stands still.
 -- Assumes nothing.
 use Prim.Native.Nat.{ℕ}
-use mathlib.Core.Path.{◌≡◌, refl, sym, ◌∙◌}
+use mathlib.Core.Path.{◌≡◌, sym, ◌∙◌}
 use mathlib.Core.List.{List}
-use borrow.Author.Tests.{not-false}
 use lib.ListN.{length}
 use Rattle.setting.specs.Views.{setting_as}
 use Rattle.scope.specs.Reading.{operator_at}
@@ -15,7 +14,6 @@ use Rattle.order.specs.Views.{phase_as}
 use Rattle.reader.specs.Reads.{read_as}
 use Rattle.state.specs.Standing.{Stands, Lent}
 use Rattle.ruling.proofs.Turns.{context_is}
-use Rattle.opening.proofs.Opens.{opens-none}
 use Rattle.opening.proofs.opening.open_one.Goals.{After-operator_at}
 use Rattle.opening.proofs.opening.open_one.Goals as goal
 
@@ -33,20 +31,11 @@ read_is c list₀ l d z h =
     (phase.ensures d.place set a.job.now l.work l.table l.patterns h.place)
     (opened.ensures d.place set a.job.now l.work l.table l.patterns h.place)) ∙ sym (c.operator_at.ensures.attrs_after z)
 
-pub returns-then-st-ge-PERFORMED_MOST : goal.returns-then-st-ge-PERFORMED_MOST
-returns-then-st-ge-PERFORMED_MOST c = record { attrs_len_unchanged = refl; opens = λ z. opens-none }
-
-pub returns-then-not-at_rest : goal.returns-then-not-at_rest
-returns-then-not-at_rest c = record { attrs_len_unchanged = refl; opens = λ z. opens-none }
-
-pub returns-in_default : goal.returns-in_default
-returns-in_default c = record { attrs_len_unchanged = c.operator_at.ensures.attrs_len_unchanged; opens = λ z. opens-none }
-
 pub returns-in-Ok-Some : goal.returns-in-Ok-Some
 returns-in-Ok-Some c = let a = c.args in
     let w = rw (c.in-Ok-Some.is, c.in-Ok-Some.field-0-is) at c.operator_at.ensures.within in
     record {
       attrs_len_unchanged = c.operator_at.ensures.attrs_len_unchanged;
-      opens = λ z. c.pass.ensures a.job.now (setting_as a.set) (c.at_rest.ensures (not-false _ c.if-not-at_rest.false-raw))
+      opens = λ z. c.pass.ensures a.job.now (setting_as a.set) (c.at_rest.ensures (c.if-not-at_rest.false))
           (record { long = c.operator_at.ensures.attrs_len_unchanged ∙ z; few = w.4 }) w (λ list₀ l d s. rw (c.in-Ok-Some.is, c.in-Ok-Some.field-0-is) at (read_is (goal.at.returns-in-Ok-Some c).After-operator_at list₀ l d z s));
     }

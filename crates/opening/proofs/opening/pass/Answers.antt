@@ -2,9 +2,8 @@
 -- Assumes nothing.
 use Prim.Native.Nat.{suc, ◌+◌, ◌*◌, ◌≤◌}
 use mathlib.Core.Path.{◌≡◌, refl, sym, ◌∙◌}
-use mathlib.Core.Bool.{true, false}
+use mathlib.Core.Bool.{true}
 use native.Mathlib.Omega.{arith}
-use borrow.Author.Tests.{not-true, not-false}
 use lib.ListN.{length}
 use Rattle.scope.specs.Judge.{context_of}
 use Rattle.scope.specs.Verdict.{every}
@@ -12,7 +11,7 @@ use Rattle.items.proofs.Rows.{length-rows}
 use Rattle.listed.proofs.Listed.{room-is}
 use Rattle.reader.specs.Reads.{operator_as}
 use Rattle.ruling.proofs.Turns.{read-bytes}
-use Rattle.opening.proofs.Opens.{opens-none, opens_still, one_more}
+use Rattle.opening.proofs.Opens.{one_more}
 use Rattle.opening.proofs.opening.pass.Goals.{Else-not-list_operator}
 use Rattle.opening.proofs.opening.pass.Goals as goal
 
@@ -21,17 +20,7 @@ room : (c : Else-not-list_operator)
     → let a = c.args in
     (a.o.count ≤ 16) × ((a.st.records + suc a.o.count) * 16 ≤ length a.list.now)
 room c =
-    room-is _ _ _ (sym c.list_operator.ensures.value_2 ∙ not-false _ c.if-not-list_operator.false-raw)
-
-pub returns-then-o : goal.returns-then-o
-returns-then-o c = λ job set r z w h. opens-none
-
-pub returns-then-not-is_edge : goal.returns-then-not-is_edge
-returns-then-not-is_edge c = λ job set r z w h. opens-none
-
-pub returns-then-not-list_operator : goal.returns-then-not-list_operator
-returns-then-not-list_operator c = let f : c.list_operator.result ≡ false = not-true _ c.if-not-list_operator.true-raw in
-    λ job set r z w h. opens_still (rw f at c.list_operator.ensures.list_after)
+    room-is _ _ _ (sym c.list_operator.ensures.value_2 ∙ c.if-not-list_operator.false)
 
 pub overflow_add-result-2 : goal.overflow_add-result-2
 overflow_add-result-2 c = let h = room (goal.at.overflow_add-result-2 c).Else-not-list_operator in omega (arith, h)
@@ -41,8 +30,8 @@ overflow_add-result-3 c = let h = room (goal.at.overflow_add-result-3 c).Else-no
 
 pub returns : goal.returns
 returns c = let a = c.args in
-    let f : c.list_operator.result ≡ true = not-false _ c.if-not-list_operator.false-raw in
-    let edge = c.is_edge.ensures (not-false _ c.if-not-is_edge.false-raw) in
+    let f : c.list_operator.result ≡ true = c.if-not-list_operator.false in
+    let edge = c.is_edge.ensures (c.if-not-is_edge.false) in
     λ job set r z w h.
     let o = operator_as a.o a.attrs.now in
     record {
