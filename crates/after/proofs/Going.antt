@@ -90,7 +90,7 @@ module _ (job attrs : List ℕ) (by : Setting) (o : Operator) (work t p : List �
         → PlaceHolds by job work t p (Inside opened k Resting) q → Comes job attrs by o early page work t p (Inside opened k Resting) q st
         → PlaceHolds by job work t p₁ (Inside i k r) (next (case_at st q).seen.page q)
     rest-keeps {k = k} {st = st} oi f (inside_holds {x = x} e u s h y) z =
-        let room = (passes-unbroken z.earlier z.passes).room in
+        let room = (passes-unbroken z.earlier).room in
         let w : Hatches p₁ x.held x.patterns = record { selects = selects-beside beside s h.selects; session = same ∙ h.session; few = h.few } in
         rest_in x x.busy _ refl (oi ∙ ap (opened_after o.tag) e) u s w y
         (f work k x.held z.sized u (λ b. (z.short b, begin-room by t p job attrs x o b st room)))
@@ -144,7 +144,7 @@ module _ (job attrs : List ℕ) (by : Setting) (o : Operator) (work t p : List �
         z.may in
         let fit : rows_fit by.high job (image_in (picture_as picture)) o.tag (rows_of attrs o.count) ≡ true =
         rw (pv, ← image-is q v) (rw e at z.fits) in
-        let unbroken = passes-unbroken z.earlier z.passes in
+        let unbroken = passes-unbroken z.earlier in
         let at-page : numbers_in p₁ OfPage ≡ defined_after false o.tag v ns = rw (pv, n) at (d.page (rw n few)) in
         let at-session : numbers_in p₁ OfSession ≡ defined_after true o.tag v x.patterns = rw (pv, h.session) at (d.session (rw h.session h.few)) in
         let was : HasPlace ns x.patterns v = rw h.session at place in

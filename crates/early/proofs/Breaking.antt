@@ -1,5 +1,6 @@
 -- The rules of motifs and their names, and of places for patterns, by the operator's tag.
 -- Assumes nothing.
+use Rattle.std.specs.Prelude.{Result, Some, None, Ok, Err}
 use Prim.Native.Nat.{ℕ, ◌+◌, ◌≤◌, ◌<◌}
 use mathlib.Core.Path.{◌≡◌, refl, sym, ap, ◌∙◌}
 use mathlib.Core.Bool.{Bool, true, false, ◌&&◌, ◌||◌}
@@ -24,7 +25,6 @@ use Rattle.pattern_rows.specs.Numbers.{OfPage, OfSession, OfMotif, numbers_in, c
 use Rattle.patterns.specs.Selects.{selects_in, wants_from}
 use Rattle.motif.specs.Held.{Finds, finds_at, finds_none}
 use Rattle.motif.specs.Stored.{full}
-use Rattle.std.specs.Prelude.{Some, None, Ok, Err}
 use Rattle.scope.proofs.Placed.{motif-placed}
 use Rattle.calls.specs.Judged.{Calls, calls_sum, calls_missing, calls_again, calls_deep}
 use Rattle.calls.specs.declared.calls.Called.{Called}
@@ -37,36 +37,43 @@ use Rattle.early.proofs.Places.{taken, few-free, again-free, new-taken, place_ot
 use Rattle.early.proofs.Wanting.{call-wants}
 use Rattle.early.specs.Hatched.{Hatched}
 use Rattle.early.specs.Earlier.{Earlies, EarliesIn, early_fine, early_call, early_held, early_no}
-use Rattle.early.specs.declared.early.Early.TheVariants.{Fine, Call, Held, No}
+use Rattle.early.specs.declared.early.Early.{Early}
+use Rattle.early.specs.declared.early.Early.TheVariants.{Fine, Call, Held}
+use Rattle.early.specs.declared.early.Refusal.{Refusal as CodeRefusal}
 use Rattle.summary.specs.Sums.{SumsAs}
 use Rattle.early.proofs.Full.{first-not, few-full, held-full, new-full}
 
+-- a refusal that is not inside a motif
+abbrev pub no : ℕ → Result Early CodeRefusal
+no code = Err (record { code = code; place = outer })
+
 module _ (t p : List ℕ) (c : Case) where
-  no-19 : too_much c ≡ true → Earlies t p c (No 19 outer)
+  no-19 : too_much c ≡ true → Earlies t p c (no 19)
   unfolding first_broken early
-  no-19 e = early_no {code = 19} {inner = outer} (λ rest. rw e) (omega arith)
+  no-19 e = early_no (λ rest. rw e) (omega arith)
 
-  no-33 : too_much c ≡ false → no_place c ≡ true → Earlies t p c (No 33 outer)
+  no-33 : too_much c ≡ false → no_place c ≡ true → Earlies t p c (no 33)
   unfolding first_broken early
-  no-33 a e = early_no {code = 33} {inner = outer} (λ rest. rw (a, e)) (omega arith)
+  no-33 a e = early_no (λ rest. rw (a, e)) (omega arith)
 
-  no_own : {code inner : ℕ} → too_much c ≡ false → no_place c ≡ false → c.made ≡ faulty code inner → inner < 4_294_967_296 → Earlies t p c (No code inner)
+  no_own : {code inner : ℕ} → too_much c ≡ false → no_place c ≡ false → c.made ≡ faulty code inner → inner < 4_294_967_296
+      → Earlies t p c (Err (record { code = code; place = inner }))
   unfolding first_broken early
-  no_own {code} {inner} a f e l = early_no {code = code} {inner = inner} (λ rest. rw (a, f, e)) l
+  no_own a f e l = early_no (λ rest. rw (a, f, e)) l
 
   -- a call that is refused
   module _ (a : too_much c ≡ false) (f : no_place c ≡ false) (s : (r : Refusal) → own_or c.made r ≡ r) where
-    no-21 : c.met.missing ≡ true → Earlies t p c (No 21 outer)
+    no-21 : c.met.missing ≡ true → Earlies t p c (no 21)
     unfolding first_broken early name_missing
-    no-21 e = early_no {code = 21} {inner = outer} (λ rest. rw (a, f) (s _ ∙ rw e)) (omega arith)
+    no-21 e = early_no (λ rest. rw (a, f) (s _ ∙ rw e)) (omega arith)
 
-    no-32 : c.met.missing ≡ false → c.met.again ≡ true → Earlies t p c (No 32 outer)
+    no-32 : c.met.missing ≡ false → c.met.again ≡ true → Earlies t p c (no 32)
     unfolding first_broken early name_missing calls_itself
-    no-32 m e = early_no {code = 32} {inner = outer} (λ rest. rw (a, f) (s _ ∙ rw (m, e))) (omega arith)
+    no-32 m e = early_no (λ rest. rw (a, f) (s _ ∙ rw (m, e))) (omega arith)
 
-    no-22 : c.met.missing ≡ false → c.met.again ≡ false → c.met.deep ≡ true → Earlies t p c (No 22 outer)
+    no-22 : c.met.missing ≡ false → c.met.again ≡ false → c.met.deep ≡ true → Earlies t p c (no 22)
     unfolding first_broken early name_missing calls_itself too_deep
-    no-22 m g e = early_no {code = 22} {inner = outer} (λ rest. rw (a, f) (s _ ∙ rw (m, g, e))) (omega arith)
+    no-22 m g e = early_no (λ rest. rw (a, f) (s _ ∙ rw (m, g, e))) (omega arith)
 
   much : (k l : Bool) → eqb c.op.tag 0x5b ≡ k → eqb c.op.tag 0x5c ≡ l
       → too_much c
@@ -79,7 +86,7 @@ module _ (t p : List ℕ) (c : Case) where
 
   -- an operator that these rules do not speak of
   other-fine : (c.op.tag ≡ 0x5b → ⊥) → (c.op.tag ≡ 0x5c → ⊥) → (c.op.tag ≡ 0x5d → ⊥) → (c.op.tag ≡ 0x5e → ⊥) → (c.op.tag ≡ 0xb3 → ⊥)
-      → c.made ≡ valid [] → c.met ≡ nothing → Earlies t p c Fine
+      → c.made ≡ valid [] → c.met ≡ nothing → Earlies t p c (Ok Fine)
   other-fine b r d e h m n =
       early_fine (ne_eqb c.op.tag 0x5e e) (ne_eqb c.op.tag 0x5d d)
       (record { room = much false false (ne_eqb c.op.tag 0x5b b) (ne_eqb c.op.tag 0x5c r); place = place_other c h; sound = sound-valid m; met = n })
@@ -103,7 +110,7 @@ module _ (set : Setting) (t p job attrs : List ℕ) (x : Session) (o : Operator)
   met-other st h = rw (ne_eqb o.tag 0x5e h)
 
   pub fine-in : (o.tag ≡ 0x5b → ⊥) → (o.tag ≡ 0x5c → ⊥) → (o.tag ≡ 0x5d → ⊥) → (o.tag ≡ 0x5e → ⊥) → (o.tag ≡ 0xb3 → ⊥)
-      → EarliesIn set t p job attrs x o Fine
+      → EarliesIn set t p job attrs x o (Ok Fine)
   unfolding EarliesIn case_of
   fine-in b r d e h = λ st. other-fine t p (of-it st) b r d e h (made_other st d) (met-other st e)
 
@@ -114,7 +121,7 @@ module _ (set : Setting) (t p job attrs : List ℕ) (x : Session) (o : Operator)
 
   -- an operator of which but 19 and 33 are to be judged
   room-fine : (o.tag ≡ 0x5d → ⊥) → (o.tag ≡ 0x5e → ⊥) → ((st : State) → too_much (of-it st) ≡ false)
-      → ((st : State) → no_place (of-it st) ≡ false) → EarliesIn set t p job attrs x o Fine
+      → ((st : State) → no_place (of-it st) ≡ false) → EarliesIn set t p job attrs x o (Ok Fine)
   unfolding EarliesIn case_of
   room-fine d e f h = λ st.
       early_fine (ne_eqb o.tag 0x5e e) (ne_eqb o.tag 0x5d d)
@@ -127,7 +134,7 @@ module _ (set : Setting) (t p job attrs : List ℕ) (x : Session) (o : Operator)
         let nr : o.tag ≡ 0x5c → ⊥ = λ y. omega arith in
         much t p (of-it st) true false (eq-eqb o.tag 0x5b b) (ne_eqb o.tag 0x5c nr)
 
-    begin-fine : full x.held named ≡ false → EarliesIn set t p job attrs x o Fine
+    begin-fine : full x.held named ≡ false → EarliesIn set t p job attrs x o (Ok Fine)
     begin-fine f =
         let ne : o.tag ≡ 0x5e → ⊥ = λ y. omega arith in
         let nd : o.tag ≡ 0x5d → ⊥ = λ y. omega arith in
@@ -138,14 +145,14 @@ module _ (set : Setting) (t p job attrs : List ℕ) (x : Session) (o : Operator)
     begin-room st f = first-not _ (sym (much-begin st) ∙ f)
 
     -- BeginStream with a row left, and by what a search for its name finds
-    pub begin-few : {n : ℕ} → length x.held ≡ n → n < 64 → EarliesIn set t p job attrs x o Fine
+    pub begin-few : {n : ℕ} → length x.held ≡ n → n < 64 → EarliesIn set t p job attrs x o (Ok Fine)
     begin-few l h = begin-fine (few-full x.held named (rw l h))
 
-    pub begin-at : {name : List ℕ} {i : ℕ} → name ≡ named → Finds x.held name (Some i) → EarliesIn set t p job attrs x o Fine
+    pub begin-at : {name : List ℕ} {i : ℕ} → name ≡ named → Finds x.held name (Some i) → EarliesIn set t p job attrs x o (Ok Fine)
     begin-at e (finds_at f r) = begin-fine (held-full x.held named (rw e at f))
 
     pub begin-nowhere : {name : List ℕ} {n : ℕ} → length x.held ≡ n → 64 ≤ n → name ≡ named → Finds x.held name None
-        → EarliesIn set t p job attrs x o (No 19 outer)
+        → EarliesIn set t p job attrs x o (no 19)
     unfolding EarliesIn
     begin-nowhere l h e (finds_none f) =
         let w : full x.held named ≡ true = new-full x.held named (rw l h) (rw e at f) in
@@ -163,11 +170,11 @@ module _ (set : Setting) (t p job attrs : List ℕ) (x : Session) (o : Operator)
     read-few st f = ltb-false _ _ (sym (much-read st) ∙ f)
 
     -- ReadStream
-    pub read_past : 16384 < bytes_held x.held + (length (joined_of x.busy) + o.length) → EarliesIn set t p job attrs x o (No 19 outer)
+    pub read_past : 16384 < bytes_held x.held + (length (joined_of x.busy) + o.length) → EarliesIn set t p job attrs x o (no 19)
     unfolding EarliesIn
     read_past h = λ st. no-19 t p (of-it st) (much-read st ∙ lt-ltb _ _ h)
 
-    pub read-room : bytes_held x.held + (length (joined_of x.busy) + o.length) ≤ 16384 → EarliesIn set t p job attrs x o Fine
+    pub read-room : bytes_held x.held + (length (joined_of x.busy) + o.length) ≤ 16384 → EarliesIn set t p job attrs x o (Ok Fine)
     read-room h =
         let ne : o.tag ≡ 0x5e → ⊥ = λ y. omega arith in
         let nd : o.tag ≡ 0x5d → ⊥ = λ y. omega arith in
@@ -199,7 +206,7 @@ module _ (set : Setting) (t p job attrs : List ℕ) (x : Session) (o : Operator)
 
     -- ExecStream by what a call comes to
     pub exec_sum : {r name : List ℕ} {m : Called} → Hatched r x → name ≡ named
-        → Calls (numbers_in r OfPage) (numbers_in r OfSession) x.held name (Ok m) → EarliesIn set t p job attrs x o (Call m.sum m.bare)
+        → Calls (numbers_in r OfPage) (numbers_in r OfSession) x.held name (Ok m) → EarliesIn set t p job attrs x o (Ok (Call m.sum m.bare))
     unfolding EarliesIn case_of
     exec_sum {r} {m = m} h e (calls_sum k s w) =
         let n : met x.held 32 [] named ≡ nothing = rw e at k in
@@ -208,7 +215,7 @@ module _ (set : Setting) (t p job attrs : List ℕ) (x : Session) (o : Operator)
         λ st. early_call (eq-eqb o.tag 0x5e b) q (z ∙ missing-call h st)
         (record { room = exec_much st; place = exec_place st; sound = exec_sound st; met = met-call st ∙ n })
 
-    pub exec_no : {u w name : List ℕ} {code : Code} → name ≡ named → Calls u w x.held name (Err code) → EarliesIn set t p job attrs x o (No (number_of code) outer)
+    pub exec_no : {u w name : List ℕ} {code : Code} → name ≡ named → Calls u w x.held name (Err code) → EarliesIn set t p job attrs x o (no (number_of code))
     unfolding EarliesIn
     exec_no e (calls_missing m) =
         λ st. no-21 t p (of-it st) (exec_much st) (exec_place st) (exec_sound st) (ap (λ (y : Met). y.missing) (met-call st) ∙ (rw e at m))
@@ -229,20 +236,20 @@ module _ (set : Setting) (t p job attrs : List ℕ) (x : Session) (o : Operator)
     unfolding case_of
     pattern-place st = place-begin (of-it st) b ∙ rw (← e, q)
 
-    pattern-fine : taken ns h.number ≡ false → EarliesIn set t p job attrs x o Fine
+    pattern-fine : taken ns h.number ≡ false → EarliesIn set t p job attrs x o (Ok Fine)
     pattern-fine f =
         let ne : o.tag ≡ 0x5e → ⊥ = λ y. omega arith in
         let nd : o.tag ≡ 0x5d → ⊥ = λ y. omega arith in
         room-fine nd ne pattern-much (λ st. pattern-place st ∙ f)
 
     -- with a place left, of a number that is defined already, and of a new one with no place left
-    pub pattern-few : length ns < 32 → EarliesIn set t p job attrs x o Fine
+    pub pattern-few : length ns < 32 → EarliesIn set t p job attrs x o (Ok Fine)
     pattern-few l = pattern-fine (few-free ns h.number l)
 
-    pub pattern-again : among ns h.number ≡ true → EarliesIn set t p job attrs x o Fine
+    pub pattern-again : among ns h.number ≡ true → EarliesIn set t p job attrs x o (Ok Fine)
     pattern-again f = pattern-fine (again-free ns h.number f)
 
-    pub pattern-new : 32 ≤ length ns → among ns h.number ≡ false → EarliesIn set t p job attrs x o (No 33 outer)
+    pub pattern-new : 32 ≤ length ns → among ns h.number ≡ false → EarliesIn set t p job attrs x o (no 33)
     unfolding EarliesIn
     pattern-new l f = λ st. no-33 t p (of-it st) (pattern-much st) (pattern-place st ∙ new-taken ns h.number l f)
 
@@ -259,7 +266,7 @@ module _ (set : Setting) (t p job attrs : List ℕ) (x : Session) (o : Operator)
 
     -- EndStream of a valid motif, with what it selects
     valid-held : {made : Made} (m : Judged) → motif_of set (joined_of x.busy) ≡ m → Judges t x.held (Valid made) m
-        → ((ops : List Own) → m ≡ valid ops → numbers_in p OfMotif ≡ collected (selects_in ops)) → EarliesIn set t p job attrs x o (Held made)
+        → ((ops : List Own) → m ≡ valid ops → numbers_in p OfMotif ≡ collected (selects_in ops)) → EarliesIn set t p job attrs x o (Ok (Held made))
     unfolding EarliesIn case_of
     valid-held m e (judges_valid {ops = ops} k) f =
         let ne : o.tag ≡ 0x5e → ⊥ = λ y. omega arith in
@@ -267,7 +274,7 @@ module _ (set : Setting) (t p job attrs : List ℕ) (x : Session) (o : Operator)
         (record { room = ends-free st; place = ends-place st; sound = sound-valid t p (of-it st) (made-end st ∙ e); met = met-other st ne })
 
     pub end-valid : {s : List ℕ} {made : Made} → s ≡ joined_of x.busy → Judges t x.held (Valid made) (motif_of set s)
-        → ((ops : List Own) → motif_of set s ≡ valid ops → numbers_in p OfMotif ≡ collected (selects_in ops)) → EarliesIn set t p job attrs x o (Held made)
+        → ((ops : List Own) → motif_of set s ≡ valid ops → numbers_in p OfMotif ≡ collected (selects_in ops)) → EarliesIn set t p job attrs x o (Ok (Held made))
     end-valid e h f = valid-held _ refl (rw e at h) (rw e at f)
 
     faulty-is : {ms : List Motif} {code place : ℕ} {m : Judged} → Judges t ms (Faulty code place) m → m ≡ faulty code place
@@ -275,7 +282,7 @@ module _ (set : Setting) (t p job attrs : List ℕ) (x : Session) (o : Operator)
 
     -- EndStream of a faulty one: its place lies within it
     pub end-faulty : {s : List ℕ} {code place : ℕ} → s ≡ joined_of x.busy → length s ≤ 16384 → Judges t x.held (Faulty code place) (motif_of set s)
-        → EarliesIn set t p job attrs x o (No code place)
+        → EarliesIn set t p job attrs x o (Err (record { code = code; place = place }))
     unfolding EarliesIn
     end-faulty {s} {code} {place} e l h =
         let f : motif_of set s ≡ faulty code place = faulty-is h in

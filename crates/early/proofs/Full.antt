@@ -1,5 +1,6 @@
 -- Where none of the rules of motifs is broken the others decide; and whether there is a row for one motif more.
 -- Assumes nothing.
+use Rattle.std.specs.Prelude.{Ok}
 use Prim.Native.Nat.{ℕ, ◌≤◌, ◌<◌}
 use mathlib.Core.Path.{◌≡◌, refl, ap, ◌∙◌}
 use mathlib.Core.Bool.{Bool, true, false, ◌&&◌, ◌||◌}
@@ -10,12 +11,11 @@ use borrow.Author.Tests.{le-leb, lt-leb}
 use Rattle.scope.specs.Motif as scope_motif
 use Rattle.scope.specs.Motif.{Motif, held_as, is_held}
 use Rattle.scope.specs.Choice.{pick}
-use Rattle.scope.specs.Calls.{Met, met, nothing}
+use Rattle.scope.specs.Calls.{Met, nothing}
 use Rattle.scope.specs.Judge.{Case, Rule, Refusal, refused, outer, first_broken, name_missing, calls_itself, too_deep, early}
 use Rattle.motif.specs.Stored.{full}
 use Rattle.scope.specs.Verdict.{every}
-use Rattle.early.specs.Earlier.{Passes, before, Unbroken, Earlies, early_fine, early_call, early_held, early_no}
-use Rattle.early.specs.declared.early.Early.TheVariants.{Held}
+use Rattle.early.specs.Earlier.{before, Unbroken, Earlies, early_fine, early_call, early_held}
 use Rattle.early.specs.declared.early.Early.{Early}
 
 -- where a call meets nothing, the three rules of calls are not broken
@@ -30,11 +30,10 @@ unfolding first_broken early name_missing calls_itself too_deep
 unbroken_first {c = c} u rest = rw (u.room, u.place) (u.sound _ ∙ quiet c u.met _)
 
 -- what passes is not broken
-pub passes-unbroken : {t p : List ℕ} {c : Case} {e : Early} → Earlies t p c e → Passes e → Unbroken c
-passes-unbroken (early_fine a b u) z = u
-passes-unbroken (early_call a b d u) z = u
-passes-unbroken (early_held a m k n u) z = u
-passes-unbroken (early_no f l) z = absurd z
+pub passes-unbroken : {t p : List ℕ} {c : Case} {e : Early} → Earlies t p c (Ok e) → Unbroken c
+passes-unbroken (early_fine a b u) = u
+passes-unbroken (early_call a b d u) = u
+passes-unbroken (early_held a m k n u) = u
 
 pub first-not : (t : Bool) → t || false ≡ false → t ≡ false
 first-not true e = e

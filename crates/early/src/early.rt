@@ -29,17 +29,23 @@ use reader::Operator;
 use setting::Setting;
 use within::{Judged, Made};
 
-// Inner, unless said otherwise.
+// The place of a refusal is that inside the motif that ends, which is the inner position of the verdict; any other refusal has this.
 pub const OUTER: usize = 4_294_967_295;
 
-// None of these rules is broken (of a call with its motif's summary, and whether a pattern that is selected there is not defined; of EndStream with what is noted
-// of the motif); or a code and an inner position.
+// A refusal: the code of the rule that is broken, and where.
+#[derive(Clone, Copy)]
+pub struct Refusal {
+    pub code: u32,
+    pub place: usize,
+}
+
+// What an operator that breaks none of these rules goes on with: a call with its motif's summary, and whether a pattern that is selected there is not defined;
+// EndStream with what is noted of the motif.
 #[derive(Clone, Copy)]
 pub enum Early {
     Fine,
     Call(usize, bool),
     Held(Made),
-    No(u32, usize),
 }
 
 // BeginStream: 19 for a new name with 64 held.
@@ -49,19 +55,22 @@ fn begin_stream(
     attrs: &[usize; 80],
     held: usize,
     o: Operator,
-) -> Early
+) -> Result<Early, Refusal>
     ensures { (set : setting_of) (p : List ℕ) (x : Session) → Keeps motifs.now held x.held → Sized attrs.now o.count
         → o.tag ≡ 0x5b → EarliesIn set motifs.now p job.now attrs.now x o result }
 {
     if held < MOTIFS_MOST {
-        return Early::Fine;
+        return Ok(Early::Fine);
     }
     let name = key::name_in(job, attrs, o.count);
     let first = name.first;
     let count = name.count;
     match motif::find(motifs, held, &job[first..first + count]) {
-        Some(_) => Early::Fine,
-        None => Early::No(19, OUTER),
+        Some(_) => Ok(Early::Fine),
+        None => Err(Refusal {
+            code: 19,
+            place: OUTER,
+        }),
     }
 }
 
@@ -72,32 +81,28 @@ fn resting_early(
     attrs: &[usize; 80],
     held: usize,
     o: Operator,
-) -> Early
+) -> Result<Early, Refusal>
     ensures { (set : setting_of) (p : List ℕ) (x : Session) → Keeps motifs.now held x.held → Sized attrs.now o.count
         → may_come in_session x.opened o.tag ≡ true → EarliesIn set motifs.now p job.now attrs.now x o result }
 {
     if o.tag == BEGIN_STREAM {
         return begin_stream(job, motifs, attrs, held, o);
     }
-    Early::Fine
+    Ok(Early::Fine)
 }
 
 // ReadStream: 19 past 16,384 bytes, a motif that is being replaced among them.
-fn read_stream(used: usize, joined: usize, o: Operator) -> Early
+fn read_stream(used: usize, joined: usize, o: Operator) -> Result<Early, Refusal>
     ensures { (set : setting_of) (t p job attrs : List ℕ) (x : Session) → used ≡ bytes_held x.held → joined ≡ length (joined_of x.busy)
         → used + joined ≤ 16384 → o.tag ≡ 0x5c → EarliesIn set t p job attrs x o result }
 {
-    let length = o.length;
-    if STORE_MOST < used {
-        return Early::No(19, OUTER);
+    if STORE_MOST.saturating_sub(used).saturating_sub(joined) < o.length {
+        return Err(Refusal {
+            code: 19,
+            place: OUTER,
+        });
     }
-    if STORE_MOST - used < joined {
-        return Early::No(19, OUTER);
-    }
-    if STORE_MOST - used - joined < length {
-        return Early::No(19, OUTER);
-    }
-    Early::Fine
+    Ok(Early::Fine)
 }
 
 // EndStream: a faulty motif gives its own code, and the position inside it; what a valid one selects is kept.
@@ -108,7 +113,7 @@ fn end_stream(
     patterns: &mut [u16; 4487],
     kept: Kept,
     joined: usize,
-) -> Early
+) -> Result<Early, Refusal>
     ensures others { Others patterns.old OfMotif patterns.new }
     ensures patterns_unchanged { selecting_in patterns.new ≡ selecting_in patterns.old }
     ensures by_index { (job attrs : List ℕ) (x : Session) (o : Operator) → Keeps motifs.now kept.held x.held
@@ -117,19 +122,19 @@ fn end_stream(
         → EarliesIn (setting_as set) motifs.now patterns.new job attrs x o result }
 {
     let used = kept.used;
-    if work.len() < used {
-        return Early::No(19, OUTER);
-    }
-    if work.len() - used < joined {
-        return Early::No(19, OUTER);
+    if work.len() < used || work.len() - used < joined {
+        return Err(Refusal {
+            code: 19,
+            place: OUTER,
+        });
     }
     let mut own = [0u16; 66];
     match stream::judge_noting(&work[used..used + joined], set, motifs, kept.held, &mut own) {
         Judged::Valid(made) => {
             patterns::take_own(patterns, &own);
-            Early::Held(made)
+            Ok(Early::Held(made))
         }
-        Judged::Faulty(code, place) => Early::No(code, place),
+        Judged::Faulty(code, place) => Err(Refusal { code, place }),
     }
 }
 
@@ -142,7 +147,7 @@ fn reading_early(
     kept: Kept,
     joined: usize,
     o: Operator,
-) -> Early
+) -> Result<Early, Refusal>
     ensures others { Others patterns.old OfMotif patterns.new }
     ensures patterns_unchanged { selecting_in patterns.new ≡ selecting_in patterns.old }
     ensures by_index { (job attrs : List ℕ) (x : Session) (first count : ℕ) → Stored (setting_as set) work.now motifs.now kept x.held
@@ -157,7 +162,12 @@ fn reading_early(
 }
 
 // ExecStream of a name: what a call of it comes to, from the tables alone.
-fn exec_stream(motifs: &[usize; 704], patterns: &mut [u16; 4487], held: usize, name: &[u8]) -> Early
+fn exec_stream(
+    motifs: &[usize; 704],
+    patterns: &mut [u16; 4487],
+    held: usize,
+    name: &[u8],
+) -> Result<Early, Refusal>
     ensures same_rows { SameRows patterns.old patterns.new }
     ensures selects { (x : Session) → Tables motifs.now held x.held → Selects patterns.old x.held
         → Hatched patterns.old x → Selects patterns.new x.held }
@@ -166,8 +176,11 @@ fn exec_stream(motifs: &[usize; 704], patterns: &mut [u16; 4487], held: usize, n
         → name.now ≡ bytes_in job (rows_of attrs o.count) 139 → o.tag ≡ 0x5e → EarliesIn set motifs.now p job attrs x o result }
 {
     match calls::call_of(motifs, patterns, held, name) {
-        Ok(called) => Early::Call(called.sum, called.bare),
-        Err(code) => Early::No(code.number(), OUTER),
+        Ok(called) => Ok(Early::Call(called.sum, called.bare)),
+        Err(code) => Err(Refusal {
+            code: code.number(),
+            place: OUTER,
+        }),
     }
 }
 
@@ -180,7 +193,7 @@ fn drawing_early(
     attrs: &[usize; 80],
     held: usize,
     o: Operator,
-) -> Early
+) -> Result<Early, Refusal>
     ensures same_rows { SameRows patterns.old patterns.new }
     ensures selects { (x : Session) → Tables motifs.now held x.held → Selects patterns.old x.held
         → Hatched patterns.old x → Selects patterns.new x.held }
@@ -193,7 +206,7 @@ fn drawing_early(
         return begin_pattern(job, set, patterns, attrs, o);
     }
     if o.tag != EXEC_STREAM {
-        return Early::Fine;
+        return Ok(Early::Fine);
     }
     let name = key::name_in(job, attrs, o.count);
     let first = name.first;
@@ -212,7 +225,7 @@ fn inside_early(
     kept: Kept,
     busy: Busy,
     o: Operator,
-) -> Early
+) -> Result<Early, Refusal>
     ensures other_rows { OtherRows patterns.old OfMotif patterns.new }
     ensures patterns_unchanged { selecting_in patterns.new ≡ selecting_in patterns.old }
     ensures selects { (x : Session) → Stored (setting_as set) work.now motifs.now kept x.held
@@ -242,7 +255,7 @@ pub fn early_of(
     attrs: &[usize; 80],
     place: Place,
     o: Operator,
-) -> Early
+) -> Result<Early, Refusal>
     ensures other_rows { OtherRows patterns.old OfMotif patterns.new }
     ensures patterns_unchanged { selecting_in patterns.new ≡ selecting_in patterns.old }
     ensures place_holds { (q : scope.Place)
@@ -255,7 +268,7 @@ pub fn early_of(
         → Earlies motifs.now patterns.new (case_of (setting_as set) job.now st (session_of q) (operator_as o attrs.now)) result }
 {
     match place {
-        Place::Outside(_) => Early::Fine,
+        Place::Outside(_) => Ok(Early::Fine),
         Place::Inside(_, kept, busy) => {
             inside_early(job, set, work, motifs, patterns, attrs, kept, busy, o)
         }

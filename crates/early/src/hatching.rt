@@ -8,7 +8,7 @@ ghost use Rattle.pattern_rows.specs.Numbers.{OfPage, OfSession};
 ghost use Rattle.early.specs.Earlier.{EarliesIn};
 ghost use Rattle.early.specs.Hatched.{Hatched};
 
-use crate::early::{Early, OUTER};
+use crate::early::{Early, OUTER, Refusal};
 use names::limits::PATTERNS_MOST;
 use reader::Operator;
 use setting::Setting;
@@ -19,9 +19,10 @@ fn row_of(session: bool) -> usize
     ensures value { result ≡ pick session OfSession OfPage }
 {
     if session {
-        return pattern_rows::SESSION;
+        pattern_rows::SESSION
+    } else {
+        pattern_rows::PAGE
     }
-    pattern_rows::PAGE
 }
 
 // BeginRastPattern: 33 for a new number with 32 defined at its persistence.
@@ -31,17 +32,19 @@ pub fn begin_pattern(
     patterns: &[u16; 4487],
     attrs: &[usize; 80],
     o: Operator,
-) -> Early
+) -> Result<Early, Refusal>
     ensures { (t p : List ℕ) (x : Session) → Hatched patterns.now x → Sized attrs.now o.count → o.tag ≡ 0xb3
         → EarliesIn (setting_as set) t p job.now attrs.now x o result }
 {
     let hatch = order::hatch_of(job, set.high, attrs, o.count);
     let row = row_of(hatch.session);
-    if pattern_rows::count(patterns, row) < PATTERNS_MOST {
-        return Early::Fine;
+    if pattern_rows::count(patterns, row) < PATTERNS_MOST
+        || pattern_rows::has(patterns, row, hatch.number)
+    {
+        return Ok(Early::Fine);
     }
-    if pattern_rows::has(patterns, row, hatch.number) {
-        return Early::Fine;
-    }
-    Early::No(33, OUTER)
+    Err(Refusal {
+        code: 33,
+        place: OUTER,
+    })
 }

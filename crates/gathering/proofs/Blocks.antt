@@ -22,7 +22,6 @@ use Rattle.place.specs.Places.{Hatches, BusyHolds, reading_holds, PlaceHolds, in
 use Rattle.gathering.specs.Block.{Joined, Joins}
 use Rattle.gathering.specs.Afterwards.{Comes, After}
 use Rattle.early.specs.declared.early.Early.{Early}
-use Rattle.place.specs.declared.place.Busy.{Busy}
 use Rattle.place.specs.declared.place.Busy.TheVariants.{Reading}
 use Rattle.place.specs.declared.place.Place.{Place}
 use Rattle.place.specs.declared.place.Place.TheVariants.{Inside}
@@ -68,7 +67,7 @@ module _ (job attrs : List ℕ) (by : Setting) (o : Operator) (work t p : List �
         → Comes job attrs by o early page work t p (Inside i k (Reading a l j)) q st
         → PlaceHolds by job work₁ t p (Inside i k (Reading a l r)) (next (case_at st q).seen.page q)
     block-keeps q st f (inside_holds {x = x} e u s h y) z =
-        let l = block_room x st x.busy refl s.used y (passes-unbroken z.earlier z.passes).room in
+        let l = block_room x st x.busy refl s.used y (passes-unbroken z.earlier).room in
         block_in x _ x.busy refl e u s h y l z.within (f z.room z.within l)
 
     pub block-after : {early : Early} {page : Page} {i : Bool} {k : Kept} {a l j : ℕ}

@@ -1,5 +1,6 @@
 -- At EndStream the code's place keeps the definitions' place: nothing but a valid motif comes there, and it is held.
 -- Assumes nothing.
+use Rattle.std.specs.Prelude.{Ok}
 use Prim.Native.Nat.{ℕ, ◌+◌, ◌≤◌}
 use mathlib.Core.Path.{◌≡◌, refl, sym, ap, ◌∙◌}
 use mathlib.Core.Bool.{Bool, true, false}
@@ -30,7 +31,7 @@ use Rattle.gathering.specs.Afterwards.{Comes, After}
 use Rattle.within.specs.Judging.{Makes}
 use Rattle.within.specs.declared.inside.Made.{Made}
 use Rattle.early.specs.declared.early.Early.{Early}
-use Rattle.early.specs.declared.early.Early.TheVariants.{Fine, Call, Held, No}
+use Rattle.early.specs.declared.early.Early.TheVariants.{Held}
 use Rattle.place.specs.declared.place.Busy.TheVariants.{Resting, Reading}
 use Rattle.place.specs.declared.place.Place.{Place}
 use Rattle.place.specs.declared.place.Place.TheVariants.{Inside}
@@ -58,26 +59,16 @@ module _ (job attrs : List ℕ) (by : Setting) (o : Operator) (work t p : List �
   unfolding phase_of
   end-tag (inside_holds {x = x} e u s h y) z = end-tag_in x.opened x x.busy refl y z.may
 
-  fine-not : {c : Case} → c.op.tag ≡ 0x5d → Earlies t p c Fine → ⊥
-  fine-not {c} e (early_fine a b u) = eqb-false c.op.tag 0x5d b e
+  -- at EndStream nothing but a motif goes on
+  other-not : {c : Case} {early : Early} → c.op.tag ≡ 0x5d → Earlies t p c (Ok early) → ((made : Made) → early ≡ Held made → ⊥) → ⊥
+  other-not {c} e (early_fine a b u) n = eqb-false c.op.tag 0x5d b e
+  other-not {c} e (early_call a b d u) n = let f = eqb-true c.op.tag 0x5e a in omega arith
+  other-not {c} e (early_held {made = made} a b w y u) n = n made refl
 
-  call-not : {c : Case} {v : ℕ} {w : Bool} → c.op.tag ≡ 0x5d → Earlies t p c (Call v w) → ⊥
-  call-not {c} e (early_call a b d u) = let f = eqb-true c.op.tag 0x5e a in omega arith
-
-  -- at EndStream these answers do not come
-  pub fine-after : {page : Page} {i : Bool} {k : Kept} {a l j : ℕ} {work₁ t₁ p₁ : List ℕ} {r : Place}
-      → After job attrs by o Fine page work t p (Inside i k (Reading a l j)) work₁ t₁ p₁ r
+  pub other-after : {early : Early} {page : Page} {i : Bool} {k : Kept} {a l j : ℕ} {work₁ t₁ p₁ : List ℕ} {r : Place}
+      → ((made : Made) → early ≡ Held made → ⊥) → After job attrs by o early page work t p (Inside i k (Reading a l j)) work₁ t₁ p₁ r
   unfolding case_of
-  fine-after = record { keeps = λ q st h. absurd (fine-not (end-tag h.holds h) h.earlier) }
-
-  pub call-after : {page : Page} {i : Bool} {k : Kept} {v a l j : ℕ} {w : Bool} {work₁ t₁ p₁ : List ℕ} {r : Place}
-      → After job attrs by o (Call v w) page work t p (Inside i k (Reading a l j)) work₁ t₁ p₁ r
-  unfolding case_of
-  call-after = record { keeps = λ q st h. absurd (call-not (end-tag h.holds h) h.earlier) }
-
-  pub no-after : {page : Page} {i : Bool} {k : Kept} {code inner a l j : ℕ} {work₁ t₁ p₁ : List ℕ} {r : Place}
-      → After job attrs by o (No code inner) page work t p (Inside i k (Reading a l j)) work₁ t₁ p₁ r
-  no-after = record { keeps = λ q st h. absurd h.passes }
+  other-after n = record { keeps = λ q st h. absurd (other-not (end-tag h.holds h) h.earlier n) }
 
   made_at : (x : scope.Session) (st : State) {name bytes : List ℕ} → x.busy ≡ scope.reading name bytes → o.tag ≡ 0x5d
       → (case_of by job st x (operator_as o attrs)).made ≡ motif_of by bytes
@@ -106,7 +97,7 @@ module _ (job attrs : List ℕ) (by : Setting) (o : Operator) (work t p : List �
       stored : Stored by work₁ t₁ r (kept_as name bytes (valid ops) ms)
       selected : numbers_in p OfMotif ≡ collected (selects_in ops)
 
-    held_in : {c : Case} (ms : List Motif) (bytes : List ℕ) → c.session.held ≡ ms → c.made ≡ motif_of by bytes → Earlies t p c (Held made)
+    held_in : {c : Case} (ms : List Motif) (bytes : List ℕ) → c.session.held ≡ ms → c.made ≡ motif_of by bytes → Earlies t p c (Ok (Held made))
         → Stored by work t k ms
         → k.used + j ≤ 16384 → 16384 ≤ length work → j ≡ length bytes → take j (drop k.used work) ≡ bytes → IsName name → full ms name ≡ false
         → Becomes ms bytes

@@ -1,6 +1,6 @@
 -- Where the code stands after an operator, and where the definitions stand.
 -- Assumes nothing.
-use Rattle.std.specs.Prelude.{ℕ, ◌+◌, ◌≤◌, ◌≡◌, true, List, length, drop}
+use Rattle.std.specs.Prelude.{ℕ, ◌+◌, ◌≤◌, ◌≡◌, true, List, length, drop, Ok}
 use Rattle.items.specs.Rows.{rows_of, Sized}
 use Rattle.scope.specs.Names.{BeginStream, StreamName}
 use Rattle.scope.specs.Setting.{Setting}
@@ -14,7 +14,7 @@ use Rattle.reader.specs.declared.reading.Operator.{Operator}
 use Rattle.page.specs.Holds.{PageHolds}
 use Rattle.page.specs.declared.page.Page.{Page}
 use Rattle.place.specs.Places.{PlaceHolds}
-use Rattle.early.specs.Earlier.{Earlies, Passes}
+use Rattle.early.specs.Earlier.{Earlies}
 use Rattle.early.specs.declared.early.Early.{Early}
 use Rattle.place.specs.declared.place.Place.{Place}
 
@@ -36,8 +36,7 @@ pub record Comes (job attrs : List ℕ) (set : Setting) (o : Operator) (early : 
   pub may : may_come (phase_of q) (session_of q).opened o.tag ≡ true
   pub fits : rows_fit set.high job (image_of (phase_of q)) o.tag (rows_of attrs o.count) ≡ true
   pub short : o.tag ≡ BeginStream → length (bytes_in job (rows_of attrs o.count) StreamName) ≤ 16
-  pub passes : Passes early
-  pub earlier : Earlies t p (case_of set job st (session_of q) (operator_as o attrs)) early
+  pub earlier : Earlies t p (case_of set job st (session_of q) (operator_as o attrs)) (Ok early)
   pub drawn : PageHolds page (case_of set job st (session_of q) (operator_as o attrs)).seen.page
 
 -- the code's place r, with this work buffer, table and patterns, keeps the definitions' place after the operator

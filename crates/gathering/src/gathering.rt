@@ -33,10 +33,7 @@ fn lies(len: usize, first: usize, count: usize) -> bool
     ensures count_bound { result ≡ true → first + count ≤ len }
     ensures value { first + count ≤ len → result ≡ true }
 {
-    if len < first {
-        return false;
-    }
-    count <= len - first
+    first <= len && count <= len - first
 }
 
 // Whether so many bytes of a job from a place on lie within its length, and there is room for them behind those held and those joined.
@@ -44,16 +41,10 @@ fn fits(len: usize, first: usize, count: usize, used: usize, joined: usize) -> b
     ensures count_bound { result ≡ true → (first + count ≤ len) × (used + joined + count ≤ 16384) }
     ensures value { first + count ≤ len → used + joined + count ≤ 16384 → result ≡ true }
 {
-    if !lies(len, first, count) {
-        return false;
-    }
-    if STORE_MOST < used {
-        return false;
-    }
-    if STORE_MOST - used < joined {
-        return false;
-    }
-    count <= STORE_MOST - used - joined
+    lies(len, first, count)
+        && used <= STORE_MOST
+        && joined <= STORE_MOST - used
+        && count <= STORE_MOST - used - joined
 }
 
 // ReadStream joins its data to what was read of the motif; the answer is how many bytes that makes.
@@ -98,16 +89,12 @@ fn ended(
         → (o.tag ≡ 0x5c → ⊥) → After job attrs (setting_as set) o early page work.old motifs.old patterns.old
         (place_is.Inside opened kept (busy_is.Reading first count joined)) work.new motifs.new patterns.new result }
 {
-    match early {
-        Early::Fine => Place::Outside(false),
-        Early::Call(_, _) => Place::Outside(false),
-        Early::Held(made) => {
-            let after = holding::hold(work, motifs, set, name, kept, joined, made);
-            keep_own(patterns, motifs, after.held, name);
-            Place::Inside(opened, after, Busy::Resting)
-        }
-        Early::No(_, _) => Place::Outside(false),
-    }
+    let Early::Held(made) = early else {
+        return Place::Outside(false);
+    };
+    let after = holding::hold(work, motifs, set, name, kept, joined, made);
+    keep_own(patterns, motifs, after.held, name);
+    Place::Inside(opened, after, Busy::Resting)
 }
 
 // While a motif is read. Its name lies in the job.

@@ -87,9 +87,14 @@ pub fn perform(
         (λ room d. on_read every (setting_as set) job.now room d (operator (operator_as o attrs.now))) }
 {
     let place = st.place;
-    let early = early::early_of(job, set, work, motifs, patterns, attrs, place, o);
+    let early = match early::early_of(job, set, work, motifs, patterns, attrs, place, o) {
+        Ok(early) => early,
+        Err(refusal) => {
+            return ControlFlow::Break(stop(st, refusal.code, o.at, inner_of(refusal)));
+        }
+    };
     match judge(job, set, attrs, patterns, early, place, o, st.performed) {
-        Moved::No(code) => ControlFlow::Break(stop(st, code, o.at, inner_of(early))),
+        Moved::No(code) => ControlFlow::Break(stop(st, code, o.at, OUTER)),
         Moved::To(page, performed) => go_on(
             job,
             set,

@@ -1,6 +1,7 @@
 -- The rules after reading, but for that of the room: what the code finds is the first rule broken.
 -- Assumes nothing.
-use Prim.Native.Nat.{ℕ}
+use Rattle.std.specs.Prelude.{Ok, Err}
+use Prim.Native.Nat.{ℕ, ◌<◌}
 use mathlib.Core.Path.{◌≡◌, refl, sym, ap, ◌∙◌, subst}
 use mathlib.Core.Bool.{Bool, true, false}
 use mathlib.Core.List.{List, [], ◌∷◌, ◌++◌}
@@ -21,11 +22,10 @@ use Rattle.arm.specs.Holds.{Moves, moves_to, moves_no}
 use Rattle.arm.proofs.Rules.{rules-code}
 use Rattle.arm.proofs.Clean.{clean_code}
 use Rattle.arm.specs.declared.moved.Moved.{Moved}
-use Rattle.arm.specs.declared.moved.Moved.TheVariants.{No}
-use Rattle.early.specs.Earlier.{Earlies, Unbroken, early_fine, early_call, early_held, early_no}
+use Rattle.early.specs.Earlier.{Earlies, Unbroken, early_call, early_no}
 use Rattle.early.proofs.Full.{unbroken_first}
 use Rattle.early.specs.declared.early.Early.TheVariants as early_is
-use Rattle.within.specs.declared.inside.Made.{Made}
+use Rattle.early.specs.declared.early.Refusal.{Refusal as CodeRefusal}
 use Rattle.ruling.specs.Judged.{Judgement, judged_to, judged_no}
 
 -- the row of an operator that is no call, and of a call
@@ -66,20 +66,17 @@ module _ (c : Case) (u : Unbroken c) (bare : Bool) (is : bare ≡ pattern_missin
       go_on (moves_no {k = k} e n) =
           judged_no {code = k} (λ room. by_code room ∙ rw (ne_eqb code 0 (λ z. n (e ∙ z))) (ap (λ x. refused x outer) (sym e)))
 
--- one of the earlier rules is broken
-pub early-judged : (t p : List ℕ) (c : Case) {code inner : ℕ} → Earlies t p c (early_is.No code inner) → Judgement c inner (No code)
+-- one of the earlier rules is broken, and its place fits a verdict
+pub early-refused : {t p : List ℕ} {c : Case} {r : CodeRefusal} → Earlies t p c (Err r) → (room : ℕ) → first_broken every c (rules room) ≡ refused r.code r.place
 unfolding rules
-early-judged t p c (early_no f l) = judged_no (λ room. f (later room))
+early-refused (early_no f l) room = f (later room)
 
-held-call : (tag : ℕ) → eqb tag 0x5d ≡ true → eqb tag 0x5e ≡ false
+pub early-fits : {t p : List ℕ} {c : Case} {r : CodeRefusal} → Earlies t p c (Err r) → r.place < 4_294_967_296
+early-fits (early_no f l) = l
+
+-- EndStream is no call
+pub held-call : (tag : ℕ) → eqb tag 0x5d ≡ true → eqb tag 0x5e ≡ false
 held-call tag e = rw (eqb-true tag 0x5d e) refl
-
--- what the earlier rules tell of an operator that they let pass
-pub fine-call : (t p : List ℕ) (c : Case) → Earlies t p c early_is.Fine → eqb c.op.tag 0x5e ≡ false
-fine-call t p c (early_fine a b u) = a
-
-pub held-no_call : (t p : List ℕ) (c : Case) {made : Made} → Earlies t p c (early_is.Held made) → eqb c.op.tag 0x5e ≡ false
-held-no_call t p c (early_held a b m n u) = held-call c.op.tag a
 
 -- what the arm answers to an operator in the page where the session stands
 module _ (set : Setting) (s : List ℕ) (st : State) (x : Session) (o : Operator) (b : Bool) (n : ℕ) (m : Moved) (opened : b ≡ x.opened) (performed : n ≡ st.performed) where
@@ -93,7 +90,7 @@ module _ (set : Setting) (s : List ℕ) (st : State) (x : Session) (o : Operator
       moved-judged (case_of set s st x o) u bare is (seen_plain set s st x o e)
       (there bare (λ k. walk (record { motif = 0; op = o; act = act_of set s o } ∷ []) (from (page_of x.busy) k)) h)
 
-  pub call-judged : (t p : List ℕ) (v : ℕ) (bare : Bool) → Earlies t p (case_of set s st x o) (early_is.Call v bare)
+  pub call-judged : (t p : List ℕ) (v : ℕ) (bare : Bool) → Earlies t p (case_of set s st x o) (Ok (early_is.Call v bare))
       → ((row : List Stroke) → SumsAs v row → Moves b bare m (walk (record { motif = 0; op = o; act = idle } ∷ row) (from (page_of x.busy) n)))
       → Judgement (case_of set s st x o) outer m
   unfolding case_of

@@ -235,7 +235,6 @@ comes-in job attrs work t p list₀ set d o early page n place h z x w i m =
       may = read-may (context_of every set d.place) job d.at (operator_as o attrs) m.read;
       fits = read-rows (context_of every set d.place) job d.at (operator_as o attrs) m.read;
       short = read_short (context_of every set d.place) job d.at (operator_as o attrs) m.read;
-      passes = m.passes;
       earlier = m.earlier;
       drawn = m.drawn;
     }

@@ -8,15 +8,6 @@ use Rattle.page.specs.Holds.{PageHolds}
 use Rattle.page.specs.declared.page.Page.{Page}
 use Rattle.arm.specs.declared.moved.Moved.{Moved}
 use Rattle.arm.specs.declared.moved.Moved.TheVariants.{To, No}
-use Rattle.early.specs.declared.early.Early.{Early}
-use Rattle.early.specs.declared.early.Early.TheVariants as early_is
-
--- the inner position of a refusal
-abbrev pub inner_of : Early → ℕ
-inner_of early_is.Fine = outer
-inner_of (early_is.Call v b) = outer
-inner_of (early_is.Held made) = outer
-inner_of (early_is.No code inner) = inner
 
 -- no rule but that of the room can be broken, and the page and the number performed are those after the operator; or the first rule broken has this code
 pub data Judgement (c : Case) (inner : ℕ) : Moved → Type 0 where

@@ -1,6 +1,6 @@
 -- What the code keeps of the definition's state, and one step of both.
 -- Assumes nothing.
-use Rattle.std.specs.Prelude.{ℕ, ◌*◌, ◌≤◌, ◌<◌, ◌≡◌, List, [], ◌++◌, length, drop, true, false}
+use Rattle.std.specs.Prelude.{ℕ, ◌*◌, ◌≤◌, ◌<◌, ◌≡◌, List, [], ◌++◌, length, drop, true, false, Ok}
 use Rattle.scope.specs.Setting.{Setting}
 use Rattle.scope.specs.Iterate.{Next, go, stop}
 use Rattle.scope.specs.Choice.{pick}
@@ -11,7 +11,7 @@ use Rattle.scope.specs.Verdict as verdict
 use Rattle.page.specs.Holds.{PageHolds}
 use Rattle.page.specs.declared.page.Page.{Page}
 use Rattle.place.specs.Places.{PlaceHolds}
-use Rattle.early.specs.Earlier.{Earlies, Passes}
+use Rattle.early.specs.Earlier.{Earlies}
 use Rattle.early.specs.declared.early.Early.{Early}
 use Rattle.state.specs.Views.{verdict_as}
 use Rattle.state.specs.declared.verdict.Verdict.{Verdict}
@@ -87,8 +87,7 @@ end_code (session.inside x) = 27
 -- of the motifs held there, and p has what a motif that ends selects
 pub record Comes (t p job list₀ : List ℕ) (set : Setting) (d : scope.State) (o : Operator) (early : Early) (page : Page) (performed : ℕ) : Type 0 where
   pub read : operator_at (scope.context_of verdict.every set d.place) job d.at ≡ Read.operator o
-  pub passes : Passes early
-  pub earlier : Earlies t p (scope.case_of set job d (session.session_of d.place) o) early
+  pub earlier : Earlies t p (scope.case_of set job d (session.session_of d.place) o) (Ok early)
   pub drawn : PageHolds page (scope.case_of set job d (session.session_of d.place) o).seen.page
   pub counts : performed ≡ (scope.case_of set job d (session.session_of d.place) o).seen.count
   pub rules : scope.first_broken verdict.every (scope.case_of set job d (session.session_of d.place) o) (scope.rules (length list₀))

@@ -1,38 +1,23 @@
 -- `early::end_stream` meets its contract: what the motif is judged to, and what was noted meanwhile.
 -- Assumes nothing.
-use Prim.Native.Nat.{◌+◌, ◌-◌}
-use mathlib.Core.Path.{◌≡◌, refl, ◌∙◌}
-use native.Mathlib.Omega.{arith}
+use Rattle.std.proofs.Common.{◌≡◌, refl, ◌∙◌, ◌+◌, ◌-◌, arith}
 use Rattle.setting.specs.Views.{setting_as}
-use Rattle.pattern_rows.specs.Numbers.{OfMotif, numbers_in, numbers_to}
+use Rattle.pattern_rows.specs.Numbers.{numbers_in, numbers_to}
 use Rattle.early.proofs.Parts.{part_same, part-short}
-use Rattle.early.proofs.Places.{unchanged}
 use Rattle.early.proofs.Breaking.{end-valid, end-faulty}
 use Rattle.early.proofs.early.end_stream.Goals as goal
 
-pub returns-then-work-used : goal.returns-then-work-used
-returns-then-work-used c = record { others = unchanged _ OfMotif; patterns_unchanged = refl; by_index = λ job attrs x o k w l e t. absurd (omega arith) }
-
-pub returns-then-work-used-2 : goal.returns-then-work-used-2
-returns-then-work-used-2 c = record { others = unchanged _ OfMotif; patterns_unchanged = refl; by_index = λ job attrs x o k w l e t. absurd (omega arith) }
-
-pub returns-in-Valid : goal.returns-in-Valid
+pub returns-in-Valid-clause-by_index : goal.returns-in-Valid-clause-by_index
 unfolding numbers_in numbers_to
-returns-in-Valid c = let a = c.args in
-    let n : a.kept.used + a.joined - a.kept.used ≡ a.joined = omega arith in record {
-      others = c.take_own.ensures.others;
-      patterns_unchanged = c.take_own.ensures.patterns_unchanged;
-      by_index = λ job attrs x o k w l e t. end-valid (setting_as a.set) a.motifs.now _ job attrs x o t
-          (part_same a.work.now a.kept.used n ∙ e) (rw c.in-Valid.is at (c.judge_noting.ensures.judges x.held k))
-          (λ ops m. c.take_own.ensures.patterns_after ∙ c.judge_noting.ensures.own_after x.held ops k refl m);
-    }
+returns-in-Valid-clause-by_index c = let a = c.args in
+    let n : a.kept.used + a.joined - a.kept.used ≡ a.joined = omega arith in
+    λ job attrs x o k w l e t. end-valid (setting_as a.set) a.motifs.now _ job attrs x o t
+    (part_same a.work.now a.kept.used n ∙ e) (rw c.in-Valid.is at (c.judge_noting.ensures.judges x.held k))
+    (λ ops m. c.take_own.ensures.patterns_after ∙ c.judge_noting.ensures.own_after x.held ops k refl m)
 
-pub returns-in-Faulty : goal.returns-in-Faulty
-returns-in-Faulty c = let a = c.args in
-    let n : a.kept.used + a.joined - a.kept.used ≡ a.joined = omega arith in record {
-      others = unchanged _ OfMotif;
-      patterns_unchanged = refl;
-      by_index = λ job attrs x o k w l e t. end-faulty (setting_as a.set) a.motifs.now a.patterns.now job attrs x o t
-          (part_same a.work.now a.kept.used n ∙ e) (part-short a.work.now a.kept.used n (omega arith))
-          (rw c.in-Faulty.is at (c.judge_noting.ensures.judges x.held k));
-    }
+pub returns-in-Faulty-clause-by_index : goal.returns-in-Faulty-clause-by_index
+returns-in-Faulty-clause-by_index c = let a = c.args in
+    let n : a.kept.used + a.joined - a.kept.used ≡ a.joined = omega arith in
+    λ job attrs x o k w l e t. end-faulty (setting_as a.set) a.motifs.now a.patterns.now job attrs x o t
+    (part_same a.work.now a.kept.used n ∙ e) (part-short a.work.now a.kept.used n (omega arith))
+    (rw c.in-Faulty.is at (c.judge_noting.ensures.judges x.held k))

@@ -5,9 +5,6 @@ use Rattle.early.proofs.Breaking.{fine-in}
 use Rattle.scope.specs.Order.{in_session}
 use Rattle.early.proofs.early.resting_early.Goals as goal
 
-pub returns-then-o-eq-BEGIN_STREAM : goal.returns-then-o-eq-BEGIN_STREAM
-returns-then-o-eq-BEGIN_STREAM c = λ set p x k z m. c.begin_stream.ensures set p x k z c.if-o-eq-BEGIN_STREAM.true
-
 pub returns : goal.returns
 returns c = let a = c.args in
     λ set p x k z m. let n = not-tag in_session x.opened a.o.tag in

@@ -9,7 +9,6 @@ use borrow.Author.Tests.{not-true, not-false}
 use Rattle.reader.specs.Reads.{operator_as}
 use Rattle.items.proofs.Rows.{length-rows}
 use Rattle.ruling.proofs.Turns.{listed-no, listed-go, comes-in, comes-bytes}
-use borrow.Author.Rules.{rules}
 use Rattle.performing.proofs.performing.go_on.Goals as goal
 
 pub returns-then-not-list_operator : goal.returns-then-not-list_operator
