@@ -1,15 +1,11 @@
 -- How the code's page, needs and effects are read as the definitions' ones.
 -- Assumes nothing.
-use Rattle.std.specs.Prelude.{ℕ, zero, suc, ◌/◌, ◌%◌, Bool, true, false, List, [], ◌∷◌, eqb}
+use Rattle.std.specs.Prelude.{ℕ, zero, suc, ◌/◌, ◌%◌, Bool, true, false, List, [], ◌∷◌, eqb, Option, Some, None}
 use Rattle.scope.specs.Arm as scope
-use Rattle.page.specs.declared.page.Mark.{Mark}
-use Rattle.page.specs.declared.page.Mark.TheVariants.{Keep, To}
 use Rattle.page.specs.declared.page.Effect.{Effect}
 use Rattle.page.specs.declared.page.Effect.TheVariants.{Push, Pop, Put}
 use Rattle.page.specs.declared.page.Space.{Space}
 use Rattle.page.specs.declared.page.Space.TheVariants.{Any, Gray, Rgb}
-use Rattle.page.specs.declared.page.Select.{Select}
-use Rattle.page.specs.declared.page.Select.TheVariants.{Nothing, Pattern}
 use Rattle.page.specs.declared.page.Act.{Act}
 use Rattle.page.specs.declared.page.Page.{Page}
 
@@ -30,9 +26,9 @@ abbrev pub page_as : Page → scope.Page
 page_as p = record { cursor = p.cursor; gray = p.gray; saved = stack p.depth p.saved }
 
 -- what becomes of the cursor, or of the colour space
-abbrev pub mark_as : Mark → scope.Mark
-mark_as Keep = scope.kept
-mark_as (To b) = scope.to b
+abbrev pub mark_as : Option Bool → scope.Mark
+mark_as None = scope.kept
+mark_as (Some b) = scope.to b
 
 -- what an operator does
 abbrev pub effect_as : Effect → scope.Effect
@@ -47,9 +43,9 @@ space_as Gray = scope.gray
 space_as Rgb = scope.rgb
 
 -- the pattern that an operator selects, or none
-abbrev pub select_as : Select → scope.Select
-select_as Nothing = scope.no_pattern
-select_as (Pattern n) = scope.pattern n
+abbrev pub select_as : Option ℕ → scope.Select
+select_as None = scope.no_pattern
+select_as (Some n) = scope.pattern n
 
 -- what an operator needs and does
 abbrev pub act_as : Act → scope.Act

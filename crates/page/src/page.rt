@@ -1,8 +1,8 @@
 // The state in a page, and what an operator needs of it and does to it.
 ghost use Rattle.std.specs.Prelude.{◌≡◌, ℕ, ◌≤◌, ◌<◌, min};
-ghost use Rattle.scope.specs.Arm.{done, risen, marked, push, pop, put};
+ghost use Rattle.scope.specs.Arm.{done, risen, push, pop, put};
 ghost use Rattle.scope.specs.Arm.{blank as arm_blank, Page as ArmPage};
-ghost use Rattle.page.specs.Alone.{Pushed, Popped, page_or, Leaves};
+ghost use Rattle.page.specs.Alone.{Pushed, Popped, Leaves};
 ghost use Rattle.page.specs.Holds.{PageHolds};
 ghost use Rattle.page.specs.Views.{bits_of, page_as, mark_as, effect_as};
 
@@ -10,19 +10,12 @@ use counts::higher;
 use names::limits::SAVED_MOST;
 use names::operators::{CLOSE_SUB_PATH, NEW_PATH, PAINT_PATH, POP_GS, PUSH_GS};
 
-// What becomes of the cursor, or of the colour space.
-#[derive(Clone, Copy)]
-pub enum Mark {
-    Keep,
-    To(bool),
-}
-
-// What an operator does: PushGS, PopGS, or cursor (true is set) and colour space (true is gray) put or kept.
+// What an operator does: PushGS, PopGS, or cursor (true is set) and colour space (true is gray) put, or kept where there is none.
 #[derive(Clone, Copy)]
 pub enum Effect {
     Push,
     Pop,
-    Put(Mark, Mark),
+    Put(Option<bool>, Option<bool>),
 }
 
 // The colour space that an operator needs.
@@ -33,20 +26,13 @@ pub enum Space {
     Rgb,
 }
 
-// The pattern that an operator selects, by its number; or none.
-#[derive(Clone, Copy)]
-pub enum Select {
-    Nothing,
-    Pattern(u16),
-}
-
-// What an operator needs, and then does.
+// What an operator needs, and then does; the pattern that it selects stands by its number.
 #[derive(Clone, Copy)]
 pub struct Act {
     pub source: bool,
     pub cursor: bool,
     pub space: Space,
-    pub select: Select,
+    pub select: Option<u16>,
     pub effect: Effect,
 }
 
@@ -57,13 +43,6 @@ pub struct Page {
     pub gray: bool,
     pub depth: u32,
     pub saved: u64,
-}
-
-// The page after an operator that is its tag alone; or another operator, or one that a rule of the page refuses.
-#[derive(Clone, Copy)]
-pub enum Passed {
-    To(Page),
-    No,
 }
 
 // A page as BeginPage starts it.
@@ -88,72 +67,44 @@ fn bits(cursor: bool, gray: bool) -> u64
     }
 }
 
-fn marks(mark: Mark, before: bool) -> bool
-    ensures { result ≡ marked (mark_as mark) before }
-{
-    match mark {
-        Mark::Keep => before,
-        Mark::To(b) => b,
-    }
-}
-
 impl Page {
     // PushGS saves cursor state and colour space; with 24 saved it is refused.
-    fn push(self) -> Passed
+    fn push(self) -> Option<Page>
         ensures { Pushed self result }
     {
-        let depth = self.depth;
-        let saved = self.saved;
-        if SAVED_MOST <= depth {
-            return Passed::No;
+        if SAVED_MOST <= self.depth {
+            return None;
         }
-        Passed::To(Page {
+        Some(Page {
             cursor: self.cursor,
             gray: self.gray,
-            depth: depth + 1,
-            saved: saved % 70_368_744_177_664 * 4 + bits(self.cursor, self.gray),
+            depth: self.depth + 1,
+            saved: self.saved % 70_368_744_177_664 * 4 + bits(self.cursor, self.gray),
         })
     }
 
     // PopGS brings both back; with nothing saved it is refused.
-    fn pop(self) -> Passed
+    fn pop(self) -> Option<Page>
         ensures { Popped self result }
     {
-        let depth = self.depth;
-        let saved = self.saved;
-        if depth == 0 {
-            return Passed::No;
+        if self.depth == 0 {
+            return None;
         }
-        let cursor = saved % 2 == 1;
-        let gray = saved / 2 % 2 == 1;
-        Passed::To(Page {
-            cursor,
-            gray,
-            depth: depth - 1,
-            saved: saved / 4,
+        Some(Page {
+            cursor: self.saved % 2 == 1,
+            gray: self.saved / 2 % 2 == 1,
+            depth: self.depth - 1,
+            saved: self.saved / 4,
         })
     }
 
-    // The page after an operator, or as it was where that is refused.
-    fn or_else(self, after: Passed) -> Page
-        ensures { result ≡ page_or self after }
-    {
-        match after {
-            Passed::To(page) => page,
-            Passed::No => self,
-        }
-    }
-
-    fn put(self, cursor: Mark, gray: Mark) -> Page
+    fn put(self, cursor: Option<bool>, gray: Option<bool>) -> Page
         ensures { page_as result ≡ done (put (mark_as cursor) (mark_as gray)) (page_as self) }
     {
-        let c = marks(cursor, self.cursor);
-        let g = marks(gray, self.gray);
         Page {
-            cursor: c,
-            gray: g,
-            depth: self.depth,
-            saved: self.saved,
+            cursor: cursor.unwrap_or(self.cursor),
+            gray: gray.unwrap_or(self.gray),
+            ..self
         }
     }
 
@@ -162,9 +113,9 @@ impl Page {
         ensures { risen (effect_as effect) (page_as self) 0 ≤ 24 → page_as result ≡ done (effect_as effect) (page_as self) }
     {
         match effect {
-            Effect::Push => self.or_else(self.push()),
-            Effect::Pop => self.or_else(self.pop()),
-            Effect::Put(c, g) => self.put(c, g),
+            Effect::Push => self.push().unwrap_or(self),
+            Effect::Pop => self.pop().unwrap_or(self),
+            Effect::Put(cursor, gray) => self.put(cursor, gray),
         }
     }
 
@@ -180,24 +131,15 @@ impl Page {
     }
 
     // The page after CloseSubPath, NewPath, PaintPath, PushGS or PopGS, where that may come and no rule of the page refuses it.
-    pub fn past(self, tag: u8) -> Passed
+    pub fn past(self, tag: u8) -> Option<Page>
         ensures { (q : ArmPage) → PageHolds self q → Leaves tag q result }
     {
-        if tag == CLOSE_SUB_PATH {
-            return Passed::To(self);
+        match tag {
+            CLOSE_SUB_PATH | PAINT_PATH => Some(self),
+            NEW_PATH => Some(self.put(Some(false), None)),
+            POP_GS => self.pop(),
+            PUSH_GS => self.push(),
+            _ => None,
         }
-        if tag == NEW_PATH {
-            return Passed::To(self.put(Mark::To(false), Mark::Keep));
-        }
-        if tag == PAINT_PATH {
-            return Passed::To(self);
-        }
-        if tag == POP_GS {
-            return self.pop();
-        }
-        if tag == PUSH_GS {
-            return self.push();
-        }
-        Passed::No
     }
 }

@@ -8,11 +8,8 @@ use Rattle.page.proofs.page.Page.done.Goals as goal
 
 pub returns-in-Push : goal.returns-in-Push
 returns-in-Push c = let p = c.args.self in
-    rw (c.in-Push.is, c.or_else.ensures)
+    rw (c.in-Push.is, c.unwrap_or.ensures)
     (λ h. pushed_done p c.push.result c.push.ensures (unfold risen in let l = stack-length p.depth p.saved in omega arith))
 
 pub returns-in-Pop : goal.returns-in-Pop
-returns-in-Pop c = rw (c.in-Pop.is, c.or_else-in-Pop.ensures) (λ h. popped_done c.args.self c.pop.result c.pop.ensures)
-
-pub returns-in-Put : goal.returns-in-Put
-returns-in-Put c = rw c.in-Put.is (λ h. c.put.ensures)
+returns-in-Pop c = rw (c.in-Pop.is, c.unwrap_or-in-Pop.ensures) (λ h. popped_done c.args.self c.pop.result c.pop.ensures)

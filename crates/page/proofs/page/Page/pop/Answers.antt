@@ -7,12 +7,9 @@ use native.Mathlib.Omega.{arith}
 use mathlib.Core.Path.{◌≡◌, refl}
 use Rattle.page.proofs.page.Page.pop.Goals as goal
 
-pub returns-then-depth-eq0 : goal.returns-then-depth-eq0
-returns-then-depth-eq0 c = c.if-depth-eq0.true
-
 pub returns : goal.returns
 unfolding done stack
 returns c = let p = c.args.self in
-    let e : p.depth ≡ suc (p.depth - 1) = omega (arith, c.if-depth-eq0.false) in
+    let e : p.depth ≡ suc (p.depth - 1) = omega (arith, c.if-self-eq0.false) in
     let f : suc (p.depth - 1) - 1 ≡ p.depth - 1 = omega arith in
-    (omega (arith, c.if-depth-eq0.false), rw (e, f) refl)
+    (omega (arith, c.if-self-eq0.false), rw (e, f) refl)

@@ -8,14 +8,11 @@ use native.Mathlib.Omega.{arith}
 use mathlib.Core.Path.{refl}
 use Rattle.page.proofs.page.Page.push.Goals as goal
 
-pub returns-then-depth-ge-SAVED_MOST : goal.returns-then-depth-ge-SAVED_MOST
-returns-then-depth-ge-SAVED_MOST c = c.if-depth-ge-SAVED_MOST.true
-
 pub overflow_add-result-2 : goal.overflow_add-result-2
 overflow_add-result-2 c = omega (arith, c.bits.ensures, bits_small c.args.self.cursor c.args.self.gray)
 
 pub returns : goal.returns
 unfolding done
 returns c = let p = c.args.self in
-    let h : p.depth < 24 = omega (arith, c.if-depth-ge-SAVED_MOST.false) in
+    let h : p.depth < 24 = omega (arith, c.if-self-ge-SAVED_MOST.false) in
     (h, page-eq refl refl (rw c.bits.ensures (stack_push p.depth p.saved p.cursor p.gray h)))
