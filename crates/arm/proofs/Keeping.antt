@@ -13,14 +13,12 @@ use Rattle.scope.specs.Choice.{pick}
 use Rattle.scope.specs.Arm as scope
 use Rattle.scope.specs.Arm.{Effect, push, pop, put, risen, done, clash, step, idle, Stroke, walk, from}
 use Rattle.page.specs.declared.page.Act.{Act}
-use Rattle.page.specs.declared.page.Page.{Page}
 use Rattle.arm.specs.declared.seen.Seen.{Seen}
 use Rattle.summary.specs.declared.summary.Summary.{Summary}
-use Rattle.arm.specs.declared.moved.Moved.TheVariants.{To, No}
+use Rattle.std.specs.Prelude.{Ok}
 use Rattle.page.specs.Views.{page_as, act_as}
 use Rattle.arm.specs.Codes.{code_of}
-use Rattle.page.specs.Holds.{PageHolds}
-use Rattle.arm.specs.Holds.{Exact, Holds, Moves, moves_to, moves_no}
+use Rattle.arm.specs.Holds.{Exact, Holds, Moves, moves_to}
 use Rattle.summary.specs.Sums.{fresh, Ends, Sums}
 use Rattle.arm.specs.Rows.{ends_at}
 use Rattle.arm.proofs.Clean.{clean_code}
@@ -164,7 +162,7 @@ code-kept o b s w h = ap₂ (λ (a : Bool) (x : ℕ). pick (a && not o) 17 x) h.
 
 -- the answer where no rule was broken
 pub answer-to : (o b : Bool) (s : Seen) (q : scope.Page) (n : ℕ) (row : List Stroke) → length q.saved ≤ 24 → Holds s (walk row (from q n))
-    → code_of o b (walk row (from q n)) ≡ 0 → Moves o b (To s.page s.count) (walk row (from q n))
+    → code_of o b (walk row (from q n)) ≡ 0 → Moves o b (Ok (record { page = s.page; performed = s.count })) (walk row (from q n))
 answer-to o b s q n row l h z =
     let k = clean_code o b (walk row (from q n)) z in
     let m : (walk row (from q n)).most ≤ 24 = k.most in
@@ -174,10 +172,3 @@ answer-to o b s q n row l h z =
     let e : s.count ≡ (walk row (from q n)).count = omega arith in
     let f : length (walk row (from q n)).page.saved ≤ 24 = omega arith in
     moves_to z (record { same = (h.exact m).page; few = f }) e
-
--- what each answer says
-pub moved_to : {o b : Bool} {p : Page} {n : ℕ} {w : scope.Seen} → Moves o b (To p n) w → (code_of o b w ≡ 0) × PageHolds p w.page × (n ≡ w.count)
-moved_to (moves_to z h e) = (z, h, e)
-
-pub moved-no : {o b : Bool} {k : ℕ} {w : scope.Seen} → Moves o b (No k) w → (k ≡ code_of o b w) × (k ≡ 0 → ⊥)
-moved-no (moves_no e z) = (e, z)

@@ -1,11 +1,11 @@
 -- What the code keeps of an arm on its way. Past 24 saved states, and past 1,000,000 operators, it keeps only that it is past.
 -- Assumes nothing.
-use Rattle.std.specs.Prelude.{ℕ, ◌≤◌, min, ◌≡◌, Bool}
+use Rattle.std.specs.Prelude.{◌≤◌, min, ◌≡◌, Bool, Result, Ok, Err}
 use Rattle.scope.specs.Arm as scope
-use Rattle.page.specs.declared.page.Page.{Page}
+use Rattle.refusal.specs.declared.code.Code.{Code}
+use Rattle.refusal.specs.Codes.{number_of}
 use Rattle.arm.specs.declared.seen.Seen.{Seen}
 use Rattle.arm.specs.declared.moved.Moved.{Moved}
-use Rattle.arm.specs.declared.moved.Moved.TheVariants.{To, No}
 use Rattle.page.specs.Views.{page_as}
 use Rattle.page.specs.Holds.{PageHolds}
 use Rattle.arm.specs.Codes.{code_of}
@@ -25,6 +25,6 @@ pub record Holds (s : Seen) (w : scope.Seen) : Type 0 where
 
 -- the answer to operators that take the arm to w: the page after them and the number performed, where no rule is broken; or the code of the first rule
 -- that is
-pub data Moves (opened bare : Bool) : Moved → scope.Seen → Type 0 where
-  moves_to : {p : Page} {n : ℕ} {w : scope.Seen} → code_of opened bare w ≡ 0 → PageHolds p w.page → n ≡ w.count → Moves opened bare (To p n) w
-  moves_no : {k : ℕ} {w : scope.Seen} → k ≡ code_of opened bare w → (k ≡ 0 → ⊥) → Moves opened bare (No k) w
+pub data Moves (opened bare : Bool) : Result Moved Code → scope.Seen → Type 0 where
+  moves_to : {m : Moved} {w : scope.Seen} → code_of opened bare w ≡ 0 → PageHolds m.page w.page → m.performed ≡ w.count → Moves opened bare (Ok m) w
+  moves_no : {k : Code} {w : scope.Seen} → number_of k ≡ code_of opened bare w → Moves opened bare (Err k) w

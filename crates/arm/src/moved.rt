@@ -7,58 +7,77 @@ ghost use Rattle.page.specs.Holds.{PageHolds};
 ghost use Rattle.arm.specs.Holds.{Holds, Moves};
 ghost use Rattle.summary.specs.Sums.{Sums};
 
-use crate::seen::{Seen, lacks};
+use crate::seen::Seen;
 use names::limits::PERFORMED_MOST;
 use page::page::{Act, Page};
+use refusal::Code;
 use summary::Summary;
 
-// The page after it and the number performed, or the code of the refusal.
+// The page after it, and the number performed.
 #[derive(Clone, Copy)]
-pub enum Moved {
-    To(Page, u32),
-    No(u32),
+pub struct Moved {
+    pub page: Page,
+    pub performed: u32,
 }
 
 // The answer, from what was seen.
-fn answer(seen: Seen, opened: bool, bare: bool) -> Moved
+fn answer(seen: Seen, opened: bool, bare: bool) -> Result<Moved, Code>
     ensures { (q : ArmPage) (n : ℕ) (row : List Stroke) → length q.saved ≤ 24 → Holds seen (walk row (from q n)) → Moves opened bare result (walk row (from q n)) }
 {
-    let k = seen.code(opened, bare);
-    if k != 0 {
-        return Moved::No(k);
-    }
-    let page = seen.page;
-    Moved::To(page, seen.count)
+    seen.obeys(opened, bare)?;
+    Ok(Moved {
+        page: seen.page,
+        performed: seen.count,
+    })
 }
 
 // An operator that is no call; `bare` says whether it selects a pattern that is not defined.
-pub fn perform(page: Page, act: Act, opened: bool, bare: bool, performed: u32) -> Moved
+pub fn perform(
+    page: Page,
+    act: Act,
+    opened: bool,
+    bare: bool,
+    performed: u32,
+) -> Result<Moved, Code>
     ensures { (q : ArmPage) (x : Stroke) → PageHolds page q → x.act ≡ act_as act → Moves opened bare result (walk (x ∷ []) (from q performed)) }
 {
-    let seen = Seen::from(page, performed);
-    answer(seen.step(act), opened, bare)
+    answer(Seen::from(page, performed).step(act), opened, bare)
 }
 
 // An operator that leaves the page as it is, selects no pattern, and needs at most an open source and a set cursor: most are so.
-pub fn keep(page: Page, source: bool, cursor: bool, opened: bool, performed: u32) -> Moved
+pub fn keep(
+    page: Page,
+    source: bool,
+    cursor: bool,
+    opened: bool,
+    performed: u32,
+) -> Result<Moved, Code>
     ensures { (q : ArmPage) (x : Stroke) → PageHolds page q → x.act ≡ keeping source cursor → Moves opened false result (walk (x ∷ []) (from q performed)) }
 {
-    if lacks(source, opened) {
-        return Moved::No(17);
+    if source && !opened {
+        return Err(Code::Source);
     }
-    if lacks(cursor, page.cursor) {
-        return Moved::No(24);
+    if cursor && !page.cursor {
+        return Err(Code::Cursor);
     }
     if PERFORMED_MOST <= performed {
-        return Moved::No(26);
+        return Err(Code::TooMany);
     }
-    Moved::To(page, performed + 1)
+    Ok(Moved {
+        page,
+        performed: performed + 1,
+    })
 }
 
 // A call, from what its motif comes to; `bare` says whether that selects a pattern that is not defined.
-pub fn call(page: Page, summary: Summary, opened: bool, bare: bool, performed: u32) -> Moved
+pub fn call(
+    page: Page,
+    summary: Summary,
+    opened: bool,
+    bare: bool,
+    performed: u32,
+) -> Result<Moved, Code>
     ensures { (q : ArmPage) (x : Stroke) (row : List Stroke) → PageHolds page q → x.act ≡ idle → Sums summary row → Moves opened bare result (walk (x ∷ row) (from q performed)) }
 {
-    let seen = Seen::from(page, performed);
-    answer(seen.call(summary), opened, bare)
+    answer(Seen::from(page, performed).call(summary), opened, bare)
 }

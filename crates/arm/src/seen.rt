@@ -4,7 +4,7 @@ ghost use Rattle.scope.specs.Choice.{pick};
 ghost use Rattle.scope.specs.Arm.{clash, step, walk, from, idle, Stroke};
 ghost use Rattle.scope.specs.Arm.{Seen as ArmSeen};
 ghost use Rattle.page.specs.Views.{page_as, space_as, act_as};
-ghost use Rattle.arm.specs.Codes.{code_of};
+ghost use Rattle.arm.specs.Codes.{code_of, number_in};
 ghost use Rattle.arm.specs.Holds.{Holds};
 ghost use Rattle.summary.specs.Sums.{Sums};
 ghost use Rattle.arm.specs.Rows.{ends_at, Kept};
@@ -12,6 +12,7 @@ ghost use Rattle.arm.specs.Rows.{ends_at, Kept};
 use counts::{add, higher};
 use names::limits::PERFORMED_MOST;
 use page::page::{Act, Page, Space};
+use refusal::Code;
 use summary::{Ending, Summary};
 
 // The page; the operators performed (past 1,000,000 always 1,000,001); the most states saved right after a PushGS (past 24 always 25); whether an open source
@@ -26,19 +27,6 @@ pub struct Seen {
     pub wrong: bool,
 }
 
-fn either(a: bool, b: bool) -> bool
-    ensures { result ≡ (a || b) }
-{
-    if a { true } else { b }
-}
-
-// Something is needed and not there.
-pub(crate) fn lacks(need: bool, has: bool) -> bool
-    ensures { result ≡ (need && not has) }
-{
-    if need { !has } else { false }
-}
-
 fn clashes(space: Space, gray: bool) -> bool
     ensures { result ≡ clash (space_as space) gray }
 {
@@ -49,23 +37,14 @@ fn clashes(space: Space, gray: bool) -> bool
     }
 }
 
-fn choose(c: bool, a: bool, b: bool) -> bool
-    ensures { result ≡ pick c a b }
-{
-    if c { a } else { b }
-}
-
 // The page after a motif with these endings: what it saves it takes off again.
 fn ends_at(page: Page, a: Ending, b: Ending) -> Page
     ensures { result ≡ ends_at page a b }
 {
-    let cursor = choose(page.cursor, a.cursor, b.cursor);
-    let gray = choose(page.gray, a.gray, b.gray);
     Page {
-        cursor,
-        gray,
-        depth: page.depth,
-        saved: page.saved,
+        cursor: if page.cursor { a.cursor } else { b.cursor },
+        gray: if page.gray { a.gray } else { b.gray },
+        ..page
     }
 }
 
@@ -74,13 +53,13 @@ impl Seen {
     pub fn from(page: Page, performed: u32) -> Seen
         ensures { Holds result (from (page_as page) performed) }
     {
-        let mut count: u32 = 1_000_001;
-        if performed <= PERFORMED_MOST {
-            count = performed;
-        }
         Seen {
             page,
-            count,
+            count: if performed <= PERFORMED_MOST {
+                performed
+            } else {
+                1_000_001
+            },
             most: 0,
             source: false,
             lost: false,
@@ -93,18 +72,13 @@ impl Seen {
         ensures { (w : ArmSeen) → Holds self w → Holds result (step (act_as act) w) }
     {
         let page = self.page;
-        let space = act.space;
-        let effect = act.effect;
-        let count = add(self.count, 1);
-        let most = page.risen(effect, self.most);
-        let source = either(self.source, act.source);
-        let lost = either(self.lost, lacks(act.cursor, page.cursor));
-        let wrong = either(self.wrong, clashes(space, page.gray));
-        let next = page.done(effect);
+        let source = self.source || act.source;
+        let lost = self.lost || (act.cursor && !page.cursor);
+        let wrong = self.wrong || clashes(act.space, page.gray);
         Seen {
-            page: next,
-            count,
-            most,
+            page: page.done(act.effect),
+            count: add(self.count, 1),
+            most: page.risen(act.effect, self.most),
             source,
             lost,
             wrong,
@@ -115,16 +89,10 @@ impl Seen {
     pub fn keep(self, count: u32, cursor: bool) -> Seen
         ensures { (w : ArmSeen) (row : List Stroke) → Holds self w → Kept cursor row → count ≡ min (length row) 1_000_001 → Holds result (walk row w) }
     {
-        let page = self.page;
-        let count = add(self.count, count);
-        let lost = either(self.lost, lacks(cursor, page.cursor));
         Seen {
-            page,
-            count,
-            most: self.most,
-            source: self.source,
-            lost,
-            wrong: self.wrong,
+            count: add(self.count, count),
+            lost: self.lost || (cursor && !self.page.cursor),
+            ..self
         }
     }
 
@@ -135,45 +103,41 @@ impl Seen {
         let page = self.page;
         let a = summary.a;
         let b = summary.b;
-        let one = add(self.count, 1);
-        let count = add(one, summary.count);
-        let most = higher(self.most, page.depth, summary.most);
-        let source = either(self.source, summary.source);
-        let lost = either(self.lost, choose(page.cursor, a.lost, b.lost));
-        let wrong = either(self.wrong, choose(page.gray, a.wrong, b.wrong));
-        let next = ends_at(page, a, b);
+        let source = self.source || summary.source;
+        let lost = self.lost || if page.cursor { a.lost } else { b.lost };
+        let wrong = self.wrong || if page.gray { a.wrong } else { b.wrong };
         Seen {
-            page: next,
-            count,
-            most,
+            page: ends_at(page, a, b),
+            count: add(add(self.count, 1), summary.count),
+            most: higher(self.most, page.depth, summary.most),
             source,
             lost,
             wrong,
         }
     }
 
-    // The code of the first rule broken on the way, or 0; `bare` says whether a pattern that was selected is not defined.
-    pub(crate) fn code(self, opened: bool, bare: bool) -> u32
-        ensures { (w : ArmSeen) → Holds self w → result ≡ code_of opened bare w }
+    // No rule was broken on the way, or the first that was; `bare` says whether a pattern that was selected is not defined.
+    pub(crate) fn obeys(self, opened: bool, bare: bool) -> Result<(), Code>
+        ensures { (w : ArmSeen) → Holds self w → number_in result ≡ code_of opened bare w }
     {
-        if lacks(self.source, opened) {
-            return 17;
+        if self.source && !opened {
+            return Err(Code::Source);
         }
         if 25 <= self.most {
-            return 23;
+            return Err(Code::Saved);
         }
         if self.lost {
-            return 24;
+            return Err(Code::Cursor);
         }
         if self.wrong {
-            return 25;
+            return Err(Code::Colour);
         }
         if bare {
-            return 34;
+            return Err(Code::NoPattern);
         }
         if 1_000_001 <= self.count {
-            return 26;
+            return Err(Code::TooMany);
         }
-        0
+        Ok(())
     }
 }
