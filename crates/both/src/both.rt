@@ -36,10 +36,9 @@ fn at_start(b: bool) -> Seen
 fn ended(seen: Seen) -> Ending
     ensures { (w : ArmSeen) → Holds seen w → w.most ≤ 24 → Ends result w }
 {
-    let page = seen.page;
     Ending {
-        cursor: page.cursor,
-        gray: page.gray,
+        cursor: seen.page.cursor,
+        gray: seen.page.gray,
         lost: seen.lost,
         wrong: seen.wrong,
     }
@@ -50,59 +49,53 @@ impl Both {
     pub fn fresh() -> Both
         ensures { Runs result [] }
     {
-        let a = at_start(true);
-        let b = at_start(false);
-        Both { a, b }
+        Both {
+            a: at_start(true),
+            b: at_start(false),
+        }
     }
 
     // An operator more, that is no call.
     pub fn step(self, act: Act) -> Both
         ensures { (row : List Stroke) (x : Stroke) → Runs self row → x.act ≡ act_as act → Runs result (row ++ (x ∷ [])) }
     {
-        let a = self.a;
-        let b = self.b;
-        let c = a.step(act);
-        let d = b.step(act);
-        Both { a: c, b: d }
+        Both {
+            a: self.a.step(act),
+            b: self.b.step(act),
+        }
     }
 
     // So many operators more that leave the page as it is, where one of them needs the cursor set or none does.
     pub fn keep(self, count: usize, cursor: bool) -> Both
         ensures { (row more : List Stroke) → Runs self row → Kept cursor more → count ≡ length more → Runs result (row ++ more) }
     {
-        let a = self.a;
-        let b = self.b;
         let few = capped(count);
-        let c = a.keep(few, cursor);
-        let d = b.keep(few, cursor);
-        Both { a: c, b: d }
+        Both {
+            a: self.a.keep(few, cursor),
+            b: self.b.keep(few, cursor),
+        }
     }
 
     // A call more, with its motif's operators.
     pub fn call(self, summary: Summary) -> Both
         ensures { (row called : List Stroke) (x : Stroke) → Runs self row → x.act ≡ idle → Sums summary called → Runs result (row ++ (x ∷ called)) }
     {
-        let a = self.a;
-        let b = self.b;
-        let c = a.call(summary);
-        let d = b.call(summary);
-        Both { a: c, b: d }
+        Both {
+            a: self.a.call(summary),
+            b: self.b.call(summary),
+        }
     }
 
     // What the row comes to, at its end.
     pub fn summary(self) -> Summary
         ensures { (row : List Stroke) → Runs self row → Balanced row → Sums result row }
     {
-        let a = self.a;
-        let b = self.b;
-        let c = ended(a);
-        let d = ended(b);
         Summary {
-            count: a.count,
-            most: a.most,
-            source: a.source,
-            a: c,
-            b: d,
+            count: self.a.count,
+            most: self.a.most,
+            source: self.a.source,
+            a: ended(self.a),
+            b: ended(self.b),
         }
     }
 }

@@ -9,6 +9,6 @@ use Rattle.both.proofs.both.Both.call.Goals as goal
 
 pub returns : goal.returns
 returns c row called x h e k = record {
-  a = rw (walk-append row (x ∷ called) (fresh true)) (c.call-c.ensures (walk row (fresh true)) x called h.a e k);
-  b = rw (walk-append row (x ∷ called) (fresh false)) (c.call-d.ensures (walk row (fresh false)) x called h.b e k);
+  a = rw (walk-append row (x ∷ called) (fresh true)) (c.call.ensures (walk row (fresh true)) x called h.a e k);
+  b = rw (walk-append row (x ∷ called) (fresh false)) (c.call-2.ensures (walk row (fresh false)) x called h.b e k);
 }

@@ -5,4 +5,4 @@ use Rattle.both.proofs.both.Both.fresh.Goals as goal
 
 pub returns : goal.returns
 unfolding walk
-returns c = record { a = c.at_start-a.ensures; b = c.at_start-b.ensures }
+returns c = record { a = c.at_start.ensures; b = c.at_start-2.ensures }

@@ -10,6 +10,6 @@ use Rattle.both.proofs.both.Both.step.Goals as goal
 pub returns : goal.returns
 unfolding walk
 returns c row x h e = record {
-  a = rw (walk-append row (x ∷ []) (fresh true), e) (c.step-c.ensures (walk row (fresh true)) h.a);
-  b = rw (walk-append row (x ∷ []) (fresh false), e) (c.step-d.ensures (walk row (fresh false)) h.b);
+  a = rw (walk-append row (x ∷ []) (fresh true), e) (c.step.ensures (walk row (fresh true)) h.a);
+  b = rw (walk-append row (x ∷ []) (fresh false), e) (c.step-2.ensures (walk row (fresh false)) h.b);
 }

@@ -13,6 +13,6 @@ returns c row h k = record {
   count = rw (← fresh-count row true) h.a.count;
   most = h.a.most;
   source = h.a.source;
-  a = λ m. c.ended-c.ensures (walk row (fresh true)) h.a m;
-  b = λ m. c.ended-d.ensures (walk row (fresh false)) h.b (rw (fresh-most row) m);
+  a = λ m. c.ended.ensures (walk row (fresh true)) h.a m;
+  b = λ m. c.ended-2.ensures (walk row (fresh false)) h.b (rw (fresh-most row) m);
 }

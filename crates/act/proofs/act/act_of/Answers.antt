@@ -1,8 +1,0 @@
--- `act_of` meets its contract: field by field.
--- Assumes nothing.
-use Rattle.act.specs.Acts.{act_for}
-use Rattle.act.proofs.act.act_of.Goals as goal
-
-pub returns : goal.returns
-unfolding act_for
-returns c = λ z. rw (← c.needs_cursor-cursor.ensures, ← c.needs_space-space.ensures z, ← c.select_of-select.ensures z, ← c.effect_of-effect.ensures z)
