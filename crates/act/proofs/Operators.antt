@@ -46,8 +46,3 @@ plain-keeps set s o =
     go false false false false false false false false true p k x s y w t = absurd (true≢false (sym t))
     go false false false false false false false false false true k x s y w t = absurd (true≢false (sym t))
     go false false false false false false false false false false k x s y w t = refl
-
--- a choice of true and false is the test itself
-pub pick-self : (t : Bool) → t ≡ pick t true false
-pick-self true = refl
-pick-self false = refl

@@ -35,7 +35,10 @@ pub fn is_plain(tag: u8) -> bool
 pub fn needs_cursor(tag: u8) -> bool
     ensures { result ≡ needs_cursor tag }
 {
-    matches!(tag, SET_CURSOR_REL | LINE_PATH | LINE_REL_PATH | BEGIN_IMAGE)
+    matches!(
+        tag,
+        SET_CURSOR_REL | LINE_PATH | LINE_REL_PATH | BEGIN_IMAGE
+    )
 }
 
 // Of a brush or a pen: RGBColor needs RGB, GrayLevel gray.
