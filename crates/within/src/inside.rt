@@ -21,7 +21,6 @@ use key::{name_in, with_mark};
 use motif::{ROW, SUM, find};
 use names::operators::{EXEC_STREAM, POP_GS, PUSH_GS};
 use order::{Phase, Picture, picture_after};
-use page::page::Select;
 use reader::{Context, Operator};
 use setting::Setting;
 use std::ops::ControlFlow;
@@ -126,13 +125,12 @@ fn call(
 }
 
 // The pattern that an operator selects is noted.
-fn note_select(own: &mut [u16; 66], select: Select)
+fn note_select(own: &mut [u16; 66], select: Option<u16>)
     ensures own_len_unchanged { length own.new ≡ length own.old }
     ensures own_after { numbers_in own.new 0 ≡ noted_by (select_as select) (numbers_in own.old 0) }
 {
-    match select {
-        Select::Nothing => (),
-        Select::Pattern(n) => patterns::note(own, n),
+    if let Some(number) = select {
+        patterns::note(own, number);
     }
 }
 
@@ -161,8 +159,7 @@ fn deed(
     let after = picture_after(s, set.high, tag, attrs, o.count, picture);
     let next = both.step(act);
     let saved = saved_after(tag, inside.saved);
-    let select = act.select;
-    note_select(own, select);
+    note_select(own, act.select);
     Inside {
         at: o.next,
         saved,
