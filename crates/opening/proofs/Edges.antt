@@ -23,7 +23,7 @@ use Rattle.page.specs.Views.{stack}
 use Rattle.page.specs.Holds.{PageHolds}
 use Rattle.arm.specs.Holds.{Moves, moves_to}
 use Rattle.page.specs.declared.page.Page as Code
-use Rattle.arm.specs.declared.moved.Moved.TheVariants.{To}
+use Rattle.std.specs.Prelude.{Ok}
 use Rattle.motif.specs.Stored.{Stored}
 use Rattle.motif.specs.declared.kept.Kept.{Kept}
 use Rattle.pattern_rows.specs.Numbers.{OfSession, numbers_in}
@@ -86,12 +86,12 @@ module _ (set : Setting) (s : List ℕ) (o : Operator) {tag : ℕ} (a : Edge tag
       (rw (le-ltb 1_000_000 (suc n) k)) a
 
   judged-plain : (st : State) (x : Session) (p : Code.Page) → PageHolds p (page_of x.busy) → st.performed < 1_000_000
-      → Judgement (case_of set s st x (plain o tag)) outer (To p (st.performed + 1))
+      → Judgement (case_of set s st x (plain o tag)) (Ok (record { page = p; performed = st.performed + 1 }))
   unfolding walk step from
   judged-plain st x p h k =
       let q = page_of x.busy in
       let n = st.performed in
-      let m : Moves x.opened false (To p (n + 1)) (seen tag q n) = moves_to (code-edge x.opened q n k) (subst (PageHolds p) (page-edge q n) h) (add-one n) in
+      let m : Moves x.opened false (Ok (record { page = p; performed = n + 1 })) (seen tag q n) = moves_to (code-edge x.opened q n k) (subst (PageHolds p) (page-edge q n) h) (add-one n) in
       plain-judged set s st x (plain o tag) x.opened n (To p (n + 1)) refl refl (unbroken_edge st x) no_call
       false (selecting.selects-none set s st x (plain o tag) no_call selects) m
 
@@ -114,11 +114,11 @@ page-rests rests_inside (inside_holds {x = x} e u s h y) = page-in x.busy y
 
 pub judged-edge : {job work t p : List ℕ} {place : Place} (set : Setting) (st : State) (o : Operator) → Edge o.tag → o.reads ≡ false → st.performed < 1_000_000
     → Rests place → PlaceHolds set job work t p place st.place
-    → Judgement (case_of set job st (session_of st.place) o) outer (To untouched (st.performed + 1))
+    → Judgement (case_of set job st (session_of st.place) o) (Ok (record { page = untouched; performed = st.performed + 1 }))
 judged-edge {job} set st o a e k r h =
     let same : o ≡ plain o o.tag =
     λ i. record { tag = o.tag; at = o.at; attrs = o.attrs; reads = e i; length = o.length; first = o.first; next = o.next } in
-    subst⁻¹ (λ (z : Operator). Judgement (case_of set job st (session_of st.place) z) outer (To untouched (st.performed + 1))) same
+    subst⁻¹ (λ (z : Operator). Judgement (case_of set job st (session_of st.place) z) (Ok (record { page = untouched; performed = st.performed + 1 }))) same
     (judged-plain set job o a st (session_of st.place) untouched (page-rests r h) k)
 
 module _ (set : Setting) (job work t p : List ℕ) (o : Operator) (g : Page) where

@@ -9,7 +9,6 @@ ghost use Rattle.reader.specs.Reads.{operator_as};
 ghost use Rattle.state.specs.Standing.{lent, StepsOn, Comes, Goes, Lasts};
 
 use after::Passed;
-use arm::moved::Moved;
 use reader::Operator;
 use ruling::{inner_of, judge};
 use setting::Setting;
@@ -94,8 +93,8 @@ pub fn perform(
         }
     };
     match judge(job, set, attrs, patterns, early, place, o, st.performed) {
-        Moved::No(code) => ControlFlow::Break(stop(st, code, o.at, OUTER)),
-        Moved::To(page, performed) => go_on(
+        Err(code) => ControlFlow::Break(stop(st, code.number(), o.at, OUTER)),
+        Ok(moved) => go_on(
             job,
             set,
             work,
@@ -106,8 +105,11 @@ pub fn perform(
             st,
             Allowed {
                 o,
-                passed: Passed { early, page },
-                performed,
+                passed: Passed {
+                    early,
+                    page: moved.page,
+                },
+                performed: moved.performed,
             },
         ),
     }

@@ -1,6 +1,6 @@
 -- The rules after reading, but for that of the room: what the code finds is the first rule broken.
 -- Assumes nothing.
-use Rattle.std.specs.Prelude.{Ok, Err}
+use Rattle.std.specs.Prelude.{Result, Ok, Err}
 use Prim.Native.Nat.{ℕ, ◌<◌}
 use mathlib.Core.Path.{◌≡◌, refl, sym, ap, ◌∙◌, subst}
 use mathlib.Core.Bool.{Bool, true, false}
@@ -22,6 +22,8 @@ use Rattle.arm.specs.Holds.{Moves, moves_to, moves_no}
 use Rattle.arm.proofs.Rules.{rules-code}
 use Rattle.arm.proofs.Clean.{clean_code}
 use Rattle.arm.specs.declared.moved.Moved.{Moved}
+use Rattle.refusal.specs.declared.code.Code.{Code}
+use Rattle.refusal.proofs.Numbers.{no_pass}
 use Rattle.early.specs.Earlier.{Earlies, Unbroken, early_call, early_no}
 use Rattle.early.proofs.Full.{unbroken_first}
 use Rattle.early.specs.declared.early.Early.TheVariants as early_is
@@ -57,14 +59,14 @@ module _ (c : Case) (u : Unbroken c) (bare : Bool) (is : bare ≡ pattern_missin
   by_code room = unbroken_first u (later room) ∙ rules-code c bare is (rule 28 (room_over room) ∷ [])
 
   -- what the arm answers is what these rules come to
-  pub moved-judged : {m : Moved} {w : Seen} → w ≡ c.seen → Moves c.session.opened bare m w → Judgement c outer m
+  pub moved-judged : {m : Result Moved Code} {w : Seen} → w ≡ c.seen → Moves c.session.opened bare m w → Judgement c m
   moved-judged {m} e h = go_on (subst (λ v. Moves c.session.opened bare m v) e h)
     where
-      go_on : {m : Moved} → Moves c.session.opened bare m c.seen → Judgement c outer m
+      go_on : {m : Result Moved Code} → Moves c.session.opened bare m c.seen → Judgement c m
       go_on (moves_to z p n) =
           judged_to (λ room. by_code room ∙ rw (eq-eqb code 0 z) (last-rule room c)) p n (clean_code c.session.opened bare c.seen z).count
-      go_on (moves_no {k = k} e n) =
-          judged_no {code = k} (λ room. by_code room ∙ rw (ne_eqb code 0 (λ z. n (e ∙ z))) (ap (λ x. refused x outer) (sym e)))
+      go_on (moves_no {k = k} e) =
+          judged_no {code = k} (λ room. by_code room ∙ rw (ne_eqb code 0 (λ z. no_pass k (e ∙ z))) (ap (λ x. refused x outer) (sym e)))
 
 -- one of the earlier rules is broken, and its place fits a verdict
 pub early-refused : {t p : List ℕ} {c : Case} {r : CodeRefusal} → Earlies t p c (Err r) → (room : ℕ) → first_broken every c (rules room) ≡ refused r.code r.place
@@ -79,12 +81,12 @@ pub held-call : (tag : ℕ) → eqb tag 0x5d ≡ true → eqb tag 0x5e ≡ false
 held-call tag e = rw (eqb-true tag 0x5d e) refl
 
 -- what the arm answers to an operator in the page where the session stands
-module _ (set : Setting) (s : List ℕ) (st : State) (x : Session) (o : Operator) (b : Bool) (n : ℕ) (m : Moved) (opened : b ≡ x.opened) (performed : n ≡ st.performed) where
+module _ (set : Setting) (s : List ℕ) (st : State) (x : Session) (o : Operator) (b : Bool) (n : ℕ) (m : Result Moved Code) (opened : b ≡ x.opened) (performed : n ≡ st.performed) where
   there : (bare : Bool) (w : ℕ → Seen) → Moves b bare m (w n) → Moves x.opened bare m (w st.performed)
   there bare w h = subst (λ k. Moves x.opened bare m (w k)) performed (subst (λ t. Moves t bare m (w n)) opened h)
 
   pub plain-judged : Unbroken (case_of set s st x o) → eqb o.tag 0x5e ≡ false → (bare : Bool) → bare ≡ pattern_missing (case_of set s st x o)
-      → Moves b bare m (walk (record { motif = 0; op = o; act = act_of set s o } ∷ []) (from (page_of x.busy) n)) → Judgement (case_of set s st x o) outer m
+      → Moves b bare m (walk (record { motif = 0; op = o; act = act_of set s o } ∷ []) (from (page_of x.busy) n)) → Judgement (case_of set s st x o) m
   unfolding case_of
   plain-judged u e bare is h =
       moved-judged (case_of set s st x o) u bare is (seen_plain set s st x o e)
@@ -92,7 +94,7 @@ module _ (set : Setting) (s : List ℕ) (st : State) (x : Session) (o : Operator
 
   pub call-judged : (t p : List ℕ) (v : ℕ) (bare : Bool) → Earlies t p (case_of set s st x o) (Ok (early_is.Call v bare))
       → ((row : List Stroke) → SumsAs v row → Moves b bare m (walk (record { motif = 0; op = o; act = idle } ∷ row) (from (page_of x.busy) n)))
-      → Judgement (case_of set s st x o) outer m
+      → Judgement (case_of set s st x o) m
   unfolding case_of
   call-judged t p v bare (early_call e k is u) h =
       moved-judged (case_of set s st x o) u bare is (seen-call set s st x o e)

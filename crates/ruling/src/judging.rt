@@ -8,7 +8,7 @@ ghost use Rattle.scope.specs.Session as scope;
 ghost use Rattle.scope.specs.Arm.{wanted};
 ghost use Rattle.scope.specs.Order.{may_come};
 ghost use Rattle.scope.specs.Session.{phase_of, session_of};
-ghost use Rattle.scope.specs.Judge.{State, Case, case_of, some_missing, outer};
+ghost use Rattle.scope.specs.Judge.{State, Case, case_of, some_missing};
 ghost use Rattle.page.specs.Views.{select_as};
 ghost use Rattle.pattern_rows.specs.Numbers.{OfPage, OfSession, numbers_in};
 ghost use Rattle.reader.specs.Reads.{operator_as};
@@ -19,9 +19,9 @@ ghost use Rattle.ruling.specs.Judged.{Judgement};
 
 use arm::moved::Moved;
 use early::{Early, Refusal};
-use page::page::Select;
 use place::Place;
 use reader::Operator;
+use refusal::Code;
 use setting::Setting;
 
 // The inner position of a refusal that comes before those of the page.
@@ -32,12 +32,12 @@ pub fn inner_of(refusal: Refusal) -> u32
 }
 
 // A pattern is selected that is not defined.
-fn bare_of(patterns: &[u16; 4487], select: Select) -> bool
+fn bare_of(patterns: &[u16; 4487], select: Option<u16>) -> bool
     ensures { result ≡ some_missing (numbers_in patterns.now OfPage) (numbers_in patterns.now OfSession) (wanted (select_as select) []) }
 {
     match select {
-        Select::Nothing => false,
-        Select::Pattern(n) => !pattern_rows::is_defined(patterns, n),
+        None => false,
+        Some(number) => !pattern_rows::is_defined(patterns, number),
     }
 }
 
@@ -50,11 +50,11 @@ fn perform(
     place: Place,
     o: Operator,
     performed: u32,
-) -> Moved
+) -> Result<Moved, Code>
     ensures { (q : scope.Place) (st : State) (work t : List ℕ) → PlaceHolds (setting_as set) job.now work t patterns.now place q
         → Sized attrs.now o.count → performed ≡ st.performed → may_come (phase_of q) (session_of q).opened o.tag ≡ true
         → eqb o.tag 0x5e ≡ false → Unbroken (case_of (setting_as set) job.now st (session_of q) (operator_as o attrs.now))
-        → Judgement (case_of (setting_as set) job.now st (session_of q) (operator_as o attrs.now)) outer result }
+        → Judgement (case_of (setting_as set) job.now st (session_of q) (operator_as o attrs.now)) result }
 {
     let page = place::page_in(place);
     let opened = place::opened_in(place);
@@ -62,15 +62,13 @@ fn perform(
         return arm::moved::keep(page, o.reads, act::needs_cursor(o.tag), opened, performed);
     }
     let act = act::act_of(job, set.high, set.gray, o.tag, o.reads, attrs, o.count);
-    let select = act.select;
-    let bare = bare_of(patterns, select);
-    arm::moved::perform(page, act, opened, bare, performed)
+    arm::moved::perform(page, act, opened, bare_of(patterns, act.select), performed)
 }
 
 // A call, from its motif's summary and whether a pattern that is selected there is not defined.
-fn call(sum: usize, bare: bool, place: Place, performed: u32) -> Moved
+fn call(sum: usize, bare: bool, place: Place, performed: u32) -> Result<Moved, Code>
     ensures { (q : scope.Place) (st : State) (by : setting_of) (job work t p : List ℕ) (o : reading.Operator) → PlaceHolds by job work t p place q
-        → performed ≡ st.performed → Earlies t p (case_of by job st (session_of q) o) (Ok (early_is.Call sum bare)) → Judgement (case_of by job st (session_of q) o) outer result }
+        → performed ≡ st.performed → Earlies t p (case_of by job st (session_of q) o) (Ok (early_is.Call sum bare)) → Judgement (case_of by job st (session_of q) o) result }
 {
     let page = place::page_in(place);
     let opened = place::opened_in(place);
@@ -87,11 +85,11 @@ pub fn judge(
     place: Place,
     o: Operator,
     performed: u32,
-) -> Moved
+) -> Result<Moved, Code>
     ensures { (q : scope.Place) (st : State) (work t : List ℕ) → PlaceHolds (setting_as set) job.now work t patterns.now place q
         → Sized attrs.now o.count → performed ≡ st.performed → may_come (phase_of q) (session_of q).opened o.tag ≡ true
         → Earlies t patterns.now (case_of (setting_as set) job.now st (session_of q) (operator_as o attrs.now)) (Ok early)
-        → Judgement (case_of (setting_as set) job.now st (session_of q) (operator_as o attrs.now)) outer result }
+        → Judgement (case_of (setting_as set) job.now st (session_of q) (operator_as o attrs.now)) result }
 {
     match early {
         Early::Call(sum, bare) => call(sum, bare, place, performed),

@@ -29,7 +29,7 @@ use Rattle.arm.specs.Codes.{code_of}
 use Rattle.page.specs.Holds.{PageHolds}
 use Rattle.arm.specs.Holds.{Moves, moves_to}
 use Rattle.page.specs.declared.page.Page as Code
-use Rattle.arm.specs.declared.moved.Moved.TheVariants.{To}
+use Rattle.std.specs.Prelude.{Ok}
 use Rattle.early.specs.Earlier.{Unbroken}
 use Rattle.ruling.specs.Judged.{Judgement}
 use Rattle.ruling.proofs.Ruling.{plain-judged}
@@ -130,7 +130,7 @@ module _ (set : Setting) (opened : Bool) (s : List ℕ) (at n : ℕ) where
   code-alone (alone_push {q = q} h) k = let m : max 0 (suc (length q.saved)) ≤ 24 = omega arith in rw (le-ltb 24 (max 0 (suc (length q.saved))) m, le-ltb 1_000_000 (suc n) k)
   code-alone (alone_pop h) k = rw (le-ltb 1_000_000 (suc n) k)
 
-  moves-alone : {tag : ℕ} {q q₁ : Page} {p : Code.Page} → Alone tag q q₁ → PageHolds p q₁ → n < 1_000_000 → Moves opened false (To p (n + 1)) (seen tag q)
+  moves-alone : {tag : ℕ} {q q₁ : Page} {p : Code.Page} → Alone tag q q₁ → PageHolds p q₁ → n < 1_000_000 → Moves opened false (Ok (record { page = p; performed = n + 1 })) (seen tag q)
   unfolding walk step from
   moves-alone {tag} {q} {p = p} a h k = moves_to (code-alone a k) (subst (PageHolds p) (page-alone a) h) (add-one n)
 
@@ -140,7 +140,7 @@ unfolding act_of select_of
 selects-alone set s at a = each-tag (λ t. (act_of set s (alone t at)).select ≡ no_pattern) refl refl refl refl refl a
 
 pub judged-alone : (set : Setting) (s : List ℕ) (st : State) (x : Session) (at : ℕ) {tag : ℕ} {q q₁ : Page} {p : Code.Page} → Alone tag q q₁ → PageHolds p q₁ → st.performed < 1_000_000
-    → q ≡ page_of x.busy → Judgement (case_of set s st x (alone tag at)) outer (To p (st.performed + 1))
+    → q ≡ page_of x.busy → Judgement (case_of set s st x (alone tag at)) (Ok (record { page = p; performed = st.performed + 1 }))
 judged-alone set s st x at {tag} {p = p} a h k e =
     plain-judged set s st x (alone tag at) x.opened st.performed (To p (st.performed + 1)) refl refl (unbroken_alone set s st x at a) (no_call a)
     false (selects-none set s st x (alone tag at) (no_call a) (selects-alone set s at a))

@@ -19,7 +19,7 @@ use Rattle.arm.specs.Codes.{code_of}
 use Rattle.page.specs.Holds.{PageHolds}
 use Rattle.arm.specs.Holds.{Moves, moves_to}
 use Rattle.page.specs.declared.page.Page as Code
-use Rattle.arm.specs.declared.moved.Moved.TheVariants.{To}
+use Rattle.std.specs.Prelude.{Ok}
 use Rattle.end_point.specs.EndPoint.{line_of, Drawn, drawn_path, drawn_rel}
 use Rattle.early.specs.Earlier.{Unbroken}
 use Rattle.ruling.specs.Judged.{Judgement}
@@ -59,7 +59,7 @@ module _ (set : Setting) (opened : Bool) (s : List ℕ) (point at op n : ℕ) (q
   code-line drawn_path e k = rw (e, le-ltb 1_000_000 (suc n) k)
   code-line drawn_rel e k = rw (e, le-ltb 1_000_000 (suc n) k)
 
-  moves-line : {tag : ℕ} {p : Code.Page} → Drawn tag → PageHolds p q → p.cursor ≡ true → n < 1_000_000 → Moves opened false (To p (n + 1)) (seen tag)
+  moves-line : {tag : ℕ} {p : Code.Page} → Drawn tag → PageHolds p q → p.cursor ≡ true → n < 1_000_000 → Moves opened false (Ok (record { page = p; performed = n + 1 })) (seen tag)
   unfolding walk step from
   moves-line {p = p} d h e k = moves_to (code-line d (ap (λ (x : Page). x.cursor) (sym h.same) ∙ e) k) (rw (page-line d) at h) (add-one n)
 
@@ -72,7 +72,7 @@ unfolding act_of select_of
 selects-line set s point at op d = each_line (λ t. (act_of set s (line_of point t at op)).select ≡ no_pattern) refl refl d
 
 pub judged-line : (set : Setting) (s : List ℕ) (st : State) (x : Session) (point at op : ℕ) {tag : ℕ} {q : Page} {p : Code.Page} → Drawn tag → PageHolds p q → p.cursor ≡ true → st.performed < 1_000_000
-    → q ≡ page_of x.busy → Judgement (case_of set s st x (line_of point tag at op)) outer (To p (st.performed + 1))
+    → q ≡ page_of x.busy → Judgement (case_of set s st x (line_of point tag at op)) (Ok (record { page = p; performed = st.performed + 1 }))
 judged-line set s st x point at op {tag} {q} {p} d h c k e =
     plain-judged set s st x (line_of point tag at op) x.opened st.performed (To p (st.performed + 1)) refl refl (unbroken_line set s st x point at op d)
     (line-no_call d) false (selects-none set s st x (line_of point tag at op) (line-no_call d) (selects-line set s point at op d))

@@ -22,8 +22,7 @@ use Rattle.scope.proofs.ExchangeEdges.{after-again}
 use Rattle.page.specs.Alone.{Leaves, leaves_to}
 use Rattle.page.specs.Holds.{PageHolds}
 use Rattle.page.specs.declared.page.Page as Code
-use Rattle.page.specs.declared.page.Passed.TheVariants as passed_is
-use Rattle.arm.specs.declared.moved.Moved.TheVariants.{To}
+use Rattle.std.specs.Prelude.{Some, Ok}
 use Rattle.end_point.specs.EndPoint.{line_of, Line}
 use Rattle.end_point.proofs.EndPoint.{read-line, line-drawn}
 use Rattle.buffer.specs.Over.{over}
@@ -96,8 +95,8 @@ module _ (job list₀ table patterns work list list₁ : List ℕ) (set : Settin
   -- it is read where r stands, breaks no rule, and leaves the session in its page
   pub record Passes (u : Unmoved) (past : List Operator) (q : Page) : Type 0 where
     pub read : operator_at (context_of every set (drawn-on u opened q)) job r.at ≡ Read.operator o
-    pub judged : Judgement (case_of set job (here (drawn-on u opened q) past) (drawing-on u opened q) o) outer
-        (To t.page t.performed)
+    pub judged : Judgement (case_of set job (here (drawn-on u opened q) past) (drawing-on u opened q) o)
+        (Ok (record { page = t.page; performed = t.performed }))
     pub stays : (p : Page) → place_after set job o p (drawn-on u opened q) ≡ drawn-on u opened p
 
   module _ (n : ℕ) (many : n ≡ length o.attrs) (same : length list₀ ≡ length list) (next : t.at ≡ o.next) (more : t.records ≡ r.records + n + 1)
@@ -137,7 +136,7 @@ module _ (job list₀ table patterns work list list₁ : List ℕ) (set : Settin
   abbrev after-alone : Run
   after-alone = record { at = at + 1; page = p; performed = r.performed + 1; records = r.records + 1 }
 
-  passes-alone : at ≡ after job r.at → at < length job → get_or job at 0 ≡ tag → r.performed < 1_000_000 → (u : Unmoved) (past : List Operator) (q : Page) → Leaves tag q (passed_is.To p)
+  passes-alone : at ≡ after job r.at → at < length job → get_or job at 0 ≡ tag → r.performed < 1_000_000 → (u : Unmoved) (past : List Operator) (q : Page) → Leaves tag q (Some p)
       → Passes job list₀ table patterns work list list₁ set opened kept r after-alone (alone tag at) u past q
   unfolding context_of phase_of phase_busy phase_drawing
   passes-alone white h byte few u past q (leaves_to a k) =
@@ -150,7 +149,7 @@ module _ (job list₀ table patterns work list list₁ : List ℕ) (set : Settin
 
   pub one-alone : at ≡ after job r.at → at < length job → get_or job at 0 ≡ tag → r.performed < 1_000_000 → length list₀ ≡ length list
       → true ≡ leb ((r.records + 1) * 16) (length list) → list₁ ≡ over list (r.records * 16) (records_for tag at 0 0 [])
-      → ((q : Page) → PageHolds r.page q → Leaves tag q (passed_is.To p))
+      → ((q : Page) → PageHolds r.page q → Leaves tag q (Some p))
       → (d : scope.State) → Stands set job list₀ (record { table = table; patterns = patterns; work = work; list = list }) (in_session opened kept r) d
       → Reaches job list₀ table patterns work list₁ set (in_session opened kept after-alone) d
   one-alone white h byte few same room listed leaves =

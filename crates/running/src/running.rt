@@ -12,7 +12,7 @@ use motif::Kept;
 use names::attributes::END_POINT;
 use names::limits::PERFORMED_MOST;
 use order::Picture;
-use page::page::{Page, Passed};
+use page::page::Page;
 use place::{Busy, Place};
 use state::State;
 use white::is_white;
@@ -59,9 +59,7 @@ fn pass_alone(job: &[u8], list: &mut [u8], from: Run, at: usize) -> Option<Run>
 {
     let tag = job[at];
     let performed = from.performed + 1;
-    let Passed::To(page) = from.page.past(tag) else {
-        return None;
-    };
+    let page = from.page.past(tag)?;
     if !listed::list_alone(list, from.records, tag, at) {
         return None;
     }

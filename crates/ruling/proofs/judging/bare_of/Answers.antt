@@ -4,9 +4,9 @@ use Rattle.scope.specs.Judge.{some_missing}
 use Rattle.ruling.proofs.Selecting.{one-missing}
 use Rattle.ruling.proofs.judging.bare_of.Goals as goal
 
-pub returns-in-Nothing : goal.returns-in-Nothing
+pub returns-in-None : goal.returns-in-None
 unfolding some_missing
-returns-in-Nothing c = rw c.in-Nothing.is
+returns-in-None c = rw c.in-None.is
 
-pub returns-in-Pattern : goal.returns-in-Pattern
-returns-in-Pattern c = rw c.in-Pattern.is (one-missing _ _ _ _ c.is_defined.ensures)
+pub returns-in-Some : goal.returns-in-Some
+returns-in-Some c = rw c.in-Some.is (one-missing _ _ _ _ c.is_defined.ensures)

@@ -29,5 +29,5 @@ returns c = let a = c.args in
     let set = setting_as a.set in
     let k = c.act_of-act.ensures z ∙ act-is set a.job.now o in
     plain-judged set a.job.now st (session_of q) o c.opened_in-opened.result a.performed c.perform.result (c.opened_in-opened.ensures q set a.job.now work t _ h) e u y
-    c.bare_of-bare.result (bare-is set a.job.now o a.patterns.now st c.bare_of-bare.result _ h m y k c.bare_of-bare.ensures)
+    c.bare_of.result (bare-is set a.job.now o a.patterns.now st c.bare_of.result _ h m y k c.bare_of.ensures)
     (c.perform.ensures _ _ (c.page_in-page.ensures q set a.job.now work t _ h) (sym k))
