@@ -92,7 +92,7 @@ module _ (set : Setting) (s : List ℕ) (o : Operator) {tag : ℕ} (a : Edge tag
       let q = page_of x.busy in
       let n = st.performed in
       let m : Moves x.opened false (Ok (record { page = p; performed = n + 1 })) (seen tag q n) = moves_to (code-edge x.opened q n k) (subst (PageHolds p) (page-edge q n) h) (add-one n) in
-      plain-judged set s st x (plain o tag) x.opened n (To p (n + 1)) refl refl (unbroken_edge st x) no_call
+      plain-judged set s st x (plain o tag) x.opened n (Ok (record { page = p; performed = n + 1 })) refl refl (unbroken_edge st x) no_call
       false (selecting.selects-none set s st x (plain o tag) no_call selects) m
 
 -- the code's page on which nothing was done

@@ -142,7 +142,7 @@ selects-alone set s at a = each-tag (λ t. (act_of set s (alone t at)).select �
 pub judged-alone : (set : Setting) (s : List ℕ) (st : State) (x : Session) (at : ℕ) {tag : ℕ} {q q₁ : Page} {p : Code.Page} → Alone tag q q₁ → PageHolds p q₁ → st.performed < 1_000_000
     → q ≡ page_of x.busy → Judgement (case_of set s st x (alone tag at)) (Ok (record { page = p; performed = st.performed + 1 }))
 judged-alone set s st x at {tag} {p = p} a h k e =
-    plain-judged set s st x (alone tag at) x.opened st.performed (To p (st.performed + 1)) refl refl (unbroken_alone set s st x at a) (no_call a)
+    plain-judged set s st x (alone tag at) x.opened st.performed (Ok (record { page = p; performed = st.performed + 1 })) refl refl (unbroken_alone set s st x at a) (no_call a)
     false (selects-none set s st x (alone tag at) (no_call a) (selects-alone set s at a))
     (rw e at (moves-alone set x.opened s at st.performed a h k))
 

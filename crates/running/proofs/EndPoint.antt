@@ -74,7 +74,7 @@ selects-line set s point at op d = each_line (λ t. (act_of set s (line_of point
 pub judged-line : (set : Setting) (s : List ℕ) (st : State) (x : Session) (point at op : ℕ) {tag : ℕ} {q : Page} {p : Code.Page} → Drawn tag → PageHolds p q → p.cursor ≡ true → st.performed < 1_000_000
     → q ≡ page_of x.busy → Judgement (case_of set s st x (line_of point tag at op)) (Ok (record { page = p; performed = st.performed + 1 }))
 judged-line set s st x point at op {tag} {q} {p} d h c k e =
-    plain-judged set s st x (line_of point tag at op) x.opened st.performed (To p (st.performed + 1)) refl refl (unbroken_line set s st x point at op d)
+    plain-judged set s st x (line_of point tag at op) x.opened st.performed (Ok (record { page = p; performed = st.performed + 1 })) refl refl (unbroken_line set s st x point at op d)
     (line-no_call d) false (selects-none set s st x (line_of point tag at op) (line-no_call d) (selects-line set s point at op d))
     (rw e at (moves-line set x.opened s point at op st.performed q d h c k))
 

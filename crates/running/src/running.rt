@@ -59,7 +59,9 @@ fn pass_alone(job: &[u8], list: &mut [u8], from: Run, at: usize) -> Option<Run>
 {
     let tag = job[at];
     let performed = from.performed + 1;
-    let page = from.page.past(tag)?;
+    let Some(page) = from.page.past(tag) else {
+        return None;
+    };
     if !listed::list_alone(list, from.records, tag, at) {
         return None;
     }

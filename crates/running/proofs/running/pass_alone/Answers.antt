@@ -23,6 +23,6 @@ returns-clause-runs c = let a = c.args in
       within = λ h. omega arith;
       counted = omega arith;
       leads = λ list₀ table patterns work set d order e h.
-          one-alone a.job.now list₀ table patterns work a.list.now c.list_alone.new.list set opened kept a.from a.at c.in-To.page _ c.requires.0 (omega arith) refl (omega arith) e
-          (sym f ∙ c.list_alone.ensures.value) (rw f at c.list_alone.ensures.list_after) (rw c.in-To.is at c.past.ensures) d h;
+          one-alone a.job.now list₀ table patterns work a.list.now c.list_alone.new.list set opened kept a.from a.at c.in-Some.page _ c.requires.0 (omega arith) refl (omega arith) e
+          (sym f ∙ c.list_alone.ensures.value) (rw f at c.list_alone.ensures.list_after) c.in-Some.ensures d h;
     }
