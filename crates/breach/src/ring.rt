@@ -1,6 +1,7 @@
 // A ring of motifs, told by their names.
-use held::name_of;
-use names::limits::MOTIFS_MOST;
+use crate::named::name;
+use keeping::Motifs;
+use rings::Ring;
 use std::io;
 use text::say;
 
@@ -13,14 +14,14 @@ const ITSELF: usize = 94;
 const RING_MOST: usize = 32;
 
 // The row that a motif of a ring calls.
-fn next_of(next: &[usize; 64], k: usize) -> usize {
-    if MOTIFS_MOST <= k {
-        return rings::NOBODY;
+fn next_of(ring: &Ring, row: usize) -> Option<usize> {
+    match ring.ways.get(row) {
+        Some(Some(way)) => Some(way.next),
+        _ => None,
     }
-    next[k]
 }
 
-// What stands between two calls of a ring: the last one is told behind an `and`.
+// What stands before a call of a ring but the first: the last one is told behind an `and`.
 fn between<P: Print>(out: &P, is_last: bool) -> io::Result<()> {
     if is_last {
         say(out, b", and ")
@@ -30,48 +31,40 @@ fn between<P: Print>(out: &P, is_last: bool) -> io::Result<()> {
 }
 
 // One call.
-fn call<P: Print>(out: &P, motifs: &[usize; 704], from: usize, to: usize) -> io::Result<()> {
-    name_of(out, motifs, from)?;
+fn call<P: Print>(out: &P, motifs: Motifs, from: usize, to: usize) -> io::Result<()> {
+    name(out, motifs, from)?;
     say(out, b" calls ")?;
-    name_of(out, motifs, to)
+    name(out, motifs, to)
 }
 
-// The calls of a ring from a row on, till it comes back.
-fn calls<P: Print>(
-    out: &P,
-    motifs: &[usize; 704],
-    next: &[usize; 64],
-    first: usize,
-) -> io::Result<()> {
-    let mut at = next_of(next, first);
-    let mut turns = RING_MOST;
-    call(out, motifs, first, at)?;
-    while 0 < turns {
-        turns -= 1;
-        if at == first {
-            return Ok(());
+// The calls of a ring, till it comes back.
+fn calls<P: Print>(out: &P, motifs: Motifs, ring: &Ring) -> io::Result<()> {
+    let first = ring.first;
+    let mut from = first;
+    for k in 0..RING_MOST {
+        let Some(to) = next_of(ring, from) else {
+            break;
+        };
+        if k != 0 {
+            between(out, to == first)?;
         }
-        let to = next_of(next, at);
-        between(out, to == first)?;
-        call(out, motifs, at, to)?;
-        at = to;
+        call(out, motifs, from, to)?;
+        if to == first {
+            break;
+        }
+        from = to;
     }
     Ok(())
 }
 
 // Says which motifs call each other in a ring; the answer is the line of the cure.
-pub(crate) fn ring<P: Print>(
-    out: &P,
-    motifs: &[usize; 704],
-    next: &[usize; 64],
-    first: usize,
-) -> io::Result<usize> {
+pub(crate) fn told<P: Print>(out: &P, motifs: Motifs, ring: &Ring) -> io::Result<usize> {
     say(out, b"the motif ")?;
-    if next_of(next, first) == first {
-        name_of(out, motifs, first)?;
+    if next_of(ring, ring.first) == Some(ring.first) {
+        name(out, motifs, ring.first)?;
         say(out, b" calls itself")?;
         return Ok(ITSELF);
     }
-    calls(out, motifs, next, first)?;
+    calls(out, motifs, ring)?;
     Ok(RING)
 }

@@ -1,51 +1,42 @@
 // The page at a place of a job, and the motifs held there.
 use arm::seen::Seen;
 use down::performed;
-use keeping::keep;
+use keeping::{Keeping, Motifs};
 use names::operators::BEGIN_PAGE;
 use page::page::{Page, blank};
-use setting::Setting;
-use trail::tag_of;
+use trail::Walk;
 
-// The page after an operator of the job.
-fn after(
-    job: &[u8],
-    set: Setting,
-    motifs: &[usize; 704],
-    attrs: &[usize; 80],
-    st: &mut [usize; 16],
-    page: Page,
-) -> Page {
-    if tag_of(st) == BEGIN_PAGE {
-        return blank(set.gray);
-    }
-    let seen = performed(job, set, motifs, attrs, st, Seen::from(page, 0));
-    seen.page
+// The walk that has come to an operator of the job, the page before it, and the motifs held there.
+#[derive(Drop)]
+pub struct Before<'a> {
+    pub walk: Walk<'a>,
+    pub page: Page,
+    pub keeping: Keeping<'a>,
 }
 
-// The page before the operator at a place, which `st` and `attrs` tell then.
-pub fn page_at(
-    job: &[u8],
-    to: usize,
-    set: Setting,
-    store: &mut [u8],
-    motifs: &mut [usize; 704],
-    attrs: &mut [usize; 80],
-    st: &mut [usize; 16],
-) -> Page {
-    let mut page = blank(set.gray);
-    let mut held = keeping::none();
-    let mut at = trail::begin(job);
-    let mut turns = job.len();
-    while 0 < turns {
-        turns -= 1;
-        let next = trail::pass(job, set.high, at, to, attrs, st);
-        if next == at {
-            return page;
-        }
-        held = keep(job, set, store, motifs, attrs, st, held);
-        page = after(job, set, motifs, attrs, st, page);
-        at = next;
+// The page after an operator of the job.
+fn after(walk: &Walk, gray: bool, motifs: Motifs, page: Page) -> Page {
+    if walk.tag == Some(BEGIN_PAGE) {
+        return blank(gray);
     }
-    page
+    performed(walk, gray, motifs, Seen::from(page, 0)).page
+}
+
+// How matters stand before the operator at a place of a job, whose pages start in gray or else in RGB; the store is room for the motifs.
+pub fn before_call<'a>(job: &'a [u8], to: usize, gray: bool, store: &mut [u8]) -> Before<'a> {
+    let mut walk = Walk::of_job(job);
+    let mut page = blank(gray);
+    let mut keeping = Keeping::none(trail::setting_in(job, gray));
+    for _ in 0..job.len() {
+        if !walk.pass(to) {
+            break;
+        }
+        keeping.keep(&walk, store);
+        page = after(&walk, gray, keeping.motifs(store), page);
+    }
+    Before {
+        walk,
+        page,
+        keeping,
+    }
 }

@@ -4,4 +4,5 @@
 mod before;
 mod breach;
 
+pub use before::{Before, before_call};
 pub use breach::breach_in;

@@ -1,9 +1,12 @@
 // What a refusal is about.
+ghost use Rattle.std.specs.Prelude.{◌<◌};
+
 use crate::missing::missing;
+use attributes::{at_most, part_in};
 use names::attributes::{PATTERN_DEFINE_ID, PATTERN_PERSISTENCE, PATTERN_SELECT_ID, STREAM_NAME};
 use number::byte_at;
 use setting::Class;
-use trail::{COUNT, HEIGHT, ROWS, SAVED, TAG};
+use trail::Walk;
 
 // The place and its byte; of the value there its attribute's number, count of numbers and place of the first; the class, the operator's tag, the
 // attribute that it lacks, the data that it asks for and that is told; the name that it gives; the pattern that it selects or defines, and whether that
@@ -33,65 +36,50 @@ fn small(n: usize) -> u32 {
     (n % 4_294_967_296) as u32
 }
 
-// Which of n attributes has its value at a place; n if none has.
-fn index_of(attrs: &[usize; 80], n: usize, at: usize) -> usize {
-    let mut i: usize = 0;
-    while i < n {
-        if 16 <= i {
-            return 0;
-        }
-        if attrs[i * 5 + 2] == at {
+// Which attribute has its value at a place; the first if none has.
+fn index_of(walk: &Walk, at: usize) -> usize
+    ensures { result < 16 }
+{
+    for i in 0..at_most(walk.count) {
+        if walk.attrs[i * 5 + 2] == at {
             return i;
         }
-        i += 1;
     }
     0
 }
 
 // The number of the pattern that an operator selects, or else defines.
-fn pattern_in(s: &[u8], high: bool, attrs: &[usize; 80], n: usize) -> u32 {
-    if attributes::has(attrs, n, PATTERN_SELECT_ID) {
-        return attributes::value_in(s, high, attrs, n, PATTERN_SELECT_ID);
+fn pattern_in(walk: &Walk) -> u32 {
+    if walk.has(PATTERN_SELECT_ID) {
+        walk.value(PATTERN_SELECT_ID)
+    } else {
+        walk.value(PATTERN_DEFINE_ID)
     }
-    attributes::value_in(s, high, attrs, n, PATTERN_DEFINE_ID)
 }
 
-// The facts of the operator that a walk has found, and of the value at a place before it.
-pub fn facts_in(s: &[u8], at: usize, attrs: &[usize; 80], st: &[usize; 16]) -> Facts {
-    let high = trail::is_high(s);
-    let n = st[COUNT];
-    let class = trail::class_in(s);
-    let tag = (st[TAG] % 256) as u8;
-    let i = index_of(attrs, n, at);
-    let part = attributes::part_in(attrs, n, STREAM_NAME);
+// The facts of the operator that a walk has come to, and of the value at a place before it.
+pub fn facts_in(walk: &Walk, at: usize) -> Facts {
+    let class = trail::class_in(walk.s);
+    let tag = walk.tag.unwrap_or(0);
+    let row = index_of(walk, at) * 5;
+    let part = part_in(&walk.attrs, walk.count, STREAM_NAME);
     Facts {
         at: small(at),
-        byte: byte_at(s, at),
-        number: element(attrs, i, 0),
-        count: small(element(attrs, i, 3)),
-        first: element(attrs, i, 4),
+        byte: byte_at(walk.s, at),
+        number: walk.attrs[row],
+        count: small(walk.attrs[row + 3]),
+        first: walk.attrs[row + 4],
         class,
         tag,
-        missing: missing(class, tag, attrs, n),
-        asked: small(data::asked(s, high, attrs, st)),
-        told: data::told(s, high, st),
+        missing: missing(class, tag, walk).unwrap_or(0) as usize,
+        asked: small(data::asked(walk)),
+        told: data::told(walk),
         name: part.first,
         letters: part.count,
-        pattern: pattern_in(s, high, attrs, n),
-        lasting: attributes::value_in(s, high, attrs, n, PATTERN_PERSISTENCE) == 2,
-        saved: small(st[SAVED]),
-        rows: small(st[ROWS]),
-        height: small(st[HEIGHT]),
+        pattern: pattern_in(walk),
+        lasting: walk.value(PATTERN_PERSISTENCE) == 2,
+        saved: walk.stand.saved,
+        rows: walk.stand.rows.read,
+        height: walk.stand.rows.height as u32,
     }
-}
-
-// Element k of attribute i.
-fn element(attrs: &[usize; 80], i: usize, k: usize) -> usize {
-    if 15 < i {
-        return 0;
-    }
-    if 4 < k {
-        return 0;
-    }
-    attrs[i * 5 + k]
 }

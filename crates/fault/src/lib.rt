@@ -6,6 +6,7 @@ use names::attributes::{BLOCK_BYTE_LENGTH, MEDIA_TYPE, PAD_BYTES_MULTIPLE};
 use setting::Class;
 use std::io;
 use text::{number, say};
+use trail::Walk;
 
 // The line of an attribute that is missing.
 const MISSING: usize = 63;
@@ -15,40 +16,21 @@ const ATTRIBUTE_OF_TWO: usize = 71;
 
 // An attribute of class 2;1 stands in a job of class 1;1.
 fn is_of_two(class: Class, number: usize) -> bool {
-    match class {
-        Class::One => {
-            if number == MEDIA_TYPE as usize {
-                return true;
-            }
-            if number == PAD_BYTES_MULTIPLE as usize {
-                return true;
-            }
-            number == BLOCK_BYTE_LENGTH as usize
-        }
-        Class::Two => false,
-    }
+    matches!(class, Class::One)
+        && [MEDIA_TYPE, PAD_BYTES_MULTIPLE, BLOCK_BYTE_LENGTH]
+            .iter()
+            .any(|&of_two| number == of_two as usize)
 }
 
-// The line of the sentence for a code, once its operator is known.
-fn line_of(code: u32, s: &[u8], at: usize, st: &[usize; 16], f: Facts) -> usize {
-    if code == 2 {
-        return tell::kind_line(s, at);
+// The line of the sentence for a code at a place, once its operator is known.
+fn line_of(code: u32, walk: &Walk, at: usize, f: Facts) -> usize {
+    match code {
+        2 => tell::kind_line(walk.s, at),
+        11 if is_of_two(f.class, f.number) => ATTRIBUTE_OF_TWO,
+        13 if f.missing != 0 => MISSING,
+        34 => why::undefined_line(walk.s, at, f.pattern),
+        _ => why::line_of(code, walk),
     }
-    if code == 13 {
-        if f.missing != 0 {
-            return MISSING;
-        }
-    }
-    let class = f.class;
-    if code == 11 {
-        if is_of_two(class, f.number) {
-            return ATTRIBUTE_OF_TWO;
-        }
-    }
-    if code == 34 {
-        return why::undefined_line(s, at, f.pattern);
-    }
-    why::line_of(code, s, st)
 }
 
 // The code and the cure of a line.
@@ -59,26 +41,21 @@ pub fn ending<P: Print>(out: &P, s: &[u8], k: usize, code: u32, f: Facts) -> io:
     tell::cure(out, k, s, f)
 }
 
-// The cause of a refusal, and the line of its cure.
+// The cause of a refusal, and the line of its cure, which for 9 depends on how matters stand.
 fn caused<P: Print>(
     out: &P,
     job: &[u8],
     list: &[u8],
     records: usize,
-    s: &[u8],
+    walk: &Walk,
     k: usize,
     f: Facts,
 ) -> io::Result<usize> {
     if k == 21 {
-        return unheld::cause(out, job, list, records, s, f);
+        return unheld::cause(out, job, list, records, walk.s, f);
     }
-    tell::cause(out, k, s, f)?;
-    Ok(k)
-}
-
-// The line of the cure, which for 9 depends on where matters stand.
-fn cure_at(k: usize, st: &[usize; 16]) -> usize {
-    if k == 9 { why::may_come_line(st) } else { k }
+    tell::cause(out, k, walk.s, f)?;
+    Ok(if k == 9 { why::may_come_line(walk) } else { k })
 }
 
 // Says what is wrong at a place of the job, and the cure.
@@ -90,20 +67,12 @@ pub fn of_job<P: Print>(
     code: u32,
     at: usize,
 ) -> io::Result<()> {
-    let mut attrs = [0usize; 80];
-    let mut st = [0usize; 16];
-    trail::walk_job(job, at, &mut attrs, &mut st);
-    let f = facts::facts_in(job, at, &attrs, &st);
-    let k = caused(
-        out,
-        job,
-        list,
-        records,
-        job,
-        line_of(code, job, at, &st, f),
-        f,
-    )?;
-    ending(out, job, cure_at(k, &st), code, f)
+    let mut walk = Walk::of_job(job);
+    walk.come_to(at);
+    let f = facts::facts_in(&walk, at);
+    let line = line_of(code, &walk, at, f);
+    let k = caused(out, job, list, records, &walk, line, f)?;
+    ending(out, job, k, code, f)
 }
 
 // Says what is wrong at a place of the motif that was defined last, of which these are the bytes, and the cure.
@@ -116,22 +85,14 @@ pub fn of_motif<P: Print>(
     code: u32,
     at: usize,
 ) -> io::Result<()> {
-    let mut attrs = [0usize; 80];
-    let mut st = [0usize; 16];
-    trail::walk_motif(motif, at, &mut attrs, &mut st);
-    let f = facts::facts_in(motif, at, &attrs, &st);
-    let k = caused(
-        out,
-        job,
-        list,
-        records,
-        motif,
-        line_of(code, motif, at, &st, f),
-        f,
-    )?;
+    let mut walk = Walk::of_motif(motif);
+    walk.come_to(at);
+    let f = facts::facts_in(&walk, at);
+    let line = line_of(code, &walk, at, f);
+    let k = caused(out, job, list, records, &walk, line, f)?;
     say(out, b", in the motif ")?;
     listing::say_name(out, job, list, records)?;
     say(out, b" at its byte ")?;
     text::plain(out, f.at)?;
-    ending(out, motif, cure_at(k, &st), code, f)
+    ending(out, motif, k, code, f)
 }

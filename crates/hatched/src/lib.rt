@@ -3,10 +3,10 @@
 
 use names::attributes::{PATTERN_DEFINE_ID, PATTERN_PERSISTENCE};
 use names::operators::{BEGIN_RAST_PATTERN, END_PAGE, END_RAST_PATTERN, END_SESSION};
-use trail::{COUNT, TAG, begin, is_high, pass, tag_of};
+use trail::Walk;
 
 // It is defined, for the page or for the session; it was, for the page before, for an earlier page, or in an earlier session; or it never was.
-#[derive(Clone, Copy)]
+#[derive(Clone, Copy, PartialEq, Eq)]
 pub enum Until {
     Now,
     PageBefore,
@@ -15,126 +15,103 @@ pub enum Until {
     Never,
 }
 
-// How matters stand with the pattern, as numbers in a row: 1 if it is defined for the page, and if for the session.
-const ON_PAGE: usize = 0;
+// For what a pattern is defined.
+#[derive(Clone, Copy)]
+enum Persistence {
+    Page,
+    Session,
+}
 
-const IN_SESSION: usize = 1;
-
-// The persistence of the one that is being defined, 0 if that is another.
-const BEGUN: usize = 2;
-
-// With what it ended.
-const PAST: usize = 3;
-
-const NEVER: usize = 0;
-
-const SESSION_OVER: usize = 1;
-
-const PAGE_OVER: usize = 2;
-
-const PAGE_JUST_OVER: usize = 3;
+// How matters stand with the pattern: whether it is defined for the page, and for the session; for what it is being defined, if it is; and what
+// became of it before.
+#[derive(Clone, Copy)]
+struct Pattern {
+    on_page: bool,
+    in_session: bool,
+    begun: Option<Persistence>,
+    past: Until,
+}
 
 // BeginRastPattern.
-fn begun(s: &[u8], high: bool, number: u32, attrs: &[usize; 80], n: usize) -> usize {
-    if attributes::value_in(s, high, attrs, n, PATTERN_DEFINE_ID) != number {
-        return 0;
+fn begun(walk: &Walk, number: u32) -> Option<Persistence> {
+    if walk.value(PATTERN_DEFINE_ID) != number {
+        return None;
     }
-    attributes::value_in(s, high, attrs, n, PATTERN_PERSISTENCE) as usize
-}
-
-// EndRastPattern.
-fn define(h: &mut [usize; 4]) {
-    match h[BEGUN] {
-        1 => h[ON_PAGE] = 1,
-        2 => h[IN_SESSION] = 1,
-        _ => {}
+    match walk.value(PATTERN_PERSISTENCE) {
+        1 => Some(Persistence::Page),
+        2 => Some(Persistence::Session),
+        _ => None,
     }
 }
 
-// What EndPage makes of what was.
-fn past_page(on_page: usize, past: usize) -> usize {
-    if on_page == 1 {
-        return PAGE_JUST_OVER;
-    }
-    if past == PAGE_JUST_OVER {
-        PAGE_OVER
-    } else {
-        past
-    }
-}
-
-// What EndSession makes of what was.
-fn past_session(in_session: usize, past: usize) -> usize {
-    if in_session == 1 {
-        return SESSION_OVER;
-    }
-    if past == NEVER { NEVER } else { SESSION_OVER }
-}
-
-// What an operator changes.
-fn note(
-    s: &[u8],
-    high: bool,
-    number: u32,
-    attrs: &[usize; 80],
-    st: &[usize; 16],
-    h: &mut [usize; 4],
-) {
-    match tag_of(st) {
-        END_SESSION => {
-            h[PAST] = past_session(h[IN_SESSION], h[PAST]);
-            h[IN_SESSION] = 0;
+impl Pattern {
+    // EndRastPattern.
+    fn define(&mut self) {
+        match self.begun {
+            Some(Persistence::Page) => self.on_page = true,
+            Some(Persistence::Session) => self.in_session = true,
+            None => {}
         }
-        END_PAGE => {
-            h[PAST] = past_page(h[ON_PAGE], h[PAST]);
-            h[ON_PAGE] = 0;
-        }
-        BEGIN_RAST_PATTERN => h[BEGUN] = begun(s, high, number, attrs, st[COUNT]),
-        END_RAST_PATTERN => define(h),
-        _ => {}
     }
-}
 
-// What the numbers say.
-fn told(h: &[usize; 4]) -> Until {
-    if h[ON_PAGE] == 1 {
-        return Until::Now;
+    // EndPage.
+    fn end_page(&mut self) {
+        if self.on_page {
+            self.past = Until::PageBefore;
+        } else if self.past == Until::PageBefore {
+            self.past = Until::EarlierPage;
+        }
+        self.on_page = false;
     }
-    if h[IN_SESSION] == 1 {
-        return Until::Now;
+
+    // EndSession.
+    fn end_session(&mut self) {
+        if self.in_session || self.past != Until::Never {
+            self.past = Until::EarlierSession;
+        }
+        self.in_session = false;
     }
-    match h[PAST] {
-        PAGE_JUST_OVER => Until::PageBefore,
-        PAGE_OVER => Until::EarlierPage,
-        SESSION_OVER => Until::EarlierSession,
-        _ => Until::Never,
+
+    // What the operator that a walk has come to changes.
+    fn note(&mut self, walk: &Walk, number: u32) {
+        match walk.tag {
+            Some(END_SESSION) => self.end_session(),
+            Some(END_PAGE) => self.end_page(),
+            Some(BEGIN_RAST_PATTERN) => self.begun = begun(walk, number),
+            Some(END_RAST_PATTERN) => self.define(),
+            _ => {}
+        }
+    }
+
+    // Till when it is defined.
+    fn until(&self) -> Until {
+        if self.on_page || self.in_session {
+            Until::Now
+        } else {
+            self.past
+        }
     }
 }
 
 // How matters stand with the pattern of a number before the operator at a place of the job.
 pub fn hatched(job: &[u8], to: usize, number: u32) -> Until {
-    let high = is_high(job);
-    let mut attrs = [0usize; 80];
-    let mut st = [0usize; 16];
-    let mut h = [0usize; 4];
-    let mut at = begin(job);
-    let mut turns = job.len();
-    while 0 < turns {
-        turns -= 1;
-        let next = pass(job, high, at, to, &mut attrs, &mut st);
-        if next == at {
-            return told(&h);
+    let mut walk = Walk::of_job(job);
+    let mut pattern = Pattern {
+        on_page: false,
+        in_session: false,
+        begun: None,
+        past: Until::Never,
+    };
+    for _ in 0..job.len() {
+        if !walk.pass(to) {
+            break;
         }
-        note(job, high, number, &attrs, &st, &mut h);
-        at = next;
+        pattern.note(&walk, number);
     }
-    told(&h)
+    pattern.until()
 }
 
 // The pattern of a number is defined before the operator at a place of the job.
 pub fn is_hatched(job: &[u8], to: usize, number: u32) -> bool {
-    match hatched(job, to, number) {
-        Until::Now => true,
-        _ => false,
-    }
+    hatched(job, to, number) == Until::Now
 }

@@ -1,39 +1,22 @@
 // The held motifs, a line each, in the order of their names.
+ghost use Rattle.std.specs.Prelude.{◌<◌};
+
 use crate::named::name_of;
 use motif::{LENGTH, ORDER, ROW, START};
 use names::limits::MOTIFS_MOST;
 use std::io;
 use text::say;
+use trail::Walk;
 
 // The operators that a motif has itself.
-fn operators(s: &[u8]) -> usize {
-    let high = trail::is_high(s);
-    let mut attrs = [0usize; 80];
-    let mut st = [0usize; 16];
-    let mut many: usize = 0;
-    let mut at = trail::begin(s);
-    let mut turns = s.len();
-    while 0 < turns {
-        turns -= 1;
-        let next = trail::pass(s, high, at, s.len(), &mut attrs, &mut st);
-        if next == at {
+fn operators(motif: &[u8]) -> usize {
+    let mut walk = Walk::of_motif(motif);
+    for many in 0..motif.len() {
+        if !walk.pass(motif.len()) {
             return many;
         }
-        many = phrase::after(many, 1);
-        at = next;
     }
-    many
-}
-
-// The same of the motif whose bytes lie in a part of the store.
-fn operators_in(store: &[u8], first: usize, count: usize) -> usize {
-    if store.len() < first {
-        return 0;
-    }
-    if store.len() - first < count {
-        return 0;
-    }
-    operators(&store[first..first + count])
+    motif.len()
 }
 
 fn small(n: usize) -> u32 {
@@ -41,12 +24,12 @@ fn small(n: usize) -> u32 {
 }
 
 // The line of the motif of a row: its name, its number, and how many bytes and operators it has.
-fn line<P: Print>(out: &P, store: &[u8], motifs: &[usize; 704], k: usize) -> io::Result<()> {
-    if MOTIFS_MOST <= k {
-        return Ok(());
-    }
+fn line<P: Print>(out: &P, store: &[u8], motifs: &[usize; 704], k: usize) -> io::Result<()>
+    requires { k < 64 }
+{
+    let first = motifs[k * ROW + START];
     let bytes = motifs[k * ROW + LENGTH];
-    let many = operators_in(store, motifs[k * ROW + START], bytes);
+    let motif = store.get(first..first.saturating_add(bytes)).unwrap_or(b"");
     say(out, b"    motif ")?;
     name_of(out, motifs, k)?;
     say(out, b", number ")?;
@@ -54,16 +37,8 @@ fn line<P: Print>(out: &P, store: &[u8], motifs: &[usize; 704], k: usize) -> io:
     say(out, b": ")?;
     text::many(out, small(bytes), b"byte")?;
     say(out, b", ")?;
-    text::many(out, small(many), b"operator")?;
+    text::many(out, small(operators(motif)), b"operator")?;
     say(out, b"\n")
-}
-
-// The row that stands at a place of the order of names.
-fn row_at(motifs: &[usize; 704], place: usize) -> usize {
-    if MOTIFS_MOST <= place {
-        return 0;
-    }
-    motifs[ORDER + place] % MOTIFS_MOST
 }
 
 // The lines of so many motifs.
@@ -73,11 +48,8 @@ pub fn motifs_held<P: Print>(
     motifs: &[usize; 704],
     held: usize,
 ) -> io::Result<()> {
-    let many = motif::in_use(held);
-    let mut place: usize = 0;
-    while place < many {
-        line(out, store, motifs, row_at(motifs, place))?;
-        place += 1;
+    for place in 0..motif::in_use(held) {
+        line(out, store, motifs, motifs[ORDER + place] % MOTIFS_MOST)?;
     }
     Ok(())
 }

@@ -1,163 +1,101 @@
 // The motifs that a session holds: their table, and their bytes in the store, one behind the other, with those of the one that is being read behind them.
-use attributes::Part;
+use crate::motifs::Motifs;
 use motif::Kept;
 use names::operators::{BEGIN_SESSION, BEGIN_STREAM, END_STREAM, READ_STREAM};
 use setting::Setting;
-use trail::{BEHIND, COUNT, is_high, tag_of};
+use trail::Walk;
 use within::Judged;
 
-// How many are held, among the numbers of a walk.
-pub const MANY: usize = 14;
-
-// What is held; of the motif that is being read its name in the job, and how many bytes of it are there.
-#[derive(Clone, Copy)]
-pub struct Keeping {
-    pub kept: Kept,
-    pub name: Part,
-    pub joined: usize,
-}
-
-// Nothing is held.
-pub fn none() -> Keeping {
-    let kept = Kept { held: 0, used: 0 };
-    let name = Part { first: 0, count: 0 };
-    Keeping {
-        kept,
-        name,
-        joined: 0,
-    }
-}
-
-// BeginStream: the one that is being read has this name and no bytes yet.
-fn begin_stream(job: &[u8], attrs: &[usize; 80], st: &[usize; 16], kept: Kept) -> Keeping {
-    let name = key::name_in(job, attrs, st[COUNT]);
-    Keeping {
-        kept,
-        name,
-        joined: 0,
-    }
-}
-
-// ReadStream: its data are joined to the one that is being read; the answer is how many bytes are there then.
-fn joined_after(
-    job: &[u8],
-    store: &mut [u8],
-    st: &[usize; 16],
-    used: usize,
-    joined: usize,
-) -> usize {
-    let end = st[BEHIND];
-    let count = data::told(job, is_high(job), st) as usize;
-    if job.len() < end {
-        return joined;
-    }
-    if end < count {
-        return joined;
-    }
-    if 65_536 < used {
-        return joined;
-    }
-    if 65_536 < joined {
-        return joined;
-    }
-    buffer::join(&job[end - count..end], store, used + joined);
-    joined + count
-}
-
-// EndStream of a motif, of which these are the name and the bytes: it is held, or replaces the one that its name holds.
-fn held_after(
+// What a job is read with; the table of the motifs that are held, and what is kept of them; of the motif that is being read its name, and how many
+// bytes of it are there.
+#[derive(Drop)]
+pub struct Keeping<'a> {
     set: Setting,
-    store: &mut [u8],
-    motifs: &mut [usize; 704],
-    name: &[u8],
+    table: [usize; 704],
     kept: Kept,
+    name: &'a [u8],
     joined: usize,
-) -> Kept {
-    let used = kept.used;
-    if store.len() < used {
-        return kept;
-    }
-    if store.len() - used < joined {
-        return kept;
-    }
-    match stream::judge_motif(&store[used..used + joined], set, motifs, kept.held) {
-        Judged::Valid(made) => holding::hold(store, motifs, set, name, kept, joined, made),
-        Judged::Faulty(_, _) => kept,
-    }
 }
 
-// EndStream.
-fn end_stream(
-    job: &[u8],
-    set: Setting,
-    store: &mut [u8],
-    motifs: &mut [usize; 704],
-    now: Keeping,
-) -> Keeping {
-    let kept = now.kept;
-    let name = now.name;
-    let first = name.first;
-    let count = name.count;
-    if job.len() < first {
-        return none();
-    }
-    if job.len() - first < count {
-        return none();
-    }
-    let then = held_after(
-        set,
-        store,
-        motifs,
-        &job[first..first + count],
-        kept,
-        now.joined,
-    );
-    Keeping {
-        kept: then,
-        name,
-        joined: 0,
-    }
+// The data of ReadStream, which a walk has passed.
+fn block<'a>(walk: &Walk<'a>) -> Option<&'a [u8]> {
+    let first = walk.at.checked_sub(data::told(walk) as usize)?;
+    walk.s.get(first..walk.at)
 }
 
-// ReadStream.
-fn read_stream(job: &[u8], store: &mut [u8], st: &[usize; 16], now: Keeping) -> Keeping {
-    let kept = now.kept;
-    let name = now.name;
-    let joined = joined_after(job, store, st, kept.used, now.joined);
-    Keeping { kept, name, joined }
-}
-
-// What an operator of the job makes of the motifs held.
-fn after(
-    job: &[u8],
-    set: Setting,
-    store: &mut [u8],
-    motifs: &mut [usize; 704],
-    attrs: &[usize; 80],
-    st: &[usize; 16],
-    now: Keeping,
-) -> Keeping {
-    match tag_of(st) {
-        BEGIN_SESSION => none(),
-        BEGIN_STREAM => begin_stream(job, attrs, st, now.kept),
-        READ_STREAM => read_stream(job, store, st, now),
-        END_STREAM => end_stream(job, set, store, motifs, now),
-        _ => now,
+impl<'a> Keeping<'a> {
+    // Nothing is held.
+    pub fn none(set: Setting) -> Keeping<'a> {
+        Keeping {
+            set,
+            table: [0; 704],
+            kept: Kept { held: 0, used: 0 },
+            name: b"",
+            joined: 0,
+        }
     }
-}
 
-// The same, and how many are held then among the numbers of the walk.
-pub fn keep(
-    job: &[u8],
-    set: Setting,
-    store: &mut [u8],
-    motifs: &mut [usize; 704],
-    attrs: &[usize; 80],
-    st: &mut [usize; 16],
-    now: Keeping,
-) -> Keeping {
-    let then = after(job, set, store, motifs, attrs, st, now);
-    let kept = then.kept;
-    st[MANY] = kept.held;
-    then
+    // BeginSession.
+    fn begin_session(&mut self) {
+        self.kept = Kept { held: 0, used: 0 };
+        self.joined = 0;
+    }
+
+    // BeginStream: the motif that is being read has this name and no bytes yet.
+    fn begin_stream(&mut self, name: &'a [u8]) {
+        self.name = name;
+        self.joined = 0;
+    }
+
+    // ReadStream: its data are joined to the motif that is being read.
+    fn read_stream(&mut self, walk: &Walk, store: &mut [u8]) {
+        if let Some(block) = block(walk) {
+            buffer::join(block, store, self.kept.used.saturating_add(self.joined));
+            self.joined = self.joined.saturating_add(block.len());
+        }
+    }
+
+    // EndStream: the motif that was read is held, or replaces the one that its name holds.
+    fn end_stream(&mut self, store: &mut [u8]) {
+        let kept = self.kept;
+        let joined = self.joined;
+        self.joined = 0;
+        let Some(bytes) = store.get(kept.used..kept.used.saturating_add(joined)) else {
+            return;
+        };
+        match stream::judge_motif(bytes, self.set, &self.table, kept.held) {
+            Judged::Valid(made) => {
+                self.kept = holding::hold(
+                    store,
+                    &mut self.table,
+                    self.set,
+                    self.name,
+                    kept,
+                    joined,
+                    made,
+                );
+            }
+            Judged::Faulty(_, _) => {}
+        }
+    }
+
+    // What the operator of the job that a walk has passed makes of the motifs held.
+    pub fn keep(&mut self, walk: &Walk<'a>, store: &mut [u8]) {
+        match walk.tag {
+            Some(BEGIN_SESSION) => self.begin_session(),
+            Some(BEGIN_STREAM) => self.begin_stream(walk.name()),
+            Some(READ_STREAM) => self.read_stream(walk, store),
+            Some(END_STREAM) => self.end_stream(store),
+            _ => {}
+        }
+    }
+
+    // The motifs that are held, with the store that has their bytes.
+    pub fn motifs<'b>(&'b self, store: &'b [u8]) -> Motifs<'b> {
+        Motifs {
+            table: &self.table,
+            many: self.kept.held,
+            store,
+        }
+    }
 }

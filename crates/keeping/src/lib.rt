@@ -2,5 +2,7 @@
 #![tactic(auto)]
 
 mod held;
+mod motifs;
 
-pub use held::{Keeping, MANY, keep, none};
+pub use held::Keeping;
+pub use motifs::Motifs;

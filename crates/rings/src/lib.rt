@@ -4,4 +4,5 @@
 mod near;
 mod toward;
 
-pub use near::{NOBODY, lacking, ring};
+pub use near::{Ring, lacking, ring_from};
+pub use toward::Way;

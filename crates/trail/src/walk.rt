@@ -1,136 +1,196 @@
 // From the first operator on to the one at a place.
-use crate::step::{MOTIF, PAGE, PHASE, step};
+ghost use Rattle.std.specs.Prelude.{◌≡◌, ◌<◌};
+ghost use Rattle.items.specs.Rows.{rows_of, Sized};
+ghost use Rattle.scope.specs.Attributes.{has as hasIn, bytes_in};
+
+use crate::stand::{Phase, Rows, Stand};
 use header::Header;
 use items::Scan;
+use names::attributes::{BLOCK_HEIGHT, COLOR_DEPTH, SOURCE_HEIGHT, SOURCE_WIDTH};
+use names::operators::{
+    BEGIN_IMAGE, BEGIN_PAGE, BEGIN_RAST_PATTERN, BEGIN_SESSION, BEGIN_STREAM, CLOSE_DATA_SOURCE,
+    END_IMAGE, END_PAGE, END_RAST_PATTERN, END_SESSION, END_STREAM, OPEN_DATA_SOURCE, POP_GS,
+    PUSH_GS, READ_IMAGE, READ_RAST_PATTERN,
+};
 use number::{Width, byte_at, number_at};
+use phrase::after;
 use setting::{Class, Setting};
 
-// Of the operator at the place: where its items begin, its tag, the number of its attributes, and the tag's place; of none the tag 0.
-pub const START: usize = 8;
-
-pub const TAG: usize = 9;
-
-pub const COUNT: usize = 10;
-
-pub const PLACE: usize = 11;
-
-// The place behind it and its data.
-pub const BEHIND: usize = 12;
-
-// The tag of the operator that a walk has come to; of none 0.
-pub fn tag_of(st: &[usize; 16]) -> u8 {
-    (st[TAG] % 256) as u8
+// A walk through the bytes of a job or a motif, whose numbers stand with their high byte first or not: the place behind the last operator that it
+// has passed and its data; of the operator that it has come to the place where its items begin, its tag if there is one, the tag's place, and how
+// many attributes it has and which; and how matters stand before it.
+#[derive(Clone, Copy)]
+pub struct Walk<'a> {
+    pub s: &'a [u8],
+    pub high: bool,
+    pub at: usize,
+    pub start: usize,
+    pub tag: Option<u8>,
+    pub place: usize,
+    pub count: usize,
+    pub attrs: [usize; 80],
+    pub stand: Stand,
 }
 
 // Numbers stand with their high byte first.
-pub fn is_high(s: &[u8]) -> bool {
+fn is_high(s: &[u8]) -> bool {
     byte_at(s, 0) == 0x28
 }
 
-// The place k bytes on, within what a job has.
-pub fn on(at: usize, k: usize) -> usize {
-    if 1_000_000 < at {
-        return at;
+// Where the operators of a job or a motif begin; its end if its header is malformed.
+fn begin(s: &[u8]) -> usize {
+    match header::header_of(s) {
+        Header::Is(_, _, start) => start,
+        Header::No(_, _) => s.len(),
     }
-    if 1_000_000 < k {
-        return at;
-    }
-    at + k
 }
 
 // The place behind an operator's tag, and behind its data if there is any.
 fn behind(s: &[u8], high: bool, place: usize) -> usize {
-    let p = white::after_white(s, on(place, 1));
-    let b = byte_at(s, p);
-    if b == 0xfa {
-        return on(on(p, 5), number_at(s, on(p, 1), Width::Four, high) as usize);
-    }
-    if b == 0xfb {
-        return on(on(p, 2), byte_at(s, on(p, 1)) as usize);
-    }
-    on(place, 1)
-}
-
-// Notes the operator that begins at a place.
-fn note(st: &mut [usize; 16], start: usize, tag: u8, count: u32, place: usize) {
-    st[START] = start;
-    st[TAG] = tag as usize;
-    st[COUNT] = count as usize;
-    st[PLACE] = place;
-}
-
-// Where items before the place are refused, they are read from the place on.
-fn from_place(
-    s: &[u8],
-    high: bool,
-    at: usize,
-    to: usize,
-    attrs: &mut [usize; 80],
-    st: &mut [usize; 16],
-) {
-    match items::scan_at(s, to, high, attrs) {
-        Scan::Tagged(tag, count, place) => note(st, at, tag, count, place),
-        Scan::Ended => note(st, at, 0, 0, at),
-        Scan::No(_, _) => note(st, at, 0, 0, at),
+    let p = white::after_white(s, after(place, 1));
+    match byte_at(s, p) {
+        0xfa => after(
+            after(p, 5),
+            number_at(s, after(p, 1), Width::Four, high) as usize,
+        ),
+        0xfb => after(after(p, 2), byte_at(s, after(p, 1)) as usize),
+        _ => after(place, 1),
     }
 }
 
-// One operator from a place on, and the place behind it; the place itself, if it is the operator that is looked for, or none.
-pub fn pass(
-    s: &[u8],
-    high: bool,
-    at: usize,
-    to: usize,
-    attrs: &mut [usize; 80],
-    st: &mut [usize; 16],
-) -> usize {
-    match items::scan_at(s, at, high, attrs) {
-        Scan::Tagged(tag, count, place) => {
-            note(st, at, tag, count, place);
-            if to <= place {
-                return at;
+impl<'a> Walk<'a> {
+    // At the first operator.
+    fn of(s: &'a [u8], stand: Stand) -> Walk<'a> {
+        Walk {
+            s,
+            high: is_high(s),
+            at: begin(s),
+            start: 0,
+            tag: None,
+            place: 0,
+            count: 0,
+            attrs: [0; 80],
+            stand,
+        }
+    }
+
+    // At the first operator of a job.
+    pub fn of_job(job: &'a [u8]) -> Walk<'a> {
+        Walk::of(job, Stand::first(Phase::Between, false))
+    }
+
+    // At the first operator of a motif, which is as in a page from its start on.
+    pub fn of_motif(motif: &'a [u8]) -> Walk<'a> {
+        Walk::of(motif, Stand::first(Phase::Page, true))
+    }
+
+    // The value of an attribute of the operator, a whole number; 0 where it is not there.
+    pub fn value(&self, number: u8) -> u32
+        ensures { result < 65536 }
+    {
+        attributes::value_in(self.s, self.high, &self.attrs, self.count, number)
+    }
+
+    // The operator has this attribute.
+    pub fn has(&self, number: u8) -> bool
+        ensures { Sized self.now.attrs self.now.count → result ≡ hasIn number (rows_of self.now.attrs self.now.count) }
+    {
+        attributes::has(&self.attrs, self.count, number)
+    }
+
+    // The name that the operator gives.
+    pub fn name(&self) -> &'a [u8]
+        ensures { Sized self.now.attrs self.now.count → result.now ≡ bytes_in self.now.s.now (rows_of self.now.attrs self.now.count) 139 }
+    {
+        let part = key::name_in(self.s, &self.attrs, self.count);
+        &self.s[part.first..part.first + part.count]
+    }
+
+    // Comes to an operator.
+    fn come(&mut self, tag: Option<u8>, count: u32, place: usize) {
+        self.start = self.at;
+        self.tag = tag;
+        self.count = count as usize;
+        self.place = place;
+    }
+
+    // BeginImage and BeginRastPattern.
+    fn begin_rows(&mut self, phase: Phase) {
+        self.stand.rows = Rows {
+            width: self.value(SOURCE_WIDTH) as u16,
+            depth: self.value(COLOR_DEPTH) as u16,
+            height: self.value(SOURCE_HEIGHT) as u16,
+            read: 0,
+        };
+        self.stand.phase = phase;
+    }
+
+    // ReadImage and ReadRastPattern.
+    fn read_rows(&mut self) {
+        let more = self.value(BLOCK_HEIGHT);
+        self.stand.rows.read = self.stand.rows.read.saturating_add(more);
+    }
+
+    // What an operator changes.
+    fn step(&mut self, tag: u8) {
+        match tag {
+            BEGIN_SESSION => self.stand.phase = Phase::Session,
+            END_SESSION => self.stand.phase = Phase::Between,
+            BEGIN_PAGE => self.stand.phase = Phase::Page,
+            END_PAGE => self.stand.phase = Phase::Session,
+            OPEN_DATA_SOURCE => self.stand.opened = true,
+            CLOSE_DATA_SOURCE => self.stand.opened = false,
+            BEGIN_STREAM => self.stand.phase = Phase::Stream,
+            END_STREAM => self.stand.phase = Phase::Session,
+            POP_GS => self.stand.saved = self.stand.saved.saturating_sub(1),
+            PUSH_GS => self.stand.saved = self.stand.saved.saturating_add(1),
+            BEGIN_IMAGE => self.begin_rows(Phase::Image),
+            BEGIN_RAST_PATTERN => self.begin_rows(Phase::Pattern),
+            READ_IMAGE | READ_RAST_PATTERN => self.read_rows(),
+            END_IMAGE | END_RAST_PATTERN => self.stand.phase = Phase::Page,
+            _ => {}
+        }
+    }
+
+    // Where items before the place are refused, they are read from the place on.
+    fn come_from(&mut self, to: usize) {
+        match items::scan_at(self.s, to, self.high, &mut self.attrs) {
+            Scan::Tagged(tag, count, place) => self.come(Some(tag), count, place),
+            Scan::Ended => self.come(None, 0, self.at),
+            Scan::No(_, _) => self.come(None, 0, self.at),
+        }
+    }
+
+    // Comes to the next operator and passes it; the answer is no if it is the operator that is looked for, or if there is none.
+    pub fn pass(&mut self, to: usize) -> bool {
+        match items::scan_at(self.s, self.at, self.high, &mut self.attrs) {
+            Scan::Tagged(tag, count, place) => {
+                self.come(Some(tag), count, place);
+                if to <= place {
+                    return false;
+                }
+                self.step(tag);
+                self.at = behind(self.s, self.high, place);
+                true
             }
-            step(s, high, tag, attrs, count as usize, st);
-            st[BEHIND] = behind(s, high, place);
-            st[BEHIND]
-        }
-        Scan::Ended => {
-            note(st, at, 0, 0, at);
-            at
-        }
-        Scan::No(_, _) => {
-            from_place(s, high, at, to, attrs, st);
-            at
+            Scan::Ended => {
+                self.come(None, 0, self.at);
+                false
+            }
+            Scan::No(_, _) => {
+                self.come_from(to);
+                false
+            }
         }
     }
-}
 
-// All operators from a place on to the one that is looked for.
-fn all(
-    s: &[u8],
-    high: bool,
-    from: usize,
-    to: usize,
-    attrs: &mut [usize; 80],
-    st: &mut [usize; 16],
-) {
-    let mut at = from;
-    let mut turns = s.len();
-    while 0 < turns {
-        turns -= 1;
-        let next = pass(s, high, at, to, attrs, st);
-        if next == at {
-            return;
+    // Comes to the operator at a place, or with a value there.
+    pub fn come_to(&mut self, to: usize) {
+        for _ in 0..self.s.len() {
+            if !self.pass(to) {
+                return;
+            }
         }
-        at = next;
-    }
-}
-
-// Where the operators of a job or a motif begin; its end if its header is malformed.
-pub fn begin(s: &[u8]) -> usize {
-    match header::header_of(s) {
-        Header::Is(_, _, start) => start,
-        Header::No(_, _) => s.len(),
     }
 }
 
@@ -144,25 +204,9 @@ pub fn class_in(s: &[u8]) -> Class {
 
 // What a job with a header is read with, whose pages start in gray or else in RGB.
 pub fn setting_in(job: &[u8], gray: bool) -> Setting {
-    let class = class_in(job);
     Setting {
-        class,
+        class: class_in(job),
         high: is_high(job),
         gray,
     }
-}
-
-// Walks a job to the operator at a place, or with a value there: `st` says how matters stand, `attrs` has its attributes.
-pub fn walk_job(job: &[u8], to: usize, attrs: &mut [usize; 80], st: &mut [usize; 16]) {
-    match header::header_of(job) {
-        Header::Is(_, high, start) => all(job, high, start, to, attrs, st),
-        Header::No(_, _) => {}
-    }
-}
-
-// The same of a motif, which is as in a page from its start on.
-pub fn walk_motif(motif: &[u8], to: usize, attrs: &mut [usize; 80], st: &mut [usize; 16]) {
-    st[PHASE] = PAGE;
-    st[MOTIF] = 1;
-    walk_job(motif, to, attrs, st);
 }

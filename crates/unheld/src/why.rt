@@ -78,9 +78,9 @@ fn named<P: Print>(
 ) -> io::Result<usize> {
     let other = alike::look_for(job, list, records, name);
     match look_behind(job, list, records, name) {
-        Later::Here(place) => later(out, s, f, place),
-        Later::Elsewhere(place) => elsewhere(out, job, other, s, f, place),
-        Later::Nowhere => before(out, job, other, s, f),
+        Some(Later::Here(place)) => later(out, s, f, place),
+        Some(Later::Elsewhere(place)) => elsewhere(out, job, other, s, f, place),
+        None => before(out, job, other, s, f),
     }
 }
 
@@ -93,13 +93,8 @@ pub fn cause<P: Print>(
     s: &[u8],
     f: Facts,
 ) -> io::Result<usize> {
-    let first = f.name;
-    let count = f.letters;
-    if s.len() < first {
-        return Ok(UNHELD);
+    match s.get(f.name..f.name.saturating_add(f.letters)) {
+        Some(name) => named(out, job, list, records, s, f, name),
+        None => Ok(UNHELD),
     }
-    if s.len() - first < count {
-        return Ok(UNHELD);
-    }
-    named(out, job, list, records, s, f, &s[first..first + count])
 }

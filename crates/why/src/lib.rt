@@ -3,13 +3,11 @@
 
 use hatched::{Until, hatched};
 use names::operators::{
-    BEGIN_IMAGE, BEGIN_SESSION, CLOSE_DATA_SOURCE, END_IMAGE, END_PAGE, END_RAST_PATTERN,
+    BEGIN_RAST_PATTERN, BEGIN_SESSION, CLOSE_DATA_SOURCE, END_IMAGE, END_PAGE, END_RAST_PATTERN,
     END_SESSION, END_STREAM, OPEN_DATA_SOURCE, POP_GS, READ_IMAGE, READ_RAST_PATTERN, READ_STREAM,
     SET_DEFAULT_GS,
 };
-use trail::{
-    BETWEEN, IMAGE, MOTIF, OPENED, PAGE, PATTERN, PHASE, SESSION, START, STREAM, TAG, tag_of,
-};
+use trail::{Phase, Walk};
 
 const NO_SESSION: usize = 37;
 
@@ -105,18 +103,8 @@ fn session_line(tag: u8) -> usize {
         END_SESSION => STILL_OPEN,
         OPEN_DATA_SOURCE => OPEN_TWICE,
         CLOSE_DATA_SOURCE => CLOSE_TWICE,
-        READ_STREAM => NO_STREAM,
-        END_STREAM => NO_STREAM,
+        READ_STREAM | END_STREAM => NO_STREAM,
         _ => NO_PAGE,
-    }
-}
-
-// Of 10 at an operator of patterns, in a page or in a motif.
-fn pattern_line(motif: usize) -> usize {
-    if motif == 1 {
-        PATTERN_IN_A_MOTIF
-    } else {
-        NO_PATTERN
     }
 }
 
@@ -124,134 +112,73 @@ fn pattern_line(motif: usize) -> usize {
 fn image_line(tag: u8) -> usize {
     match tag {
         END_IMAGE => ROWS_MISSING,
-        READ_RAST_PATTERN => NOT_OF_AN_IMAGE,
-        END_RAST_PATTERN => NOT_OF_AN_IMAGE,
+        READ_RAST_PATTERN | END_RAST_PATTERN => NOT_OF_AN_IMAGE,
         _ => IN_AN_IMAGE,
     }
 }
 
 // Of 10 in a pattern.
-fn in_pattern_line(tag: u8) -> usize {
+fn pattern_line(tag: u8) -> usize {
     match tag {
-        READ_IMAGE => NOT_OF_A_PATTERN,
-        END_IMAGE => NOT_OF_A_PATTERN,
+        READ_IMAGE | END_IMAGE => NOT_OF_A_PATTERN,
         END_RAST_PATTERN => PATTERN_ROWS_MISSING,
         _ => IN_A_PATTERN,
     }
 }
 
 // Of 10 in a page, or in a motif.
-fn page_line(tag: u8, motif: usize) -> usize {
-    if tag == POP_GS {
-        return NOTHING_SAVED;
+fn page_line(tag: u8, motif: bool) -> usize {
+    match tag {
+        POP_GS => NOTHING_SAVED,
+        READ_IMAGE | END_IMAGE => NO_IMAGE,
+        BEGIN_RAST_PATTERN.. if motif => PATTERN_IN_A_MOTIF,
+        BEGIN_RAST_PATTERN.. => NO_PATTERN,
+        _ if motif => IN_A_MOTIF,
+        END_PAGE => STILL_SAVED,
+        _ => IN_A_PAGE,
     }
-    if END_IMAGE < tag {
-        return pattern_line(motif);
-    }
-    if BEGIN_IMAGE < tag {
-        return NO_IMAGE;
-    }
-    if motif == 1 {
-        return IN_A_MOTIF;
-    }
-    if tag == END_PAGE {
-        return STILL_SAVED;
-    }
-    IN_A_PAGE
 }
 
 // Of 10.
-fn order_line(st: &[usize; 16]) -> usize {
-    let tag = tag_of(st);
-    let phase = st[PHASE];
-    if phase == BETWEEN {
-        return NO_SESSION_YET;
+fn order_line(walk: &Walk) -> usize {
+    let tag = walk.tag.unwrap_or(0);
+    match walk.stand.phase {
+        Phase::Between => NO_SESSION_YET,
+        Phase::Session => session_line(tag),
+        Phase::Stream => IN_A_STREAM,
+        Phase::Page => page_line(tag, walk.stand.motif),
+        Phase::Image => image_line(tag),
+        Phase::Pattern => pattern_line(tag),
     }
-    if phase == SESSION {
-        return session_line(tag);
-    }
-    if phase == STREAM {
-        return IN_A_STREAM;
-    }
-    if phase == PAGE {
-        return page_line(tag, st[MOTIF]);
-    }
-    if phase == PATTERN {
-        return in_pattern_line(tag);
-    }
-    image_line(tag)
-}
-
-// Of 27 in a session, by the source.
-fn ended_line(opened: usize) -> usize {
-    if opened == 1 { SOURCE_OPEN } else { IN_SESSION }
 }
 
 // Of 27: what is open at the end.
-fn open_line(s: &[u8], st: &[usize; 16]) -> usize {
-    if white::after_white(s, st[START]) < s.len() {
+fn open_line(walk: &Walk) -> usize {
+    if white::after_white(walk.s, walk.start) < walk.s.len() {
         return WAITS;
     }
-    let phase = st[PHASE];
-    if phase == BETWEEN {
-        return NO_SESSION;
-    }
-    if phase == SESSION {
-        return ended_line(st[OPENED]);
-    }
-    if phase == STREAM {
-        return IN_STREAM;
-    }
-    if phase == IMAGE {
-        return IN_IMAGE;
-    }
-    if phase == PATTERN {
-        return IN_PATTERN;
-    }
-    if st[MOTIF] == 1 {
-        STATES_SAVED
-    } else {
-        IN_PAGE
+    match walk.stand.phase {
+        Phase::Between => NO_SESSION,
+        Phase::Session if walk.stand.opened => SOURCE_OPEN,
+        Phase::Session => IN_SESSION,
+        Phase::Stream => IN_STREAM,
+        Phase::Page if walk.stand.motif => STATES_SAVED,
+        Phase::Page => IN_PAGE,
+        Phase::Image => IN_IMAGE,
+        Phase::Pattern => IN_PATTERN,
     }
 }
 
-// Of 17.
-fn source_line(tag: u8) -> usize {
-    if tag == READ_STREAM { READ_CLOSED } else { 17 }
-}
-
-// Of 18.
-fn data_line(s: &[u8], st: &[usize; 16]) -> usize {
-    if data::is_told(s, st) {
-        OTHER_LENGTH
-    } else {
-        NO_DATA
-    }
-}
-
-// Of 4: a motif has the job's class.
-fn class_line(motif: usize) -> usize {
-    if motif == 1 { OTHER_CLASS } else { 4 }
-}
-
-// Of 9.
-fn unknown_line(tag: u8) -> usize {
-    if tag == SET_DEFAULT_GS {
-        OPERATOR_OF_TWO
-    } else {
-        9
-    }
-}
-
-// The line of a code; those from 30 on are none of a code's own.
-pub fn line_of(code: u32, s: &[u8], st: &[usize; 16]) -> usize {
+// The line of a code; those from 30 on are none of a code's own. Of 4: a motif has the job's class.
+pub fn line_of(code: u32, walk: &Walk) -> usize {
     match code {
-        4 => class_line(st[MOTIF]),
-        9 => unknown_line(tag_of(st)),
-        10 => order_line(st),
-        17 => source_line(tag_of(st)),
-        18 => data_line(s, st),
-        27 => open_line(s, st),
+        4 if walk.stand.motif => OTHER_CLASS,
+        9 if walk.tag == Some(SET_DEFAULT_GS) => OPERATOR_OF_TWO,
+        10 => order_line(walk),
+        17 if walk.tag == Some(READ_STREAM) => READ_CLOSED,
+        18 if data::is_told(walk) => OTHER_LENGTH,
+        18 => NO_DATA,
+        27 => open_line(walk),
         32 => RING,
         33 => NO_PLACE,
         _ => code as usize,
@@ -261,30 +188,22 @@ pub fn line_of(code: u32, s: &[u8], st: &[usize; 16]) -> usize {
 // The line of 34: why the pattern of a number is not defined at a place of the job.
 pub fn undefined_line(job: &[u8], at: usize, number: u32) -> usize {
     match hatched(job, at, number) {
-        Until::Now => NOT_DEFINED,
         Until::PageBefore => ENDED_WITH_PAGE,
         Until::EarlierPage => OF_EARLIER_PAGE,
         Until::EarlierSession => OF_EARLIER_SESSION,
-        Until::Never => NOT_DEFINED,
+        Until::Now | Until::Never => NOT_DEFINED,
     }
 }
 
 // The line of the cure of 9: what may come.
-pub fn may_come_line(st: &[usize; 16]) -> usize {
-    match st[PHASE] {
-        BETWEEN => MAY_COME,
-        SESSION => MAY_COME + 1,
-        STREAM => MAY_COME + 2,
-        PAGE => may_come_in_page(st[MOTIF]),
-        PATTERN => MAY_COME + 5,
-        _ => MAY_COME + 4,
-    }
-}
-
-fn may_come_in_page(motif: usize) -> usize {
-    if motif == 1 {
-        MAY_COME_IN_A_MOTIF
-    } else {
-        MAY_COME + 3
+pub fn may_come_line(walk: &Walk) -> usize {
+    match walk.stand.phase {
+        Phase::Between => MAY_COME,
+        Phase::Session => MAY_COME + 1,
+        Phase::Stream => MAY_COME + 2,
+        Phase::Page if walk.stand.motif => MAY_COME_IN_A_MOTIF,
+        Phase::Page => MAY_COME + 3,
+        Phase::Image => MAY_COME + 4,
+        Phase::Pattern => MAY_COME + 5,
     }
 }

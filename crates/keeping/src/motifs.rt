@@ -1,0 +1,31 @@
+// The held motifs, as they are looked up.
+use motif::{LENGTH, ROW, START, Where, find};
+use names::limits::MOTIFS_MOST;
+
+// Their table, how many they are, and the store that has their bytes.
+#[derive(Clone, Copy)]
+pub struct Motifs<'a> {
+    pub table: &'a [usize; 704],
+    pub many: usize,
+    pub store: &'a [u8],
+}
+
+impl<'a> Motifs<'a> {
+    // The row of the motif of a name.
+    pub fn row_of(&self, name: &[u8]) -> Option<usize> {
+        match find(self.table, self.many, name) {
+            Where::At(k) => Some(k),
+            Where::Nowhere => None,
+        }
+    }
+
+    // The bytes of the motif of a row; none where the table has no such row.
+    pub fn bytes_of(&self, k: usize) -> &'a [u8] {
+        if MOTIFS_MOST <= k {
+            return b"";
+        }
+        let first = self.table[k * ROW + START];
+        let end = first.saturating_add(self.table[k * ROW + LENGTH]);
+        self.store.get(first..end).unwrap_or(b"")
+    }
+}
