@@ -1,5 +1,5 @@
 // The held motifs, as they are looked up.
-use motif::{LENGTH, ROW, START, Where, find};
+use motif::{LENGTH, ROW, START, find};
 use names::limits::MOTIFS_MOST;
 
 // Their table, how many they are, and the store that has their bytes.
@@ -13,10 +13,7 @@ pub struct Motifs<'a> {
 impl<'a> Motifs<'a> {
     // The row of the motif of a name.
     pub fn row_of(&self, name: &[u8]) -> Option<usize> {
-        match find(self.table, self.many, name) {
-            Where::At(k) => Some(k),
-            Where::Nowhere => None,
-        }
+        find(self.table, self.many, name)
     }
 
     // The bytes of the motif of a row; none where the table has no such row.
