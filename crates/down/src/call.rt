@@ -1,17 +1,23 @@
 // An operator of a page or of a motif performed, a call from what its motif comes to.
+ghost use Rattle.std.specs.Prelude.{IfSome, ◌<◌};
+
 use arm::seen::Seen;
 use keeping::Motifs;
-use motif::{ROW, SUM};
-use names::limits::MOTIFS_MOST;
+use motif::{ROW, SUM, Where, find};
 use names::operators::EXEC_STREAM;
 use trail::Walk;
 
 // The row of the motif that the operator calls; none if it calls none that is held.
-pub fn called(walk: &Walk, motifs: Motifs) -> Option<usize> {
+pub fn called(walk: &Walk, motifs: Motifs) -> Option<usize>
+    ensures { IfSome (λ k. k < 64) result }
+{
     if walk.tag != Some(EXEC_STREAM) {
         return None;
     }
-    motifs.row_of(walk.name())
+    match find(motifs.table, motifs.many, walk.name()) {
+        Where::At(k) => Some(k),
+        Where::Nowhere => None,
+    }
 }
 
 // What is seen after an operator that is no call.
@@ -24,7 +30,7 @@ fn step(walk: &Walk, gray: bool, seen: Seen) -> Seen {
 // What is seen after the operator that a walk has come to; pages start in gray or else in RGB.
 pub fn performed(walk: &Walk, gray: bool, motifs: Motifs, seen: Seen) -> Seen {
     match called(walk, motifs) {
-        Some(k) if k < MOTIFS_MOST => seen.call(summary::unpacked(motifs.table[k * ROW + SUM])),
-        _ => step(walk, gray, seen),
+        Some(k) => seen.call(summary::unpacked(motifs.table[k * ROW + SUM])),
+        None => step(walk, gray, seen),
     }
 }

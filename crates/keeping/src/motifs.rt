@@ -1,5 +1,5 @@
 // The held motifs, as they are looked up.
-use motif::{LENGTH, ROW, START, find};
+use motif::{LENGTH, ROW, START};
 use names::limits::MOTIFS_MOST;
 
 // Their table, how many they are, and the store that has their bytes.
@@ -11,11 +11,6 @@ pub struct Motifs<'a> {
 }
 
 impl<'a> Motifs<'a> {
-    // The row of the motif of a name.
-    pub fn row_of(&self, name: &[u8]) -> Option<usize> {
-        find(self.table, self.many, name)
-    }
-
     // The bytes of the motif of a row; none where the table has no such row.
     pub fn bytes_of(&self, k: usize) -> &'a [u8] {
         if MOTIFS_MOST <= k {

@@ -1,7 +1,7 @@
 // From the first operator on to the one at a place.
 ghost use Rattle.std.specs.Prelude.{◌≡◌, ◌<◌};
 ghost use Rattle.items.specs.Rows.{rows_of, Sized};
-ghost use Rattle.scope.specs.Attributes.{has as hasIn, bytes_in};
+ghost use Rattle.scope.specs.Attributes.{has as hasIn, value_in, bytes_in};
 
 use crate::stand::{Phase, Rows, Stand};
 use header::Header;
@@ -86,7 +86,8 @@ impl<'a> Walk<'a> {
 
     // The value of an attribute of the operator, a whole number; 0 where it is not there.
     pub fn value(&self, number: u8) -> u32
-        ensures { result < 65536 }
+        ensures value { Sized self.now.attrs self.now.count → result ≡ value_in self.now.high self.now.s.now (rows_of self.now.attrs self.now.count) number }
+        ensures upper_bound { result < 65536 }
     {
         attributes::value_in(self.s, self.high, &self.attrs, self.count, number)
     }
