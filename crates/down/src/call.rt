@@ -3,7 +3,7 @@ ghost use Rattle.std.specs.Prelude.{IfSome, ◌<◌};
 
 use arm::seen::Seen;
 use keeping::Motifs;
-use motif::{ROW, SUM, Where, find};
+use motif::{ROW, SUM, find};
 use names::operators::EXEC_STREAM;
 use trail::Walk;
 
@@ -14,10 +14,7 @@ pub fn called(walk: &Walk, motifs: Motifs) -> Option<usize>
     if walk.tag != Some(EXEC_STREAM) {
         return None;
     }
-    match find(motifs.table, motifs.many, walk.name()) {
-        Where::At(k) => Some(k),
-        Where::Nowhere => None,
-    }
+    find(motifs.table, motifs.many, walk.name())
 }
 
 // What is seen after an operator that is no call.

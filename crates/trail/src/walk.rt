@@ -4,8 +4,7 @@ ghost use Rattle.items.specs.Rows.{rows_of, Sized};
 ghost use Rattle.scope.specs.Attributes.{has as hasIn, value_in, bytes_in};
 
 use crate::stand::{Phase, Rows, Stand};
-use header::Header;
-use items::Scan;
+use items::Tagged;
 use names::attributes::{BLOCK_HEIGHT, COLOR_DEPTH, SOURCE_HEIGHT, SOURCE_WIDTH};
 use names::operators::{
     BEGIN_IMAGE, BEGIN_PAGE, BEGIN_RAST_PATTERN, BEGIN_SESSION, BEGIN_STREAM, CLOSE_DATA_SOURCE,
@@ -40,8 +39,8 @@ fn is_high(s: &[u8]) -> bool {
 // Where the operators of a job or a motif begin; its end if its header is malformed.
 fn begin(s: &[u8]) -> usize {
     match header::header_of(s) {
-        Header::Is(_, _, start) => start,
-        Header::No(_, _) => s.len(),
+        Ok(header) => header.next,
+        Err(_) => s.len(),
     }
 }
 
@@ -107,12 +106,17 @@ impl<'a> Walk<'a> {
         &self.s[part.first..part.first + part.count]
     }
 
-    // Comes to an operator.
-    fn come(&mut self, tag: Option<u8>, count: u32, place: usize) {
+    // Comes to the operator that was read, or to none.
+    fn come(&mut self, found: Option<Tagged>) {
         self.start = self.at;
-        self.tag = tag;
-        self.count = count as usize;
-        self.place = place;
+        self.tag = None;
+        self.count = 0;
+        self.place = self.at;
+        if let Some(tagged) = found {
+            self.tag = Some(tagged.tag);
+            self.count = tagged.count as usize;
+            self.place = tagged.at;
+        }
     }
 
     // BeginImage and BeginRastPattern.
@@ -153,35 +157,22 @@ impl<'a> Walk<'a> {
         }
     }
 
-    // Where items before the place are refused, they are read from the place on.
-    fn come_from(&mut self, to: usize) {
-        match items::scan_at(self.s, to, self.high, &mut self.attrs) {
-            Scan::Tagged(tag, count, place) => self.come(Some(tag), count, place),
-            Scan::Ended => self.come(None, 0, self.at),
-            Scan::No(_, _) => self.come(None, 0, self.at),
-        }
-    }
-
-    // Comes to the next operator and passes it; the answer is no if it is the operator that is looked for, or if there is none.
+    // Comes to the next operator and passes it; the answer is no if it is the operator that is looked for, or if there is none. Where items before that
+    // one are refused, they are read from its place on.
     pub fn pass(&mut self, to: usize) -> bool {
-        match items::scan_at(self.s, self.at, self.high, &mut self.attrs) {
-            Scan::Tagged(tag, count, place) => {
-                self.come(Some(tag), count, place);
-                if to <= place {
-                    return false;
-                }
-                self.step(tag);
-                self.at = behind(self.s, self.high, place);
+        let Ok(found) = items::scan_at(self.s, self.at, self.high, &mut self.attrs) else {
+            let found = items::scan_at(self.s, to, self.high, &mut self.attrs);
+            self.come(found.unwrap_or(None));
+            return false;
+        };
+        self.come(found);
+        match found {
+            Some(tagged) if tagged.at < to => {
+                self.step(tagged.tag);
+                self.at = behind(self.s, self.high, tagged.at);
                 true
             }
-            Scan::Ended => {
-                self.come(None, 0, self.at);
-                false
-            }
-            Scan::No(_, _) => {
-                self.come_from(to);
-                false
-            }
+            _ => false,
         }
     }
 
