@@ -5,6 +5,7 @@ use std::io;
 use std::io::{ErrorKind, Read};
 
 // Reads till the room is full or the input ends; the answer is how many bytes came.
+// The turns are counted, since nothing that falls bounds how often a read is interrupted.
 pub fn read_full<R: Read>(input: &mut R, room: &mut [u8]) -> io::Result<usize>
     ensures { IfOk result (λ n. n ≤ length room.new) }
 {

@@ -35,7 +35,11 @@ fn two_at(s: &[u8], at: usize, high: bool) -> u16
     ensures { result ≡ number high 2 s.now at }
 {
     let bytes = [byte_at(s, at), byte_at(s, at + 1)];
-    if high { u16::from_be_bytes(bytes) } else { u16::from_le_bytes(bytes) }
+    if high {
+        u16::from_be_bytes(bytes)
+    } else {
+        u16::from_le_bytes(bytes)
+    }
 }
 
 // The number of four bytes at a place, in the byte order.
@@ -49,7 +53,11 @@ fn four_at(s: &[u8], at: usize, high: bool) -> u32
         byte_at(s, at + 2),
         byte_at(s, at + 3),
     ];
-    if high { u32::from_be_bytes(bytes) } else { u32::from_le_bytes(bytes) }
+    if high {
+        u32::from_be_bytes(bytes)
+    } else {
+        u32::from_le_bytes(bytes)
+    }
 }
 
 // The number of a width at a place; bytes past the end count as 0.

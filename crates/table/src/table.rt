@@ -5,7 +5,7 @@ ghost use Rattle.scope.specs.Table.{table_one, table_two, table, line_in};
 ghost use Rattle.setting.specs.Views.{class_as};
 ghost use Rattle.scope.specs.Choice.{among};
 ghost use Rattle.table.specs.Lines.{own_lines, own_rules, own_line, own_rule, is_known, row_with, brief_as, brief_of, takes_of, rule_of};
-ghost use Rattle.table.specs.declared.table.Form.TheVariants.{Each, One, Line, Unknown};
+ghost use Rattle.table.specs.declared.table.Form.TheVariants.{Each, One, Line};
 
 use names::attributes::{COLOR_DEPTH as DEPTH, SOURCE_HEIGHT as HEIGHT, SOURCE_WIDTH as WIDTH, *};
 use names::operators::*;
@@ -103,13 +103,6 @@ fn one_or_both(a: u8, b: u8, c: u8) -> Row
     line(Form::Line, [a, b, c])
 }
 
-// No operator of the table.
-fn unknown() -> Row
-    ensures { result ≡ row_with Unknown [] }
-{
-    line(Form::Unknown, [])
-}
-
 // What attributes an operator takes in class 1;1: one line for one operator.
 #[tactic(auto, unfolding(scope::specs::Table::table_one, scope::specs::Table::line_in, crate::specs::Lines::must_in, crate::specs::Lines::numbers_in, crate::specs::Lines::up_to_no))]
 fn row_of_one(tag: u8) -> Row
@@ -155,7 +148,7 @@ fn row_of_one(tag: u8) -> Row
         SET_CURSOR_REL => needs([POINT]),
         SET_PEN_SOURCE => one_of([RGB_COLOR, GRAY_LEVEL, NULL_PEN]),
         SET_PEN_WIDTH => needs([PEN_WIDTH]),
-        _ => unknown(),
+        _ => line(Form::Unknown, []),
     }
 }
 
@@ -166,17 +159,7 @@ fn own_row(tag: u8) -> Row
 {
     match tag {
         BEGIN_PAGE => each(0, [ORIENTATION, MEDIA_SIZE, MEDIA_SOURCE, MEDIA_TYPE]),
-        READ_IMAGE => each(
-            3,
-            [
-                START_LINE,
-                BLOCK_HEIGHT,
-                COMPRESS_MODE,
-                PAD_BYTES_MULTIPLE,
-                BLOCK_BYTE_LENGTH,
-            ],
-        ),
-        READ_RAST_PATTERN => each(
+        READ_IMAGE | READ_RAST_PATTERN => each(
             3,
             [
                 START_LINE,
@@ -214,6 +197,7 @@ pub fn row_of(class: Class, tag: u8) -> Row
     row_of_one(tag)
 }
 
+// A rule on one line; a struct literal would take five.
 fn takes(kind: Kind, low: usize, high: usize) -> Rule
     ensures { result ≡ record { kind = kind; low = low; high = high } }
 {

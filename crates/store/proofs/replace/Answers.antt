@@ -12,8 +12,9 @@ pub returns-then-used-start : goal.returns-then-used-start
 unfolding replaced
 returns-then-used-start c = let a = c.args in
     let h : a.used < a.start + a.old = elim c.then-used-start.branch [
-      then-used-start-via-then-used-start w ↦ omega (arith, w.if-used-start.true)
-    | then-used-start-via-else-used-start+then-used-start-2 w ↦ omega (arith, w.if-used-start-2.true) ] in
+      | then-used-start-via-then-used-start w ↦ omega (arith, w.if-used-start.true)
+      | then-used-start-via-else-used-start+then-used-start-2 w ↦ omega (arith, w.if-used-start-2.true)
+    ] in
     rw (lt-leb _ _ h)
 
 pub returns-then-work-used : goal.returns-then-work-used
@@ -21,8 +22,9 @@ unfolding replaced
 returns-then-work-used c = let a = c.args in
     let p : a.start + a.old ≤ a.used = omega arith in
     let h : length a.work.now < a.used + a.new = elim c.then-work-used.branch [
-      then-work-used-via-then-work-used w ↦ omega (arith, w.if-work-used.true)
-    | then-work-used-via-else-work-used+then-work-used-2 w ↦ omega (arith, w.if-work-used-2.true) ] in
+      | then-work-used-via-then-work-used w ↦ omega (arith, w.if-work-used.true)
+      | then-work-used-via-else-work-used+then-work-used-2 w ↦ omega (arith, w.if-work-used-2.true)
+    ] in
     rw (le-leb _ _ p, lt-leb _ _ h)
 
 pub returns : goal.returns

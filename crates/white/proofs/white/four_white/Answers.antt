@@ -14,7 +14,7 @@ returns-then-word-eq538976288 c = let a = c.args in
     λ _. record {
       within = omega arith;
       white = after-four a.s.now p 0x20 (omega arith) refl
-      (all-20 _ _ _ _ (b p) (b (p + 1)) (b (p + 2)) (b (p + 3)) (sym c.from_le_bytes-word.ensures ∙ c.if-word-eq538976288.true));
+          (all-20 _ _ _ _ (b p) (b (p + 1)) (b (p + 2)) (b (p + 3)) (sym c.from_le_bytes-word.ensures ∙ c.if-word-eq538976288.true));
     }
 
 pub returns-else-word-eq538976288 : goal.returns-else-word-eq538976288
@@ -25,5 +25,5 @@ returns-else-word-eq538976288 c = let a = c.args in
     λ e. record {
       within = omega arith;
       white = after-four a.s.now p 0x00 (omega arith) refl
-      (all-00 _ _ _ _ (b p) (b (p + 1)) (b (p + 2)) (b (p + 3)) (sym c.from_le_bytes-word.ensures ∙ eqb-true _ _ e));
+          (all-00 _ _ _ _ (b p) (b (p + 1)) (b (p + 2)) (b (p + 3)) (sym c.from_le_bytes-word.ensures ∙ eqb-true _ _ e));
     }
