@@ -23,16 +23,15 @@ use reader::Operator;
 use setting::Setting;
 
 // OpenDataSource opens the source, CloseDataSource closes it.
+#[tactic(auto, unfolding(crate::specs::Begins::opened_after))]
 fn opened_after(tag: u8, opened: bool) -> bool
     ensures { result ≡ opened_after tag opened }
 {
-    if tag == OPEN_DATA_SOURCE {
-        return true;
+    match tag {
+        OPEN_DATA_SOURCE => true,
+        CLOSE_DATA_SOURCE => false,
+        _ => opened,
     }
-    if tag == CLOSE_DATA_SOURCE {
-        return false;
-    }
-    opened
 }
 
 // BeginPage begins a page, for which no pattern is defined, BeginStream a motif.

@@ -13,9 +13,9 @@ fn define_hatch(patterns: &mut [u16; 4487], hatch: Hatch)
 {
     if hatch.session {
         patterns::define(patterns, pattern_rows::SESSION, hatch.number);
-        return;
+    } else {
+        patterns::define(patterns, pattern_rows::PAGE, hatch.number);
     }
-    patterns::define(patterns, pattern_rows::PAGE, hatch.number);
 }
 
 // EndRastPattern defines the pattern that is open; another operator defines none.

@@ -8,6 +8,6 @@ pub returns-then-hatch : goal.returns-then-hatch
 returns-then-hatch c = let h = c.args.hatch in
     λ i. define_session (hatch_as h) i c.define.ensures.patterns_unchanged c.if-hatch.true c.define.ensures.row_after c.define.ensures.others
 
-pub returns : goal.returns
-returns c = let h = c.args.hatch in
-    λ i. define_page (hatch_as h) i c.define-2.ensures.patterns_unchanged c.if-hatch.false c.define-2.ensures.row_after c.define-2.ensures.others
+pub returns-else-hatch : goal.returns-else-hatch
+returns-else-hatch c = let h = c.args.hatch in let d = c.define-else-hatch.ensures in
+    λ i. define_page (hatch_as h) i d.patterns_unchanged c.if-hatch.false d.row_after d.others
