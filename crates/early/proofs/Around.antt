@@ -24,7 +24,7 @@ use Rattle.early.proofs.Tags as tags
 use Rattle.early.specs.Earlier.{Earlies, EarliesIn}
 use Rattle.early.specs.declared.early.Early.TheVariants.{Fine}
 use Rattle.early.specs.declared.early.Early.{Early}
-use Rattle.early.specs.declared.early.Refusal.{Refusal}
+use Rattle.refusal.specs.declared.refusal.Refusal.{Refusal}
 use Rattle.early.proofs.Breaking.{fine-in}
 
 -- an operator between sessions

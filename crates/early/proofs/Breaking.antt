@@ -32,46 +32,46 @@ use Rattle.refusal.specs.Codes.{number_of}
 use Rattle.refusal.specs.declared.code.Code.{Code}
 use Rattle.within.specs.Judging.{Judges, judges_valid, judges_faulty}
 use Rattle.within.specs.declared.inside.Made.{Made}
-use Rattle.within.specs.declared.inside.Judged.TheVariants.{Valid, Faulty}
 use Rattle.early.proofs.Places.{taken, few-free, again-free, new-taken, place_other, place-begin}
 use Rattle.early.proofs.Wanting.{call-wants}
 use Rattle.early.specs.Hatched.{Hatched}
 use Rattle.early.specs.Earlier.{Earlies, EarliesIn, early_fine, early_call, early_held, early_no}
 use Rattle.early.specs.declared.early.Early.{Early}
 use Rattle.early.specs.declared.early.Early.TheVariants.{Fine, Call, Held}
-use Rattle.early.specs.declared.early.Refusal.{Refusal as CodeRefusal}
+use Rattle.refusal.specs.declared.refusal.Refusal.{Refusal as CodeRefusal}
+use Rattle.refusal.specs.declared.code.Code.TheVariants as code_is
 use Rattle.summary.specs.Sums.{SumsAs}
 use Rattle.early.proofs.Full.{first-not, few-full, held-full, new-full}
 
 -- a refusal that is not inside a motif
-abbrev pub no : ℕ → Result Early CodeRefusal
+abbrev pub no : Code → Result Early CodeRefusal
 no code = Err (record { code = code; place = outer })
 
 module _ (t p : List ℕ) (c : Case) where
-  no-19 : too_much c ≡ true → Earlies t p c (no 19)
+  no-19 : too_much c ≡ true → Earlies t p c (no code_is.NoRoom)
   unfolding first_broken early
   no-19 e = early_no (λ rest. rw e) (omega arith)
 
-  no-33 : too_much c ≡ false → no_place c ≡ true → Earlies t p c (no 33)
+  no-33 : too_much c ≡ false → no_place c ≡ true → Earlies t p c (no code_is.PatternsFull)
   unfolding first_broken early
   no-33 a e = early_no (λ rest. rw (a, e)) (omega arith)
 
-  no_own : {code inner : ℕ} → too_much c ≡ false → no_place c ≡ false → c.made ≡ faulty code inner → inner < 4_294_967_296
-      → Earlies t p c (Err (record { code = code; place = inner }))
+  no_own : {r : CodeRefusal} → too_much c ≡ false → no_place c ≡ false → c.made ≡ faulty (number_of r.code) r.place → r.place < 4_294_967_296
+      → Earlies t p c (Err r)
   unfolding first_broken early
   no_own a f e l = early_no (λ rest. rw (a, f, e)) l
 
   -- a call that is refused
   module _ (a : too_much c ≡ false) (f : no_place c ≡ false) (s : (r : Refusal) → own_or c.made r ≡ r) where
-    no-21 : c.met.missing ≡ true → Earlies t p c (no 21)
+    no-21 : c.met.missing ≡ true → Earlies t p c (no code_is.NotHeld)
     unfolding first_broken early name_missing
     no-21 e = early_no (λ rest. rw (a, f) (s _ ∙ rw e)) (omega arith)
 
-    no-32 : c.met.missing ≡ false → c.met.again ≡ true → Earlies t p c (no 32)
+    no-32 : c.met.missing ≡ false → c.met.again ≡ true → Earlies t p c (no code_is.Ring)
     unfolding first_broken early name_missing calls_itself
     no-32 m e = early_no (λ rest. rw (a, f) (s _ ∙ rw (m, e))) (omega arith)
 
-    no-22 : c.met.missing ≡ false → c.met.again ≡ false → c.met.deep ≡ true → Earlies t p c (no 22)
+    no-22 : c.met.missing ≡ false → c.met.again ≡ false → c.met.deep ≡ true → Earlies t p c (no code_is.Deep)
     unfolding first_broken early name_missing calls_itself too_deep
     no-22 m g e = early_no (λ rest. rw (a, f) (s _ ∙ rw (m, g, e))) (omega arith)
 
@@ -152,7 +152,7 @@ module _ (set : Setting) (t p job attrs : List ℕ) (x : Session) (o : Operator)
     begin-at e (finds_at f r) = begin-fine (held-full x.held named (rw e at f))
 
     pub begin-nowhere : {name : List ℕ} {n : ℕ} → length x.held ≡ n → 64 ≤ n → name ≡ named → Finds x.held name None
-        → EarliesIn set t p job attrs x o (no 19)
+        → EarliesIn set t p job attrs x o (no code_is.NoRoom)
     unfolding EarliesIn
     begin-nowhere l h e (finds_none f) =
         let w : full x.held named ≡ true = new-full x.held named (rw l h) (rw e at f) in
@@ -170,7 +170,7 @@ module _ (set : Setting) (t p job attrs : List ℕ) (x : Session) (o : Operator)
     read-few st f = ltb-false _ _ (sym (much-read st) ∙ f)
 
     -- ReadStream
-    pub read_past : 16384 < bytes_held x.held + (length (joined_of x.busy) + o.length) → EarliesIn set t p job attrs x o (no 19)
+    pub read_past : 16384 < bytes_held x.held + (length (joined_of x.busy) + o.length) → EarliesIn set t p job attrs x o (no code_is.NoRoom)
     unfolding EarliesIn
     read_past h = λ st. no-19 t p (of-it st) (much-read st ∙ lt-ltb _ _ h)
 
@@ -215,7 +215,7 @@ module _ (set : Setting) (t p job attrs : List ℕ) (x : Session) (o : Operator)
         λ st. early_call (eq-eqb o.tag 0x5e b) q (z ∙ missing-call h st)
         (record { room = exec_much st; place = exec_place st; sound = exec_sound st; met = met-call st ∙ n })
 
-    pub exec_no : {u w name : List ℕ} {code : Code} → name ≡ named → Calls u w x.held name (Err code) → EarliesIn set t p job attrs x o (no (number_of code))
+    pub exec_no : {u w name : List ℕ} {code : Code} → name ≡ named → Calls u w x.held name (Err code) → EarliesIn set t p job attrs x o (no code)
     unfolding EarliesIn
     exec_no e (calls_missing m) =
         λ st. no-21 t p (of-it st) (exec_much st) (exec_place st) (exec_sound st) (ap (λ (y : Met). y.missing) (met-call st) ∙ (rw e at m))
@@ -249,7 +249,7 @@ module _ (set : Setting) (t p job attrs : List ℕ) (x : Session) (o : Operator)
     pub pattern-again : among ns h.number ≡ true → EarliesIn set t p job attrs x o (Ok Fine)
     pattern-again f = pattern-fine (again-free ns h.number f)
 
-    pub pattern-new : 32 ≤ length ns → among ns h.number ≡ false → EarliesIn set t p job attrs x o (no 33)
+    pub pattern-new : 32 ≤ length ns → among ns h.number ≡ false → EarliesIn set t p job attrs x o (no code_is.PatternsFull)
     unfolding EarliesIn
     pattern-new l f = λ st. no-33 t p (of-it st) (pattern-much st) (pattern-place st ∙ new-taken ns h.number l f)
 
@@ -265,7 +265,7 @@ module _ (set : Setting) (t p job attrs : List ℕ) (x : Session) (o : Operator)
     made-end st = rw (eq-eqb o.tag 0x5d b)
 
     -- EndStream of a valid motif, with what it selects
-    valid-held : {made : Made} (m : Judged) → motif_of set (joined_of x.busy) ≡ m → Judges t x.held (Valid made) m
+    valid-held : {made : Made} (m : Judged) → motif_of set (joined_of x.busy) ≡ m → Judges t x.held (Ok made) m
         → ((ops : List Own) → m ≡ valid ops → numbers_in p OfMotif ≡ collected (selects_in ops)) → EarliesIn set t p job attrs x o (Ok (Held made))
     unfolding EarliesIn case_of
     valid-held m e (judges_valid {ops = ops} k) f =
@@ -273,19 +273,19 @@ module _ (set : Setting) (t p job attrs : List ℕ) (x : Session) (o : Operator)
         λ st. early_held (eq-eqb o.tag 0x5d b) (made-end st ∙ e) k (f ops refl)
         (record { room = ends-free st; place = ends-place st; sound = sound-valid t p (of-it st) (made-end st ∙ e); met = met-other st ne })
 
-    pub end-valid : {s : List ℕ} {made : Made} → s ≡ joined_of x.busy → Judges t x.held (Valid made) (motif_of set s)
+    pub end-valid : {s : List ℕ} {made : Made} → s ≡ joined_of x.busy → Judges t x.held (Ok made) (motif_of set s)
         → ((ops : List Own) → motif_of set s ≡ valid ops → numbers_in p OfMotif ≡ collected (selects_in ops)) → EarliesIn set t p job attrs x o (Ok (Held made))
     end-valid e h f = valid-held _ refl (rw e at h) (rw e at f)
 
-    faulty-is : {ms : List Motif} {code place : ℕ} {m : Judged} → Judges t ms (Faulty code place) m → m ≡ faulty code place
+    faulty-is : {ms : List Motif} {r : CodeRefusal} {m : Judged} → Judges t ms (Err r) m → m ≡ faulty (number_of r.code) r.place
     faulty-is judges_faulty = refl
 
     -- EndStream of a faulty one: its place lies within it
-    pub end-faulty : {s : List ℕ} {code place : ℕ} → s ≡ joined_of x.busy → length s ≤ 16384 → Judges t x.held (Faulty code place) (motif_of set s)
-        → EarliesIn set t p job attrs x o (Err (record { code = code; place = place }))
+    pub end-faulty : {s : List ℕ} {r : CodeRefusal} → s ≡ joined_of x.busy → length s ≤ 16384 → Judges t x.held (Err r) (motif_of set s)
+        → EarliesIn set t p job attrs x o (Err r)
     unfolding EarliesIn
-    end-faulty {s} {code} {place} e l h =
-        let f : motif_of set s ≡ faulty code place = faulty-is h in
-        let k : place ≤ length s = motif-placed set s code place f in
-        let g : motif_of set (joined_of x.busy) ≡ faulty code place = rw e at f in
+    end-faulty {s} {r} e l h =
+        let f : motif_of set s ≡ faulty (number_of r.code) r.place = faulty-is h in
+        let k : r.place ≤ length s = motif-placed set s (number_of r.code) r.place f in
+        let g : motif_of set (joined_of x.busy) ≡ faulty (number_of r.code) r.place = rw e at f in
         λ st. no_own t p (of-it st) (ends-free st) (ends-place st) (made-end st ∙ g) (omega arith)

@@ -17,7 +17,8 @@ use Rattle.within.specs.Judging.{Makes}
 use Rattle.within.specs.declared.inside.Made.{Made}
 use Rattle.early.specs.declared.early.Early.{Early}
 use Rattle.early.specs.declared.early.Early.TheVariants.{Fine, Call, Held}
-use Rattle.early.specs.declared.early.Refusal.{Refusal as CodeRefusal}
+use Rattle.refusal.specs.declared.refusal.Refusal.{Refusal as CodeRefusal}
+use Rattle.refusal.specs.Codes.{number_of}
 
 -- these rules, and others after them
 abbrev pub before : List Rule → List Rule
@@ -38,7 +39,7 @@ pub data Earlies (t p : List ℕ) (c : Case) : Result Early CodeRefusal → Type
       → Earlies t p c (Ok (Call v b))
   early_held : {made : Made} {ops : List Own} → eqb c.op.tag EndStream ≡ true → c.made ≡ valid ops → Makes t c.session.held made ops
       → numbers_in p OfMotif ≡ collected (selects_in ops) → Unbroken c → Earlies t p c (Ok (Held made))
-  early_no : {r : CodeRefusal} → ((rest : List Rule) → first_broken every c (before rest) ≡ refused r.code r.place) → r.place < 4_294_967_296 → Earlies t p c (Err r)
+  early_no : {r : CodeRefusal} → ((rest : List Rule) → first_broken every c (before rest) ≡ refused (number_of r.code) r.place) → r.place < 4_294_967_296 → Earlies t p c (Err r)
 
 -- the answer of the code to an operator with these attributes in a session, whatever was performed before
 unfoldable pub EarliesIn : Setting → (t p job attrs : List ℕ) → Session → Operator → Result Early CodeRefusal → Type 0

@@ -26,18 +26,12 @@ use names::limits::{MOTIFS_MOST, STORE_MOST};
 use names::operators::{BEGIN_RAST_PATTERN, BEGIN_STREAM, EXEC_STREAM, READ_STREAM};
 use place::{Busy, Place};
 use reader::Operator;
+use refusal::{Code, Refusal};
 use setting::Setting;
-use within::{Judged, Made};
+use within::Made;
 
 // The place of a refusal is that inside the motif that ends, which is the inner position of the verdict; any other refusal has this.
 pub const OUTER: usize = 4_294_967_295;
-
-// A refusal: the code of the rule that is broken, and where.
-#[derive(Clone, Copy)]
-pub struct Refusal {
-    pub code: u32,
-    pub place: usize,
-}
 
 // What an operator that breaks none of these rules goes on with: a call with its motif's summary, and whether a pattern that is selected there is not defined;
 // EndStream with what is noted of the motif.
@@ -68,7 +62,7 @@ fn begin_stream(
     match motif::find(motifs, held, &job[first..first + count]) {
         Some(_) => Ok(Early::Fine),
         None => Err(Refusal {
-            code: 19,
+            code: Code::NoRoom,
             place: OUTER,
         }),
     }
@@ -98,7 +92,7 @@ fn read_stream(used: usize, joined: usize, o: Operator) -> Result<Early, Refusal
 {
     if STORE_MOST.saturating_sub(used).saturating_sub(joined) < o.length {
         return Err(Refusal {
-            code: 19,
+            code: Code::NoRoom,
             place: OUTER,
         });
     }
@@ -124,18 +118,14 @@ fn end_stream(
     let used = kept.used;
     if work.len() < used || work.len() - used < joined {
         return Err(Refusal {
-            code: 19,
+            code: Code::NoRoom,
             place: OUTER,
         });
     }
     let mut own = [0u16; 66];
-    match stream::judge_noting(&work[used..used + joined], set, motifs, kept.held, &mut own) {
-        Judged::Valid(made) => {
-            patterns::take_own(patterns, &own);
-            Ok(Early::Held(made))
-        }
-        Judged::Faulty(code, place) => Err(Refusal { code, place }),
-    }
+    let made = stream::judge_noting(&work[used..used + joined], set, motifs, kept.held, &mut own)?;
+    patterns::take_own(patterns, &own);
+    Ok(Early::Held(made))
 }
 
 // While a motif is read.
@@ -177,10 +167,7 @@ fn exec_stream(
 {
     match calls::call_of(motifs, patterns, held, name) {
         Ok(called) => Ok(Early::Call(called.sum, called.bare)),
-        Err(code) => Err(Refusal {
-            code: code.number(),
-            place: OUTER,
-        }),
+        Err(code) => Err(Refusal { code, place: OUTER }),
     }
 }
 

@@ -8,9 +8,10 @@ ghost use Rattle.pattern_rows.specs.Numbers.{OfPage, OfSession};
 ghost use Rattle.early.specs.Earlier.{EarliesIn};
 ghost use Rattle.early.specs.Hatched.{Hatched};
 
-use crate::early::{Early, OUTER, Refusal};
+use crate::early::{Early, OUTER};
 use names::limits::PATTERNS_MOST;
 use reader::Operator;
+use refusal::{Code, Refusal};
 use setting::Setting;
 
 // The row of the numbers that are defined for the session, or for the page.
@@ -44,7 +45,7 @@ pub fn begin_pattern(
         return Ok(Early::Fine);
     }
     Err(Refusal {
-        code: 33,
+        code: Code::PatternsFull,
         place: OUTER,
     })
 }

@@ -4,4 +4,4 @@
 mod early;
 mod hatching;
 
-pub use early::{Early, Refusal, early_of};
+pub use early::{Early, early_of};

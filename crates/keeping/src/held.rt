@@ -4,7 +4,6 @@ use motif::Kept;
 use names::operators::{BEGIN_SESSION, BEGIN_STREAM, END_STREAM, READ_STREAM};
 use setting::Setting;
 use trail::Walk;
-use within::Judged;
 
 // What a job is read with; the table of the motifs that are held, and what is kept of them; of the motif that is being read its name, and how many
 // bytes of it are there.
@@ -63,19 +62,16 @@ impl<'a> Keeping<'a> {
         let Some(bytes) = store.get(kept.used..kept.used.saturating_add(joined)) else {
             return;
         };
-        match stream::judge_motif(bytes, self.set, &self.table, kept.held) {
-            Judged::Valid(made) => {
-                self.kept = holding::hold(
-                    store,
-                    &mut self.table,
-                    self.set,
-                    self.name,
-                    kept,
-                    joined,
-                    made,
-                );
-            }
-            Judged::Faulty(_, _) => {}
+        if let Ok(made) = stream::judge_motif(bytes, self.set, &self.table, kept.held) {
+            self.kept = holding::hold(
+                store,
+                &mut self.table,
+                self.set,
+                self.name,
+                kept,
+                joined,
+                made,
+            );
         }
     }
 

@@ -89,7 +89,7 @@ pub fn perform(
     let early = match early::early_of(job, set, work, motifs, patterns, attrs, place, o) {
         Ok(early) => early,
         Err(refusal) => {
-            return ControlFlow::Break(stop(st, refusal.code, o.at, inner_of(refusal)));
+            return ControlFlow::Break(stop(st, refusal.code.number(), o.at, inner_of(refusal)));
         }
     };
     match judge(job, set, attrs, patterns, early, place, o, st.performed) {

@@ -27,7 +27,8 @@ use Rattle.refusal.proofs.Numbers.{no_pass}
 use Rattle.early.specs.Earlier.{Earlies, Unbroken, early_call, early_no}
 use Rattle.early.proofs.Full.{unbroken_first}
 use Rattle.early.specs.declared.early.Early.TheVariants as early_is
-use Rattle.early.specs.declared.early.Refusal.{Refusal as CodeRefusal}
+use Rattle.refusal.specs.declared.refusal.Refusal.{Refusal as CodeRefusal}
+use Rattle.refusal.specs.Codes.{number_of}
 use Rattle.ruling.specs.Judged.{Judgement, judged_to, judged_no}
 
 -- the row of an operator that is no call, and of a call
@@ -69,7 +70,7 @@ module _ (c : Case) (u : Unbroken c) (bare : Bool) (is : bare ≡ pattern_missin
           judged_no {code = k} (λ room. by_code room ∙ rw (ne_eqb code 0 (λ z. no_pass k (e ∙ z))) (ap (λ x. refused x outer) (sym e)))
 
 -- one of the earlier rules is broken, and its place fits a verdict
-pub early-refused : {t p : List ℕ} {c : Case} {r : CodeRefusal} → Earlies t p c (Err r) → (room : ℕ) → first_broken every c (rules room) ≡ refused r.code r.place
+pub early-refused : {t p : List ℕ} {c : Case} {r : CodeRefusal} → Earlies t p c (Err r) → (room : ℕ) → first_broken every c (rules room) ≡ refused (number_of r.code) r.place
 unfolding rules
 early-refused (early_no f l) room = f (later room)
 

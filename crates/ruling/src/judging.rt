@@ -18,10 +18,10 @@ ghost use Rattle.early.specs.declared.early.Early.TheVariants as early_is;
 ghost use Rattle.ruling.specs.Judged.{Judgement};
 
 use arm::moved::Moved;
-use early::{Early, Refusal};
+use early::Early;
 use place::Place;
 use reader::Operator;
-use refusal::Code;
+use refusal::{Code, Refusal};
 use setting::Setting;
 
 // The inner position of a refusal that comes before those of the page.

@@ -13,7 +13,17 @@ use Rattle.scope.specs.Sound.{Sound, sound_none, sound_more}
 use Rattle.motif.specs.Held.{Keeps, InRow, start_in, long_in}
 use Rattle.motif.proofs.Rowed.{is_same, none_is, held-here, held_on}
 use Rattle.motif.proofs.Stored.{row-start, row-long, stored_at}
+use Rattle.within.specs.Judging.{Makes, Judges, judges_valid}
+use Rattle.within.specs.declared.inside.Made.{Made}
+use Rattle.refusal.specs.declared.refusal.Refusal.{Refusal}
+use Rattle.std.specs.Prelude.{Result, Ok, Err}
+use Rattle.std.specs.Result.{result_unwrap_or}
 use Rattle.settling.specs.Making.{InStore}
+
+-- what is noted of a motif that is judged valid, which it is, whatever is noted of another
+pub valid-makes : {t : List ℕ} {ms : List Motif} {ops : List Own} (j : Result Made Refusal) (other : Made) → Judges t ms j (valid ops) → Makes t ms (result_unwrap_or j other) ops
+valid-makes (Ok made) other (judges_valid k) = k
+valid-makes (Err r) other h = elim h [ ]
 
 -- what is held is what its bytes say
 pub sound-at : {set : Setting} {ms : List Motif} {m : Motif} (name : List ℕ) → Sound set ms → held_as name ms ≡ Held.is m → motif_of set m.bytes ≡ valid m.ops

@@ -17,7 +17,7 @@ use motif::{CALLS, LENGTH, LEVEL, MISSING, ROW, START, SUM};
 use names::limits::NESTING_MOST;
 use setting::Setting;
 use summary::EMPTY;
-use within::{Judged, Made};
+use within::Made;
 
 // A motif that calls nobody and comes to nothing.
 const NOTHING: Made = Made {
@@ -26,17 +26,7 @@ const NOTHING: Made = Made {
     missing: false,
 };
 
-// What is noted of a valid motif; of a faulty one, which is never held, nothing.
-fn made_of(judged: Judged) -> Made
-    ensures { (t : List ℕ) (ms : List Motif) (ops : List Own) → Judges t ms judged (valid ops) → Makes t ms result ops }
-{
-    match judged {
-        Judged::Valid(made) => made,
-        Judged::Faulty(_, _) => NOTHING,
-    }
-}
-
-// The motif of row i as its bytes say; of one that does not lie in the store, nothing.
+// The motif of row i as its bytes say; of one that does not lie in the store, or is faulty, as none that is held is, nothing.
 fn read(work: &[u8], set: Setting, motifs: &[usize; 704], held: usize, i: usize) -> Made
     requires { i < 64 }
     ensures { (ms : List Motif) (m : Motif) → Keeps motifs.now held ms → InStore (setting_as set) work.now ms → InRow ms i m
@@ -48,7 +38,7 @@ fn read(work: &[u8], set: Setting, motifs: &[usize; 704], held: usize, i: usize)
         return NOTHING;
     }
     let end = start + long;
-    made_of(stream::judge_motif(&work[start..end], set, motifs, held))
+    stream::judge_motif(&work[start..end], set, motifs, held).unwrap_or(NOTHING)
 }
 
 // Whom the motif of row i calls, and whether it names one that is not held; it has no level yet.

@@ -13,7 +13,9 @@ use Rattle.order.specs.Pictures.{picture_as}
 use Rattle.pattern_rows.specs.Numbers.{numbers_in, collected}
 use Rattle.within.specs.Judging.{Follows, Judges, Turns, turns_go, turns_stop, Notes, NotesOn}
 use Rattle.within.specs.declared.inside.Inside.{Inside}
-use Rattle.within.specs.declared.inside.Judged.{Judged}
+use Rattle.within.specs.declared.inside.Made.{Made}
+use Rattle.refusal.specs.declared.refusal.Refusal.{Refusal}
+use Rattle.std.specs.Prelude.{Result}
 use Rattle.std.specs.declared.ops.ControlFlow.TheVariants.{Continue, Break}
 use native.Mathlib.Nat.{zero-div}
 use Rattle.scope.specs.Calls.{flat}
@@ -71,7 +73,7 @@ module _ (t : List ℕ) (ms : List Motif) (set : Setting) (s : List ℕ) (end : 
   goes first was own i ops (stop _) x5 e p q = elim x5 [ ]
   goes first was own i ops (go w) (turns_go f) e p q = record { stands = w; follows = f; judged = e; notes = λ z. q (p z) }
 
-  stops : (j : Judged) (n : Next scope.Inside scope.Judged) → Turns t ms (Break j) n → onward (judged_inside set s) n ≡ end → Judges t ms j end
+  stops : (j : Result Made Refusal) (n : Next scope.Inside scope.Judged) → Turns t ms (Break j) n → onward (judged_inside set s) n ≡ end → Judges t ms j end
   stops j (go _) x3 e = elim x3 [ ]
   stops j (stop r) (turns_stop h) e = subst (λ x. Judges t ms j x) e h
 
@@ -79,11 +81,11 @@ module _ (t : List ℕ) (ms : List Motif) (set : Setting) (s : List ℕ) (end : 
       → (numbers_in first 0 ≡ [] → Notes was w.ops) → NotesOn was own w.ops (motif_step set s w) → Stands t ms set s end first own i
   turned-go first was own i w e k = goes first was own i w.ops (motif_step set s w) k (sym (motif-step set s w) ∙ e)
 
-  pub turned-stop : (j : Judged) (w : scope.Inside) → judged_inside set s w ≡ end → Turns t ms (Break j) (motif_step set s w) → Judges t ms j end
+  pub turned-stop : (j : Result Made Refusal) (w : scope.Inside) → judged_inside set s w ≡ end → Turns t ms (Break j) (motif_step set s w) → Judges t ms j end
   turned-stop j w e k = stops j (motif_step set s w) k (sym (motif-step set s w) ∙ e)
 
 -- where the walk stops with a valid motif, what its operators select is noted
-module _ (t : List ℕ) (ms : List Motif) (set : Setting) (s : List ℕ) (was own : List ℕ) (j : Judged) (ops : List Own) where
+module _ (t : List ℕ) (ms : List Motif) (set : Setting) (s : List ℕ) (was own : List ℕ) (j : Result Made Refusal) (ops : List Own) where
   stop-notes : (before : List Own) (n : Next scope.Inside scope.Judged) → Turns t ms (Break j) n → onward (judged_inside set s) n ≡ scope.valid ops
       → Notes was before → NotesOn was own before n → Notes own ops
   stop-notes before (go _) x5 e p q = elim x5 [ ]

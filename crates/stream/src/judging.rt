@@ -12,9 +12,10 @@ ghost use Rattle.stream.specs.Lines.{Comes};
 use crate::lines::run_from;
 use both::both::Both;
 use order::Picture;
+use refusal::{Code, Refusal};
 use setting::Setting;
 use std::ops::ControlFlow;
-use within::{Inside, Judged, advance};
+use within::{Inside, Made, advance};
 
 // Past the run of operators that stands next and leaves the page as it is, with no image open.
 fn past_run(s: &[u8], set: Setting, inside: Inside) -> Inside
@@ -42,7 +43,7 @@ fn operators(
     held: usize,
     attrs: &mut [usize; 80],
     own: &mut [u16; 66],
-) -> Judged
+) -> Result<Made, Refusal>
     requires { next ≤ length s.now }
     ensures attrs_len_unchanged { length attrs.new ≡ length attrs.old }
     ensures judges { (ms : List Motif) → length attrs.old ≡ 80 → Keeps motifs.now held ms
@@ -77,32 +78,34 @@ pub fn judge_noting(
     motifs: &[usize; 704],
     held: usize,
     own: &mut [u16; 66],
-) -> Judged
+) -> Result<Made, Refusal>
     ensures own_len_unchanged { length own.new ≡ length own.old }
     ensures judges { (ms : List Motif) → Keeps motifs.now held ms → Judges motifs.now ms result (motif_of (setting_as set) s.now) }
     ensures own_after { (ms : List Motif) (ops : List Own) → Keeps motifs.now held ms → numbers_in own.old 0 ≡ []
         → motif_of (setting_as set) s.now ≡ scope.valid ops → numbers_in own.new 0 ≡ collected (selects_in ops) }
 {
     let mut attrs = [0usize; 80];
-    match header::header_of(s) {
-        Err(refusal) => Judged::Faulty(refusal.code.number(), refusal.place),
-        Ok(header) => {
-            let of_job = set.class;
-            if header.class != of_job {
-                return Judged::Faulty(4, 12);
-            }
-            let of_motif = Setting {
-                class: of_job,
-                high: header.high,
-                gray: set.gray,
-            };
-            operators(s, of_motif, header.next, motifs, held, &mut attrs, own)
-        }
+    let header = header::header_of(s)?;
+    if header.class != set.class {
+        return Err(Refusal {
+            code: Code::Class,
+            place: 12,
+        });
     }
+    let of_motif = Setting {
+        high: header.high,
+        ..set
+    };
+    operators(s, of_motif, header.next, motifs, held, &mut attrs, own)
 }
 
 // A motif of a job with this setting, where the table keeps these. It has the job's class, else 4.
-pub fn judge_motif(s: &[u8], set: Setting, motifs: &[usize; 704], held: usize) -> Judged
+pub fn judge_motif(
+    s: &[u8],
+    set: Setting,
+    motifs: &[usize; 704],
+    held: usize,
+) -> Result<Made, Refusal>
     ensures { (ms : List Motif) → Keeps motifs.now held ms → Judges motifs.now ms result (motif_of (setting_as set) s.now) }
 {
     let mut own = [0u16; 66];

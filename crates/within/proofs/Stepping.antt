@@ -19,8 +19,10 @@ use Rattle.both.proofs.Levels.{drawn-pop}
 use Rattle.order.specs.Pictures.{picture_as, image_in}
 use Rattle.within.specs.Judging.{Follows, Judges, judges_faulty, Turns, turns_go, turns_stop, after_in, Ahead, Notes, NotesOn}
 use Rattle.within.specs.declared.inside.Inside.{Inside}
-use Rattle.within.specs.declared.inside.Judged.{Judged}
-use Rattle.within.specs.declared.inside.Judged.TheVariants.{Faulty}
+use Rattle.within.specs.declared.inside.Made.{Made}
+use Rattle.refusal.specs.declared.refusal.Refusal.{Refusal}
+use Rattle.refusal.specs.Codes.{number_of}
+use Rattle.std.specs.Prelude.{Result, Err}
 use Rattle.std.specs.declared.ops.ControlFlow.TheVariants.{Continue, Break}
 
 -- what reading knows where the definition stands
@@ -68,11 +70,11 @@ pop-read set s w o e t =
     (good-may (subst (λ r. GoodRead (length s) w.at (may_come (phase_in w.saved w.picture) true) r) e (read-good (context_in set w) s w.at))) t
 
 module _ (t : List ℕ) (ms : List Motif) (set : Setting) (s : List ℕ) (w : scope.Inside) where
-  pub step-no : (code place : ℕ) → operator_at (context_in set w) s w.at ≡ Read.no code place → Turns t ms (Break (Faulty code place)) (motif_step set s w)
+  pub step-no : (r : Refusal) → operator_at (context_in set w) s w.at ≡ Read.no (number_of r.code) r.place → Turns t ms (Break (Err r)) (motif_step set s w)
   unfolding motif_step on_read
-  step-no code place e = rw e (turns_stop judges_faulty)
+  step-no r e = rw e (turns_stop judges_faulty)
 
-  pub step-ended : (j : Judged) → operator_at (context_in set w) s w.at ≡ Read.ended → Judges t ms j (on_end s w w.picture) → Turns t ms (Break j) (motif_step set s w)
+  pub step-ended : (j : Result Made Refusal) → operator_at (context_in set w) s w.at ≡ Read.ended → Judges t ms j (on_end s w w.picture) → Turns t ms (Break j) (motif_step set s w)
   unfolding motif_step on_read
   step-ended j e h = rw e (turns_stop h)
 

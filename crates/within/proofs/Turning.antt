@@ -25,15 +25,18 @@ use Rattle.summary.specs.Balance.{Level, Balanced, OwnLevel}
 use Rattle.arm.proofs.Rows.{flat-does, flat-calls}
 use Rattle.both.proofs.Levels.{own-does, own-calls, own-level, saved-depth, may-saved}
 use Rattle.order.specs.Pictures.{picture_as}
+use Rattle.order.specs.declared.picture.Picture.{Picture as CodePicture}
+use Rattle.order.specs.declared.picture.Picture.TheVariants as picture_is
 use Rattle.key.specs.Mark.{mark}
 use Rattle.motif.specs.Held.{Finds, finds_at, finds_none}
 use Rattle.motif.specs.Tables.{calls_row, lacks_one, SumFor, SumsUp}
-use Rattle.std.specs.Prelude.{Some, None}
+use Rattle.std.specs.Prelude.{Some, None, Result, Ok, Err}
 use Rattle.within.proofs.Naming.{deed-row, deed-lacks, held-row, held-lacks, none_row, none-lacks}
 use Rattle.within.specs.Judging.{Follows, Judges, judges_valid, judges_faulty, after_in, Called}
 use Rattle.within.specs.declared.inside.Inside.{Inside}
-use Rattle.within.specs.declared.inside.Judged.{Judged}
-use Rattle.within.specs.declared.inside.Judged.TheVariants.{Valid, Faulty}
+use Rattle.within.specs.declared.inside.Made.{Made}
+use Rattle.refusal.specs.declared.refusal.Refusal.{Refusal}
+use Rattle.refusal.specs.declared.code.Code.TheVariants.{NotEnded}
 
 -- an operator that is no call
 module _ (t : List ℕ) (ms : List Motif) (set : Setting) (s : List ℕ) (o : Operator) (w : scope.Inside) where
@@ -121,7 +124,7 @@ held-balanced t row scope.Held.none u = rw u nothing-balanced
 -- the end, with nothing saved: the runs of a balanced row are summed up
 pub ended-even : (t : List ℕ) (ms : List Motif) (i : Inside) (w : scope.Inside) (v : ℕ) → Follows t ms i w → w.saved ≡ 0
     → ((row : List Stroke) → Runs i.both row → Balanced row → SumsAs v row)
-    → Judges t ms (Valid (record { sum = v; calls = i.calls; missing = i.missing })) (scope.valid w.ops)
+    → Judges t ms (Ok (record { sum = v; calls = i.calls; missing = i.missing })) (scope.valid w.ops)
 unfolding Balanced SumsUp
 ended-even t ms i w v f e r =
     judges_valid
@@ -131,17 +134,16 @@ ended-even t ms i w v f e r =
       summed = λ g u k. r (flat g k w.ops) (f.runs g u k) (own-level g k (λ n. held-balanced t (g n) (scope.held_as n ms) (u n)) w.ops 0 0 (rw e at f.level));
     })
 
--- the end with an image open, with a pattern, and with neither
+-- the end with an image or a pattern open, and with neither
 module _ (t : List ℕ) (ms : List Motif) (s : List ℕ) (w : scope.Inside) (len : ℕ) (long : length s ≡ len) where
-  pub ended-open : (i : Image) → w.picture ≡ scope.being i → Judges t ms (Faulty 27 len) (on_end s w w.picture)
+  pub ended-open : (p : CodePicture) → (p ≡ picture_is.Nothing → ⊥) → picture_as p ≡ w.picture
+      → Judges t ms (Err (record { code = NotEnded; place = len })) (on_end s w w.picture)
   unfolding on_end
-  ended-open i e = rw (e, long) judges_faulty
+  ended-open picture_is.Nothing n e = absurd (n refl)
+  ended-open (picture_is.Being i) n e = rw (← e, long) judges_faulty
+  ended-open (picture_is.Hatching i h) n e = rw (← e, long) judges_faulty
 
-  pub ended-hatching : (h : Hatch) (i : Image) → w.picture ≡ scope.hatching h i → Judges t ms (Faulty 27 len) (on_end s w w.picture)
-  unfolding on_end
-  ended-hatching h i e = rw (e, long) judges_faulty
-
-  pub ended-closed : (j : Judged) → w.picture ≡ scope.Picture.none → Judges t ms j (pick (eqb w.saved 0) (scope.valid w.ops) (scope.faulty 27 len))
+  pub ended-closed : (j : Result Made Refusal) → w.picture ≡ scope.Picture.none → Judges t ms j (pick (eqb w.saved 0) (scope.valid w.ops) (scope.faulty 27 len))
       → Judges t ms j (on_end s w w.picture)
   unfolding on_end
   ended-closed j e h = rw (e, long) h

@@ -1,6 +1,6 @@
 -- What the judging of a motif keeps, and its answers in 01's words.
 -- Assumes nothing.
-use Rattle.std.specs.Prelude.{ℕ, ◌≤◌, ◌<◌, ◌≡◌, Bool, List, [], ◌∷◌, ◌++◌}
+use Rattle.std.specs.Prelude.{ℕ, ◌≤◌, ◌<◌, ◌≡◌, Bool, List, [], ◌∷◌, ◌++◌, Result, Ok, Err}
 use Rattle.std.specs.declared.ops.ControlFlow.{ControlFlow}
 use Rattle.std.specs.declared.ops.ControlFlow.TheVariants.{Continue, Break}
 use Rattle.scope.specs.Iterate.{Next, go, stop}
@@ -20,8 +20,8 @@ use Rattle.pattern_rows.specs.Numbers.{numbers_in, noted, collected}
 use Rattle.patterns.specs.Selects.{selects_in}
 use Rattle.within.specs.declared.inside.Inside.{Inside}
 use Rattle.within.specs.declared.inside.Made.{Made}
-use Rattle.within.specs.declared.inside.Judged.{Judged}
-use Rattle.within.specs.declared.inside.Judged.TheVariants.{Valid, Faulty}
+use Rattle.refusal.specs.declared.refusal.Refusal.{Refusal}
+use Rattle.refusal.specs.Codes.{number_of}
 
 -- the code stands where the definition stands: the two runs are those of the operators so far, where a call performs besides what the table sums up for its name,
 -- whatever the motif's number will be; and the names called so far are noted
@@ -41,18 +41,18 @@ pub record Makes (t : List ℕ) (ms : List scope.Motif) (made : Made) (ops : Lis
   pub lacks : made.missing ≡ lacks_one ms ops
   pub summed : (f : Name → List Stroke) → SumsUp t ms f → (k : ℕ) → SumsAs made.sum (flat f k ops)
 
--- a motif's judgement: valid with what is noted of it, or the code and the place inside it
-pub data Judges (t : List ℕ) (ms : List scope.Motif) : Judged → scope.Judged → Type 0 where
-  judges_valid : {ops : List scope.Own} {made : Made} → Makes t ms made ops → Judges t ms (Valid made) (scope.valid ops)
-  judges_faulty : {code place : ℕ} → Judges t ms (Faulty code place) (scope.faulty code place)
+-- a motif's judgement: valid with what is noted of it, or a refusal, whose place is inside it
+pub data Judges (t : List ℕ) (ms : List scope.Motif) : Result Made Refusal → scope.Judged → Type 0 where
+  judges_valid : {ops : List scope.Own} {made : Made} → Makes t ms made ops → Judges t ms (Ok made) (scope.valid ops)
+  judges_faulty : {r : Refusal} → Judges t ms (Err r) (scope.faulty (number_of r.code) r.place)
 
 -- after a turn: the code goes on where the definition does, or stops with its judgement
-pub data Turns (t : List ℕ) (ms : List scope.Motif) : ControlFlow Judged Inside → Next scope.Inside scope.Judged → Type 0 where
+pub data Turns (t : List ℕ) (ms : List scope.Motif) : ControlFlow (Result Made Refusal) Inside → Next scope.Inside scope.Judged → Type 0 where
   turns_go : {i : Inside} {w : scope.Inside} → Follows t ms i w → Turns t ms (Continue i) (go w)
-  turns_stop : {j : Judged} {r : scope.Judged} → Judges t ms j r → Turns t ms (Break j) (stop r)
+  turns_stop : {j : Result Made Refusal} {r : scope.Judged} → Judges t ms j r → Turns t ms (Break j) (stop r)
 
 -- judging goes on further on and within the bytes, with no more saved than bytes passed
-abbrev pub Ahead : (len at : ℕ) → ControlFlow Judged Inside → Type 0
+abbrev pub Ahead : (len at : ℕ) → ControlFlow (Result Made Refusal) Inside → Type 0
 Ahead len at (Continue i) = (at < i.at) × (i.at ≤ len) × (i.saved ≤ i.at)
 Ahead len at (Break j) = Unit {0}
 

@@ -22,6 +22,7 @@ use motif::{ROW, SUM, find};
 use names::operators::{EXEC_STREAM, POP_GS, PUSH_GS};
 use order::{Phase, Picture, picture_after};
 use reader::{Context, Operator};
+use refusal::{Code, Refusal};
 use setting::Setting;
 use std::ops::ControlFlow;
 use summary::EMPTY;
@@ -33,13 +34,6 @@ pub struct Made {
     pub sum: usize,
     pub calls: usize,
     pub missing: bool,
-}
-
-// A valid motif, with what is noted of it; or a code and a place inside it.
-#[derive(Clone, Copy)]
-pub enum Judged {
-    Valid(Made),
-    Faulty(u32, usize),
 }
 
 // Where the judging of a motif stands.
@@ -82,16 +76,12 @@ fn saved_after(tag: u8, saved: usize) -> usize
 fn called(inside: Inside, next: usize, calls: usize, missing: bool, sum: usize) -> Inside
     ensures { Called inside next calls missing sum result }
 {
-    let picture = inside.picture;
-    let both = inside.both;
-    let after = both.call(summary::unpacked(sum));
     Inside {
         at: next,
-        saved: inside.saved,
-        picture,
         calls,
         missing,
-        both: after,
+        both: inside.both.call(summary::unpacked(sum)),
+        ..inside
     }
 }
 
@@ -171,35 +161,37 @@ fn deed(
 }
 
 // As many PopGS as PushGS, else 27.
-fn balanced(len: usize, inside: Inside) -> Judged
+fn balanced(len: usize, inside: Inside) -> Result<Made, Refusal>
     ensures { (t : List ℕ) (ms : List Motif) (w : scope.Inside) → Follows t ms inside w
         → Judges t ms result (pick (eqb w.saved 0) (scope.valid w.ops) (scope.faulty 27 len)) }
 {
     if inside.saved != 0 {
-        return Judged::Faulty(27, len);
+        return Err(Refusal {
+            code: Code::NotEnded,
+            place: len,
+        });
     }
-    let both = inside.both;
-    let summary = both.summary();
-    Judged::Valid(Made {
-        sum: summary.packed(),
+    Ok(Made {
+        sum: inside.both.summary().packed(),
         calls: inside.calls,
         missing: inside.missing,
     })
 }
 
 // The end: no image open and as many PopGS as PushGS, else 27.
-fn ended(len: usize, inside: Inside) -> Judged
+fn ended(len: usize, inside: Inside) -> Result<Made, Refusal>
     ensures { (t : List ℕ) (ms : List Motif) (w : scope.Inside) (s : List ℕ) → length s ≡ len → Follows t ms inside w → Judges t ms result (on_end s w w.picture) }
 {
-    let picture = inside.picture;
-    match picture {
-        Picture::Being(_) => Judged::Faulty(27, len),
-        Picture::Hatching(_, _) => Judged::Faulty(27, len),
-        Picture::Nothing => balanced(len, inside),
-    }
+    let Picture::Nothing = inside.picture else {
+        return Err(Refusal {
+            code: Code::NotEnded,
+            place: len,
+        });
+    };
+    balanced(len, inside)
 }
 
-// One operator of a motif: the judging goes on, or has ended.
+// One operator of a motif: the judging goes on, or has ended, with what is noted of a valid motif, or a refusal and its place inside the motif.
 pub fn advance(
     s: &[u8],
     set: Setting,
@@ -208,7 +200,7 @@ pub fn advance(
     held: usize,
     attrs: &mut [usize; 80],
     own: &mut [u16; 66],
-) -> ControlFlow<Judged, Inside>
+) -> ControlFlow<Result<Made, Refusal>, Inside>
     requires { (inside.at ≤ length s.now) × (inside.saved ≤ inside.at) }
     ensures attrs_len_unchanged { length attrs.new ≡ length attrs.old }
     ensures ahead { Ahead (length s.now) inside.at result }
@@ -226,7 +218,7 @@ pub fn advance(
         asked: false,
     };
     match reader::operator_at(context, s, inside.at, attrs) {
-        Err(refusal) => ControlFlow::Break(Judged::Faulty(refusal.code.number(), refusal.place)),
+        Err(refusal) => ControlFlow::Break(Err(refusal)),
         Ok(None) => ControlFlow::Break(ended(s.len(), inside)),
         Ok(Some(o)) => {
             if o.tag == EXEC_STREAM {

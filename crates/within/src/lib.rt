@@ -3,4 +3,4 @@
 
 mod inside;
 
-pub use inside::{Inside, Judged, Made, advance};
+pub use inside::{Inside, Made, advance};

@@ -9,4 +9,4 @@ returns-in-Ok-clause-earlies_in c = λ set p job attrs x o k s h e t.
 
 pub returns-in-Err-clause-earlies_in : goal.returns-in-Err-clause-earlies_in
 returns-in-Err-clause-earlies_in c = λ set p job attrs x o k s h e t.
-    rw c.number.ensures (exec_no set c.args.motifs.now p job attrs x o t e (c.in-Err.ensures.calls x.held k s h.few))
+    exec_no set c.args.motifs.now p job attrs x o t e (c.in-Err.ensures.calls x.held k s h.few)

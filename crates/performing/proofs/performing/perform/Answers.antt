@@ -26,7 +26,8 @@ returns-in-Err-clause-steps_on c = let a = c.args in
     stopped c.stop.result (on_read every set a.job.now (length list₀) d (operator o)) _ a.o.at _ h.listed
     (step-refused set a.job.now (length list₀) d o _ _ (early-refused r (length list₀)))
     (c.stop.ensures d (omega (arith, c.requires)) (omega (arith, c.requires)) h.records h.performed
-    ∙ ap (λ i. told (refused_at c.in-Err.refusal.code a.o.at i d)) (c.inner_of.ensures (early-fits r)))
+    ∙ ap (λ i. told (refused_at c.number.result a.o.at i d)) (c.inner_of.ensures (early-fits r))
+    ∙ ap (λ k. told (refused_at k a.o.at c.in-Err.refusal.place d)) c.number.ensures)
 
 pub returns-in-Err-judge-clause-steps_on : goal.returns-in-Err-judge-clause-steps_on
 unfolding context_of
@@ -42,7 +43,7 @@ returns-in-Err-judge-clause-steps_on c = let a = c.args in
     stopped c.stop-in-Err-judge.result (on_read every set a.job.now (length list₀) d (operator o)) _ a.o.at _ h.listed
     (step-refused set a.job.now (length list₀) d o _ _ (judged-refused n (length list₀)))
     (c.stop-in-Err-judge.ensures d (omega (arith, c.requires)) (omega (arith, c.requires)) h.records h.performed
-    ∙ ap (λ i. told (refused_at i a.o.at outer d)) c.number.ensures)
+    ∙ ap (λ i. told (refused_at i a.o.at outer d)) c.number-in-Err-judge.ensures)
 
 pub returns-in-Ok-judge-clause-steps_on : goal.returns-in-Ok-judge-clause-steps_on
 unfolding context_of

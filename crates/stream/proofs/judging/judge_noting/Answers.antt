@@ -3,6 +3,7 @@
 use mathlib.Core.Path.{◌≡◌, refl, sym}
 use mathlib.Core.Bool.{true, false, not, true≢false}
 use denote.Enum.Bare.{sameb}
+use Rattle.std.proofs.lemmas.Result.{err_from_is_err_and}
 use Rattle.scope.specs.Setting.{same_class}
 use Rattle.setting.specs.Views.{class_as}
 use Rattle.setting.specs.declared.setting.Class.{Class}
@@ -26,22 +27,31 @@ alike One Two h = absurd (true≢false (sym h))
 alike Two One h = absurd (true≢false (sym h))
 alike Two Two h = refl
 
-pub operators-requires : goal.operators-requires
-operators-requires c = rw c.in-Ok.is at c.header_of.ensures.header_within
-
-pub returns-in-Err : goal.returns-in-Err
+pub returns-in_err-header-clause-judges : goal.returns-in_err-header-clause-judges
 unfolding motif_of motif_from
-returns-in-Err c = let h = rw (c.in-Err.is, ← c.number.ensures) at c.header_of.ensures.result_value in
-    record { own_len_unchanged = refl; judges = λ ms q. rw (← h) judges_faulty; own_after = λ ms ops q n v. faulty-valid (rw (← h) at v) }
+returns-in_err-header-clause-judges c = let q = err_from_is_err_and c.from_residual.result c.from_residual.ensures.1 in
+    λ ms k. rw (q.1, q.2, ← c.in_err-header.ensures.result_value) judges_faulty
 
-pub returns-then-ne : goal.returns-then-ne
+pub returns-in_err-header-clause-own_after : goal.returns-in_err-header-clause-own_after
 unfolding motif_of motif_from
-returns-then-ne c = let h = rw c.in-Ok.is at c.header_of.ensures.result_value in
-    let z = other _ _ c.if-ne.ensures in
-    record { own_len_unchanged = refl; judges = λ ms q. rw (← h, z) judges_faulty; own_after = λ ms ops q n v. faulty-valid (rw (← h, z) at v) }
+returns-in_err-header-clause-own_after c = λ ms ops k n v. faulty-valid (rw (← c.in_err-header.ensures.result_value) at v)
 
-pub returns-else-ne : goal.returns-else-ne
+pub returns-then-ne-clause-judges : goal.returns-then-ne-clause-judges
 unfolding motif_of motif_from
-returns-else-ne c = let h = rw c.in-Ok.is at c.header_of.ensures.result_value in
-    let z = alike _ _ c.if-ne.ensures in
-    record { own_len_unchanged = c.operators.ensures.own_len_unchanged; judges = λ ms q. rw (← h, z) (c.operators.ensures.judges ms refl q); own_after = λ ms ops q n v. (c.operators.ensures.notes ms ops refl q n (rw (← h, z) at v)).are }
+returns-then-ne-clause-judges c = let z = other _ _ c.if-ne.ensures in
+    λ ms k. rw (← c.in_ok-header.ensures.result_value, z) judges_faulty
+
+pub returns-then-ne-clause-own_after : goal.returns-then-ne-clause-own_after
+unfolding motif_of motif_from
+returns-then-ne-clause-own_after c = let z = other _ _ c.if-ne.ensures in
+    λ ms ops k n v. faulty-valid (rw (← c.in_ok-header.ensures.result_value, z) at v)
+
+pub returns-else-ne-clause-judges : goal.returns-else-ne-clause-judges
+unfolding motif_of motif_from
+returns-else-ne-clause-judges c = let z = alike _ _ c.if-ne.ensures in
+    λ ms k. rw (← c.in_ok-header.ensures.result_value, z) (c.operators.ensures.judges ms refl k)
+
+pub returns-else-ne-clause-own_after : goal.returns-else-ne-clause-own_after
+unfolding motif_of motif_from
+returns-else-ne-clause-own_after c = let z = alike _ _ c.if-ne.ensures in
+    λ ms ops k n v. (c.operators.ensures.notes ms ops refl k n (rw (← c.in_ok-header.ensures.result_value, z) at v)).are

@@ -38,7 +38,7 @@ returns-then-o-eq-EXEC_STREAM c = let a = c.args in
 
 pub returns-in-Err : goal.returns-in-Err
 returns-in-Err c = let a = c.args in
-    record { attrs_len_unchanged = c.operator_at.ensures.attrs_len_unchanged; ahead = tt; turns = λ ms w l k g. step-no a.motifs.now ms (setting_as a.set) a.s.now w _ _ (read_is (goal.at.returns-in-Err c).After-operator_at ms w l g ∙ rw (c.in-Err.is, c.number.ensures)); own_len_unchanged = refl; notes_on = λ ms w l g. notes-no (setting_as a.set) a.s.now w a.own.now a.own.now _ _ (rw c.in-Err.is at (read_is (goal.at.returns-in-Err c).After-operator_at ms w l g)) }
+    record { attrs_len_unchanged = c.operator_at.ensures.attrs_len_unchanged; ahead = tt; turns = λ ms w l k g. step-no a.motifs.now ms (setting_as a.set) a.s.now w _ (read_is (goal.at.returns-in-Err c).After-operator_at ms w l g ∙ rw c.in-Err.is); own_len_unchanged = refl; notes_on = λ ms w l g. notes-no (setting_as a.set) a.s.now w a.own.now a.own.now _ _ (rw c.in-Err.is at (read_is (goal.at.returns-in-Err c).After-operator_at ms w l g)) }
 
 pub returns-in-Ok-None : goal.returns-in-Ok-None
 returns-in-Ok-None c = let a = c.args in record {

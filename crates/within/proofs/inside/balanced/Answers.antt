@@ -14,4 +14,4 @@ returns c = let a = c.args in
     λ t ms w f.
     let z : w.saved ≡ 0 = sym f.saved ∙ c.if-inside-ne0.false in
     rw (eq-eqb w.saved 0 z)
-    (ended-even t ms a.inside w _ f z (λ row r b. c.packed.ensures row (c.summary-summary.ensures row r b)))
+    (ended-even t ms a.inside w _ f z (λ row r b. c.packed.ensures row (c.summary.ensures row r b)))
