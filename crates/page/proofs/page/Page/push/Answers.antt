@@ -2,14 +2,11 @@
 -- Assumes nothing.
 use Prim.Native.Nat.{◌<◌}
 use Rattle.page.proofs.Pages.{page-eq}
-use Rattle.page.proofs.Stacks.{stack_push, bits_small}
+use Rattle.page.proofs.Stacks.{stack_push}
 use Rattle.scope.specs.Arm.{done}
 use native.Mathlib.Omega.{arith}
 use mathlib.Core.Path.{refl}
 use Rattle.page.proofs.page.Page.push.Goals as goal
-
-pub overflow_add-result-2 : goal.overflow_add-result-2
-overflow_add-result-2 c = omega (arith, c.bits.ensures, bits_small c.args.self.cursor c.args.self.gray)
 
 pub returns : goal.returns
 unfolding done
