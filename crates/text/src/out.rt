@@ -12,8 +12,11 @@ pub fn plain<P: Print>(out: &P, n: u32) -> io::Result<()> {
 
 // A number with a comma between the thousands.
 pub fn number<P: Print>(out: &P, n: u32) -> io::Result<()> {
-    let (millions, thousands, ones) = (n / 1_000_000, n / 1_000 % 1_000, n % 1_000);
-    if 1_000_000 <= n {
+    let (billions, millions) = (n / 1_000_000_000, n / 1_000_000 % 1_000);
+    let (thousands, ones) = (n / 1_000 % 1_000, n % 1_000);
+    if 1_000_000_000 <= n {
+        print!(out; "{billions},{millions:03},{thousands:03},{ones:03}")
+    } else if 1_000_000 <= n {
         print!(out; "{millions},{thousands:03},{ones:03}")
     } else if 1_000 <= n {
         print!(out; "{thousands},{ones:03}")
