@@ -9,7 +9,7 @@ use trail::Walk;
 
 // The row of the motif that the operator calls; none if it calls none that is held.
 pub fn called(walk: &Walk, motifs: Motifs) -> Option<usize>
-    ensures { IfSome (λ k. k < 64) result }
+    ensures { IfSome result (λ k. k < 64) }
 {
     if walk.tag != Some(EXEC_STREAM) {
         return None;

@@ -43,9 +43,9 @@ fn through(code: u32, gray: bool, motifs: Motifs, page: Page, walk: &mut Walk) -
 }
 
 // From the motif that is called down to the one with the operator that breaks the rule of a code.
-pub fn down(code: u32, gray: bool, motifs: Motifs, start: Page, called_first: usize) -> Breach {
+pub fn down(code: u32, gray: bool, motifs: Motifs, start: Page, first: usize) -> Breach {
     let mut page = start;
-    let mut row = called_first;
+    let mut row = first;
     let mut walk = Walk::of_motif(motifs.bytes_of(row));
     for _ in 0..NESTING_MOST {
         page = through(code, gray, motifs, page, &mut walk);
