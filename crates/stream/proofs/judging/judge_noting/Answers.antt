@@ -46,12 +46,12 @@ unfolding motif_of motif_from
 returns-then-ne-clause-own_after c = let z = other _ _ c.if-ne.ensures in
     λ ms ops k n v. faulty-valid (rw (← c.in_ok-header.ensures.result_value, z) at v)
 
-pub returns-else-ne-clause-judges : goal.returns-else-ne-clause-judges
+pub returns-clause-judges : goal.returns-clause-judges
 unfolding motif_of motif_from
-returns-else-ne-clause-judges c = let z = alike _ _ c.if-ne.ensures in
+returns-clause-judges c = let z = alike _ _ c.if-ne.ensures in
     λ ms k. rw (← c.in_ok-header.ensures.result_value, z) (c.operators.ensures.judges ms refl k)
 
-pub returns-else-ne-clause-own_after : goal.returns-else-ne-clause-own_after
+pub returns-clause-own_after : goal.returns-clause-own_after
 unfolding motif_of motif_from
-returns-else-ne-clause-own_after c = let z = alike _ _ c.if-ne.ensures in
+returns-clause-own_after c = let z = alike _ _ c.if-ne.ensures in
     λ ms ops k n v. (c.operators.ensures.notes ms ops refl k n (rw (← c.in_ok-header.ensures.result_value, z) at v)).are
