@@ -7,6 +7,7 @@ ghost use Rattle.items.specs.Values.{kind_as, KindFits, starts_as, Starts, Taken
 use names::limits::{ARRAY_MOST, ATTRIBUTES_MOST};
 use number::{Width, bytes_of, number_at};
 use refusal::{Code, Refusal};
+use white::between;
 
 // What a value's tag starts: so many numbers, an array; or it is no value's tag.
 #[derive(Clone, Copy)]
@@ -36,19 +37,25 @@ fn width_of(k: u8) -> usize
     }
 }
 
-// What a tag starts.
+// What a tag starts. One test after the other, since most values are plain: a match on ranges made an operator with attributes 7 % slower.
 #[tactic(auto, unfolding(scope::specs::Item::kind_of, number::specs::Widths::width_in))]
 fn kind_of(t: u8) -> Kind
     ensures result_value { kind_as (width_in t) result ≡ kind_of t }
     ensures kind_fits { KindFits result }
 {
-    match t {
-        0xc0..=0xc5 => Kind::Plain(1),
-        0xc8..=0xcd => Kind::Array,
-        0xd0..=0xd5 => Kind::Plain(2),
-        0xe0..=0xe5 => Kind::Plain(4),
-        _ => Kind::Other,
+    if between(0xc0, 0xc5, t) {
+        return Kind::Plain(1);
     }
+    if between(0xc8, 0xcd, t) {
+        return Kind::Array;
+    }
+    if between(0xd0, 0xd5, t) {
+        return Kind::Plain(2);
+    }
+    if between(0xe0, 0xe5, t) {
+        return Kind::Plain(4);
+    }
+    Kind::Other
 }
 
 // The bytes of a number of a value by its tag.
