@@ -8,7 +8,7 @@ use native.Mathlib.Omega.{arith}
 use lib.ListN.{length, take, drop}
 use Rattle.scope.specs.Choice.{same}
 use Rattle.scope.specs.Setting.{Setting}
-use Rattle.scope.specs.Motif.{Motif, Held, held_as, valid, motif_of}
+use Rattle.scope.specs.Motif.{Own, Motif, Held, held_as, valid, motif_of}
 use Rattle.scope.specs.Sound.{Sound, sound_none, sound_more}
 use Rattle.motif.specs.Held.{Keeps, InRow, start_in, long_in}
 use Rattle.motif.proofs.Rowed.{is_same, none_is, held-here, held_on}
