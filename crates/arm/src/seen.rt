@@ -1,6 +1,5 @@
 // The arm on its way, operator by operator: the page, and what was seen.
-ghost use Rattle.std.specs.Prelude.{◌≡◌, ◌||◌, ◌&&◌, not, List, ◌∷◌, min, length};
-ghost use Rattle.scope.specs.Choice.{pick};
+ghost use Rattle.std.specs.Prelude.{◌≡◌, ◌||◌, ◌&&◌, List, ◌∷◌, min, length};
 ghost use Rattle.scope.specs.Arm.{clash, step, walk, from, idle, Stroke};
 ghost use Rattle.scope.specs.Arm.{Seen as ArmSeen};
 ghost use Rattle.page.specs.Views.{page_as, space_as, act_as};

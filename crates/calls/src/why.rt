@@ -1,9 +1,8 @@
 // Why a call is refused, by rounds over whom each motif calls. A table of the rounds is one number, with a mark for each row.
-ghost use Rattle.std.specs.Prelude.{◌≡◌, Bool, true, Err, List, [], ℕ, suc, ◌<◌, ◌≤◌, eqb, ltb};
+ghost use Rattle.std.specs.Prelude.{◌≡◌, Bool, true, Err, List, [], ℕ, suc, ◌<◌, ◌≤◌, ltb};
 ghost use Rattle.scope.specs.Choice.{pick};
 ghost use Rattle.scope.specs.Motif.{Motif};
 ghost use Rattle.scope.specs.Calls.{met};
-ghost use Rattle.key.specs.Mark.{mark};
 ghost use Rattle.motif.specs.Held.{InRow, level_in};
 ghost use Rattle.motif.specs.Tables.{Tables};
 ghost use Rattle.calls.specs.Marks.{Adds, lacks, reaches, closes};

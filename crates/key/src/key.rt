@@ -1,5 +1,5 @@
 // A name as three numbers.
-ghost use Rattle.std.specs.Prelude.{◌≡◌, ◌≤◌, ◌<◌};
+ghost use Rattle.std.specs.Prelude.{◌≡◌, ◌≤◌};
 ghost use Rattle.key.specs.Keys.{packed, key_of};
 ghost use Rattle.key.specs.Views.{key_as};
 

@@ -9,7 +9,7 @@ use Rattle.scope.specs.Order as order
 use Rattle.scope.specs.Setting.{Setting}
 use Rattle.scope.specs.Motif.{Motif}
 use Rattle.scope.specs.Session as scope
-use Rattle.scope.specs.Session.{phase_drawing, phase_busy, phase_of, page_of, joined_of, session_of}
+use Rattle.scope.specs.Session.{phase_drawing, phase_busy, phase_of, joined_of}
 use Rattle.page.specs.declared.page.Page.{Page}
 use Rattle.page.proofs.Stacks.{depth-saved}
 use Rattle.order.specs.declared.picture.Picture.TheVariants.{Nothing}

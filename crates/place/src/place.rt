@@ -1,12 +1,11 @@
 // Where a job stands between its operators.
 ghost use Rattle.std.specs.Prelude.{◌≡◌, List, ℕ};
 ghost use Rattle.scope.specs.Setting.{Setting};
-ghost use Rattle.scope.specs.Motif.{Motif};
 ghost use Rattle.scope.specs.Session as scope;
 ghost use Rattle.scope.specs.Session.{phase_busy, phase_of, session_of, page_of};
 ghost use Rattle.order.specs.Views.{phase_as};
 ghost use Rattle.page.specs.Holds.{PageHolds};
-ghost use Rattle.place.specs.Places.{BusyHolds, PlaceHolds};
+ghost use Rattle.place.specs.Places.{PlaceHolds};
 ghost use Rattle.place.specs.declared.place.Busy.TheVariants.{Drawing};
 
 use motif::Kept;

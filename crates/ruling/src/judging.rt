@@ -8,7 +8,7 @@ ghost use Rattle.scope.specs.Session as scope;
 ghost use Rattle.scope.specs.Arm.{wanted};
 ghost use Rattle.scope.specs.Order.{may_come};
 ghost use Rattle.scope.specs.Session.{phase_of, session_of};
-ghost use Rattle.scope.specs.Judge.{State, Case, case_of, some_missing};
+ghost use Rattle.scope.specs.Judge.{State, case_of, some_missing};
 ghost use Rattle.page.specs.Views.{select_as};
 ghost use Rattle.pattern_rows.specs.Numbers.{OfPage, OfSession, numbers_in};
 ghost use Rattle.reader.specs.Reads.{operator_as};

@@ -22,7 +22,7 @@ use Rattle.scope.specs.Motif.{Motif, Picture, picture_after}
 use Rattle.scope.specs.Calls.{nothing}
 use Rattle.scope.specs.Setting.{Setting}
 use Rattle.scope.specs.Session.{Session, Place, drawing, inside, page_of, defined_after, session_after, place_after}
-use Rattle.scope.specs.Judge.{State, case_of, judged_at, met_at, too_much, no_place, own_or, outer}
+use Rattle.scope.specs.Judge.{State, case_of, judged_at, met_at, too_much, no_place, own_or}
 use Rattle.items.proofs.Pairs.{scan_tag}
 use Rattle.page.specs.Alone.{Alone, alone_close, alone_new, alone_paint, alone_push, alone_pop}
 use Rattle.arm.specs.Codes.{code_of}

@@ -14,7 +14,7 @@ use Rattle.scope.specs.Motif.{picture_after}
 use Rattle.scope.specs.Calls.{nothing}
 use Rattle.scope.specs.Setting.{Setting}
 use Rattle.scope.specs.Session.{Session, page_of, defined_after, session_after, place_after}
-use Rattle.scope.specs.Judge.{State, case_of, judged_at, met_at, too_much, no_place, own_or, outer}
+use Rattle.scope.specs.Judge.{State, case_of, judged_at, met_at, too_much, no_place, own_or}
 use Rattle.arm.specs.Codes.{code_of}
 use Rattle.page.specs.Holds.{PageHolds}
 use Rattle.arm.specs.Holds.{Moves, moves_to}

@@ -15,7 +15,7 @@ use Rattle.scope.specs.Motif.{Picture}
 use Rattle.scope.specs.Setting.{Setting}
 use Rattle.scope.specs.Session.{Session, Busy, Place, drawing, inside, phase_drawing, phase_busy, phase_of, place_after}
 use Rattle.scope.specs.Judge as scope
-use Rattle.scope.specs.Judge.{context_of, case_of, judged_from, outer}
+use Rattle.scope.specs.Judge.{context_of, case_of, judged_from}
 use Rattle.scope.specs.Verdict.{every}
 use Rattle.scope.proofs.White.{read-after}
 use Rattle.scope.proofs.ExchangeEdges.{after-again}

@@ -2,7 +2,7 @@
 ghost use Rattle.std.specs.Prelude.{◌≡◌, List, ℕ, suc, ◌+◌, ◌≤◌, ◌<◌, length};
 ghost use Rattle.setting.specs.Views.{setting_as};
 ghost use Rattle.scope.specs.Arm.{Stroke};
-ghost use Rattle.scope.specs.Motif.{Own, Motif, valid};
+ghost use Rattle.scope.specs.Motif.{Motif};
 ghost use Rattle.scope.specs.Calls.{flat};
 ghost use Rattle.scope.specs.Reach.{Name};
 ghost use Rattle.scope.specs.Sound.{Sound};
@@ -10,7 +10,7 @@ ghost use Rattle.summary.specs.Sums.{SumsAs};
 ghost use Rattle.motif.specs.Held.{Keeps, InRow, level_in, sum_in};
 ghost use Rattle.motif.specs.Tables.{SumsUp, Tables};
 ghost use Rattle.motif.specs.Stored.{Stores};
-ghost use Rattle.within.specs.Judging.{Makes, Judges};
+ghost use Rattle.within.specs.Judging.{Makes};
 ghost use Rattle.settling.specs.Making.{InStore, NotedTo, Rounded};
 
 use motif::{CALLS, LENGTH, LEVEL, MISSING, ROW, START, SUM};

@@ -1,5 +1,5 @@
 // A motif judged when EndStream comes, and what is noted of it.
-ghost use Rattle.std.specs.Prelude.{◌≡◌, List, [], true, ℕ, ◌≤◌, length};
+ghost use Rattle.std.specs.Prelude.{◌≡◌, List, [], ℕ, ◌≤◌, length};
 ghost use Rattle.setting.specs.Views.{setting_as};
 ghost use Rattle.scope.specs.Motif as scope;
 ghost use Rattle.scope.specs.Motif.{Own, Motif, judged_inside, motif_of};

@@ -1,7 +1,7 @@
 // What a balanced row of operators comes to, and the same as one number.
 ghost use Rattle.std.specs.Prelude.{◌≡◌, List, ◌≤◌};
 ghost use Rattle.scope.specs.Arm.{Stroke};
-ghost use Rattle.summary.specs.Sums.{bit_of, ending_bits, ending_of, Sums, SumsAs};
+ghost use Rattle.summary.specs.Sums.{ending_bits, ending_of, Sums, SumsAs};
 
 // Cursor and colour space after the row, and whether a cursor was needed and not set, or a colour space and another was set.
 #[derive(Clone, Copy)]

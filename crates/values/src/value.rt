@@ -1,5 +1,5 @@
 // The types and the values that an attribute takes; of its numbers each kind says whether it takes whole ones or reals.
-ghost use Rattle.std.specs.Prelude.{◌≡◌, ◌&&◌, ◌||◌, not, ℕ, T, eqb, leb};
+ghost use Rattle.std.specs.Prelude.{◌≡◌, ◌&&◌, ◌||◌, not, ℕ, T};
 ghost use Rattle.std.specs.Float.{binary32};
 ghost use Rattle.std.specs.Float.Ieee.{to_bits, is_nan};
 ghost use Rattle.scope.specs.Choice.{between};

@@ -11,11 +11,11 @@ use lib.Dec.{eqb}
 use Rattle.scope.specs.Setting.{Setting}
 use Rattle.scope.specs.Choice.{pick}
 use Rattle.scope.specs.Attributes.{bytes_in}
-use Rattle.scope.specs.Data.{Image, reads_rows}
+use Rattle.scope.specs.Data.{reads_rows}
 use Rattle.scope.specs.Reading.{Operator}
 use Rattle.scope.specs.Arm.{Stroke, act_of}
 use Rattle.scope.specs.Motif as scope
-use Rattle.scope.specs.Motif.{Hatch, Motif, saved_after, picture_after, own_by, on_end}
+use Rattle.scope.specs.Motif.{Motif, saved_after, picture_after, own_by, on_end}
 use Rattle.scope.specs.Calls.{flat}
 use Rattle.scope.specs.Reach.{Name}
 use Rattle.summary.specs.Sums.{SumsAs}

@@ -1,7 +1,7 @@
 -- Byte by byte, and each byte is one digit more.
 -- Assumes nothing.
-use Rattle.std.proofs.Common.{◌≡◌, ◌^◌, ◌≤◌, refl, arith, add-one}
-use native.Mathlib.Nat.{pow-zero, pow-suc}
+use Rattle.std.proofs.Common.{◌^◌, ◌≤◌, refl, arith, add-one}
+use native.Mathlib.Nat.{pow-suc}
 use Rattle.key.proofs.Packs.{pow_seven}
 use Rattle.key.specs.Keys.{packed}
 use Rattle.key.proofs.key.pack.Goals as goal
