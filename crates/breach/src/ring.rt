@@ -1,14 +1,11 @@
 // A ring of motifs, told by their names.
 use crate::named::name;
 use keeping::Motifs;
+use refusal::Code;
 use rings::Ring;
 use std::io;
+use tell::{Cause, Cure};
 use text::say;
-
-// Lines of cures for a ring of motifs, and for one that calls itself.
-const RING: usize = 66;
-
-const ITSELF: usize = 94;
 
 // The most motifs that a ring is told by.
 const RING_MOST: usize = 32;
@@ -57,14 +54,14 @@ fn calls<P: Print>(out: &P, motifs: Motifs, ring: &Ring) -> io::Result<()> {
     Ok(())
 }
 
-// Says which motifs call each other in a ring; the answer is the line of the cure.
-pub(crate) fn told<P: Print>(out: &P, motifs: Motifs, ring: &Ring) -> io::Result<usize> {
+// Says which motifs call each other in a ring; the answer is the cure.
+pub(crate) fn told<P: Print>(out: &P, motifs: Motifs, ring: &Ring) -> io::Result<Cure> {
     say(out, b"the motif ")?;
     if next_of(ring, ring.first) == Some(ring.first) {
         name(out, motifs, ring.first)?;
         say(out, b" calls itself")?;
-        return Ok(ITSELF);
+        return Ok(Cure::Itself);
     }
     calls(out, motifs, ring)?;
-    Ok(RING)
+    Ok(Cure::Of(Cause::Own(Code::Ring)))
 }

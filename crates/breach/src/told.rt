@@ -5,25 +5,20 @@ use down::Breach;
 use facts::facts_in;
 use fault::ending;
 use keeping::Motifs;
+use refusal::Code;
 use rings::Ring;
 use std::io;
+use tell::{Cause, Cure};
 use text::say;
 use trail::Walk;
 
-// Lines of cures for an operator of a motif that is called.
-const SAVES: usize = 84;
-
-const LACKS_CURSOR: usize = 85;
-
-const LACKS_COLOUR: usize = 86;
-
-// The line of the cure for an operator of a motif that is called.
-fn cure_in(code: u32) -> usize {
+// The cure for an operator of a motif that is called.
+fn cure_in(code: Code) -> Cure {
     match code {
-        23 => SAVES,
-        24 => LACKS_CURSOR,
-        25 => LACKS_COLOUR,
-        _ => code as usize,
+        Code::Saved => Cure::Saves,
+        Code::Cursor => Cure::LacksCursor,
+        Code::Colour => Cure::LacksColour,
+        _ => Cure::Of(Cause::Own(code)),
     }
 }
 
@@ -33,11 +28,11 @@ pub fn of_breach<P: Print>(
     motifs: Motifs,
     called: usize,
     breach: &Breach,
-    code: u32,
+    code: Code,
 ) -> io::Result<()> {
     let motif = breach.walk.s;
     let f = facts_in(&breach.walk, breach.walk.place);
-    tell::cause(out, code as usize, motif, f)?;
+    tell::cause(out, Cause::Own(code), motif, f)?;
     say(out, b", in the motif ")?;
     name(out, motifs, breach.row)?;
     say(out, b" at its byte ")?;
@@ -58,7 +53,7 @@ pub fn of_lacking<P: Print>(
 ) -> io::Result<()> {
     let motif = breach.walk.s;
     let f = facts_in(&breach.walk, breach.walk.place);
-    let k = unheld::cause(out, job, list, records, motif, f)?;
+    let cause = unheld::cause(out, job, list, records, motif, f)?;
     say(out, b"; the motif ")?;
     name(out, motifs, breach.row)?;
     say(out, b" calls ")?;
@@ -66,7 +61,7 @@ pub fn of_lacking<P: Print>(
     say(out, b" at its byte ")?;
     text::plain(out, f.at)?;
     by_call(out, motifs, breach.row, called)?;
-    ending(out, motif, k, 21, f)
+    ending(out, motif, Cure::Of(cause), Code::NotHeld, f)
 }
 
 // Of 34: says which pattern is not defined and why at the place of the call, the motif that selects it, and the cure.
@@ -80,14 +75,14 @@ pub fn of_bare<P: Print>(
 ) -> io::Result<()> {
     let motif = breach.walk.s;
     let f = facts_in(&breach.walk, breach.walk.place);
-    let k = why::undefined_line(job, at, f.pattern);
-    tell::cause(out, k, motif, f)?;
+    let cause = why::undefined(job, at, f.pattern);
+    tell::cause(out, cause, motif, f)?;
     say(out, b"; the motif ")?;
     name(out, motifs, breach.row)?;
     say(out, b" selects it at its byte ")?;
     text::plain(out, f.at)?;
     by_call(out, motifs, breach.row, called)?;
-    ending(out, motif, k, 34, f)
+    ending(out, motif, Cure::Of(cause), Code::NoPattern, f)
 }
 
 // Of 32: says the ring that the call at which a walk stands comes to, and the cure.
@@ -99,7 +94,7 @@ pub fn of_ring<P: Print>(
     ring: &Ring,
 ) -> io::Result<()> {
     let f = facts_in(walk, walk.place);
-    let k = ring::told(out, motifs, ring)?;
+    let cure = ring::told(out, motifs, ring)?;
     by_call(out, motifs, ring.first, called)?;
-    ending(out, walk.s, k, 32, f)
+    ending(out, walk.s, cure, Code::Ring, f)
 }

@@ -2,13 +2,12 @@
 use asked::Asked;
 use listing::gather;
 use names::operators::EXEC_STREAM;
+use refusal::Code;
 use state::Verdict;
 use std::io;
 use text::say;
 
 const OUTER: u32 = 4_294_967_295;
-
-const COLOUR: u32 = 25;
 
 fn passes<P: Print>(out: &P, performed: u32) -> io::Result<()> {
     say(out, b": passes, ")?;
@@ -23,6 +22,7 @@ fn in_motif<P: Print>(
     list: &[u8],
     bytes: &[u8],
     n: usize,
+    code: Code,
     v: Verdict,
 ) -> io::Result<()> {
     if bytes.len() < n {
@@ -34,22 +34,22 @@ fn in_motif<P: Print>(
         list,
         v.records as usize,
         &bytes[0..n],
-        v.code,
+        code,
         v.inner as usize,
     )
 }
 
-fn inside<P: Print>(out: &P, job: &[u8], list: &[u8], v: Verdict) -> io::Result<()> {
+fn inside<P: Print>(out: &P, job: &[u8], list: &[u8], code: Code, v: Verdict) -> io::Result<()> {
     let mut motif = rooms::work();
     let n = gather(job, list, v.records as usize, &mut motif);
-    in_motif(out, job, list, &motif, n, v)
+    in_motif(out, job, list, &motif, n, code, v)
 }
 
 // Whether a job has no fault of its colours where pages start in gray, or else in RGB.
 fn starts_well(job: &[u8], gray: bool) -> bool {
     let mut work = rooms::work();
     let mut list = rooms::list();
-    checker::check(job, &mut work, &mut list, gray).code != COLOUR
+    checker::check(job, &mut work, &mut list, gray).code != Code::Colour.number()
 }
 
 // Of such a fault: the other start, if it has none there.
@@ -60,36 +60,40 @@ fn other_start<P: Print>(out: &P, job: &[u8], gray: bool) -> io::Result<()> {
     Ok(())
 }
 
-// A code of what a call comes to: 17, 21, 23 to 25, 32, or 34.
-fn is_inner(code: u32) -> bool {
-    match code {
-        17 => true,
-        21 => true,
-        23 => true,
-        24 => true,
-        25 => true,
-        32 => true,
-        34 => true,
-        _ => false,
-    }
+// A code of what a call comes to.
+fn is_inner(code: Code) -> bool {
+    matches!(
+        code,
+        Code::Source
+            | Code::NotHeld
+            | Code::Saved
+            | Code::Cursor
+            | Code::Colour
+            | Code::Ring
+            | Code::NoPattern
+    )
 }
 
 // A call is refused by what it comes to.
-fn is_call(job: &[u8], v: Verdict) -> bool {
-    if number::byte_at(job, v.position as usize) != EXEC_STREAM {
-        return false;
-    }
-    is_inner(v.code)
+fn is_call(job: &[u8], code: Code, at: u32) -> bool {
+    number::byte_at(job, at as usize) == EXEC_STREAM && is_inner(code)
 }
 
-fn called<P: Print>(out: &P, job: &[u8], list: &[u8], v: Verdict, gray: bool) -> io::Result<()> {
+fn called<P: Print>(
+    out: &P,
+    job: &[u8],
+    list: &[u8],
+    code: Code,
+    v: Verdict,
+    gray: bool,
+) -> io::Result<()> {
     let mut store = rooms::work();
     inner::of_call(
         out,
         job,
         list,
         v.records as usize,
-        v.code,
+        code,
         v.position as usize,
         gray,
         &mut store,
@@ -97,29 +101,43 @@ fn called<P: Print>(out: &P, job: &[u8], list: &[u8], v: Verdict, gray: bool) ->
 }
 
 // The cause and the cure.
-fn reasons<P: Print>(out: &P, job: &[u8], list: &[u8], v: Verdict, gray: bool) -> io::Result<()> {
+fn reasons<P: Print>(
+    out: &P,
+    job: &[u8],
+    list: &[u8],
+    code: Code,
+    v: Verdict,
+    gray: bool,
+) -> io::Result<()> {
     if v.inner != OUTER {
-        return inside(out, job, list, v);
+        return inside(out, job, list, code, v);
     }
-    if is_call(job, v) {
-        return called(out, job, list, v, gray);
+    if is_call(job, code, v.position) {
+        return called(out, job, list, code, v, gray);
     }
     fault::of_job(
         out,
         job,
         list,
         v.records as usize,
-        v.code,
+        code,
         v.position as usize,
     )
 }
 
-fn refused<P: Print>(out: &P, job: &[u8], list: &[u8], v: Verdict, gray: bool) -> io::Result<()> {
+fn refused<P: Print>(
+    out: &P,
+    job: &[u8],
+    list: &[u8],
+    code: Code,
+    v: Verdict,
+    gray: bool,
+) -> io::Result<()> {
     say(out, b": refused at byte ")?;
     text::plain(out, v.position)?;
     say(out, b": ")?;
-    reasons(out, job, list, v, gray)?;
-    if v.code == COLOUR {
+    reasons(out, job, list, code, v, gray)?;
+    if code == Code::Colour {
         other_start(out, job, gray)?;
     }
     say(out, b"\n")
@@ -146,10 +164,9 @@ pub fn judged<P: Print>(out: &P, job: &[u8], asked: Asked) -> io::Result<bool> {
     let mut work = rooms::work();
     let mut list = rooms::list();
     let v = checker::check(job, &mut work, &mut list, asked.gray);
-    if v.code == 0 {
-        passes(out, v.performed)?;
-    } else {
-        refused(out, job, &list, v, asked.gray)?;
+    match tell::code_of(v.code) {
+        Some(code) => refused(out, job, &list, code, v, asked.gray)?,
+        None => passes(out, v.performed)?,
     }
     if asked.listed {
         listed_lines(out, job, &list, v, asked.gray)?;

@@ -3,6 +3,7 @@ use breach::{of_bare, of_breach, of_lacking, of_ring};
 use descent::{before_call, breach_in};
 use down::called;
 use fault::of_job;
+use refusal::Code;
 use rings::ring_from;
 use std::io;
 
@@ -12,7 +13,7 @@ pub fn of_call<P: Print>(
     job: &[u8],
     list: &[u8],
     records: usize,
-    code: u32,
+    code: Code,
     at: usize,
     gray: bool,
     store: &mut [u8],
@@ -22,18 +23,18 @@ pub fn of_call<P: Print>(
     let Some(called) = called(&before.walk, motifs) else {
         return of_job(out, job, list, records, code, at);
     };
-    if code == 32 {
+    if code == Code::Ring {
         return match ring_from(motifs.table, motifs.many, called) {
             Some(ring) => of_ring(out, &before.walk, motifs, called, &ring),
             None => of_job(out, job, list, records, code, at),
         };
     }
-    let Some(breach) = breach_in(job, code, at, gray, motifs, before.page, called) else {
+    let Some(breach) = breach_in(job, code.number(), at, gray, motifs, before.page, called) else {
         return of_job(out, job, list, records, code, at);
     };
     match code {
-        21 => of_lacking(out, job, list, records, motifs, called, &breach),
-        34 => of_bare(out, job, at, motifs, called, &breach),
+        Code::NotHeld => of_lacking(out, job, list, records, motifs, called, &breach),
+        Code::NoPattern => of_bare(out, job, at, motifs, called, &breach),
         _ => of_breach(out, motifs, called, &breach, code),
     }
 }

@@ -1,4 +1,6 @@
 // A sentence with gaps: a percent sign and a letter stand for a fact.
+use crate::causes::Cause;
+use crate::cures::Cure;
 use facts::Facts;
 use std::io;
 use text::number;
@@ -37,10 +39,10 @@ fn fact<P: Print>(out: &P, s: &[u8], f: Facts, letter: u8) -> io::Result<()> {
     }
 }
 
-// Says line k of a text, its gaps filled with the facts; names and values stand in s.
-pub fn sentence<P: Print>(out: &P, lines: &[u8], k: usize, s: &[u8], f: Facts) -> io::Result<()> {
+// Says words, their gaps filled with the facts; names and values stand in s.
+fn sentence<P: Print>(out: &P, words: &str, s: &[u8], f: Facts) -> io::Result<()> {
     let mut gap = false;
-    for b in text::line_of(lines, k) {
+    for b in words.as_bytes() {
         if gap {
             fact(out, s, f, *b)?;
             gap = false;
@@ -51,4 +53,14 @@ pub fn sentence<P: Print>(out: &P, lines: &[u8], k: usize, s: &[u8], f: Facts) -
         }
     }
     Ok(())
+}
+
+// Says why a job or a motif is refused.
+pub fn cause<P: Print>(out: &P, cause: Cause, s: &[u8], f: Facts) -> io::Result<()> {
+    sentence(out, cause.sentences().0, s, f)
+}
+
+// Says what to change.
+pub fn cure<P: Print>(out: &P, cure: Cure, s: &[u8], f: Facts) -> io::Result<()> {
+    sentence(out, cure.sentence(), s, f)
 }

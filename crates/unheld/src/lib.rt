@@ -1,4 +1,4 @@
-// Why a name is not held: the cause of 21, and the line of its cure.
+// Why a name is not held: the cause of 21.
 #![tactic(auto)]
 
 mod behind;

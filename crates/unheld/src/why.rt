@@ -3,50 +3,43 @@ use crate::behind::{Later, look_behind};
 use alike::Other;
 use facts::Facts;
 use listing::Attribute;
+use refusal::Code;
 use std::io;
+use tell::Cause;
 use text::say;
 
-// The lines of its sentences.
-const UNHELD: usize = 21;
-
-const EARLIER: usize = 64;
-
-const LATER: usize = 67;
-
-const LATER_ELSEWHERE: usize = 68;
-
 // Says that a motif of the name is defined later, at a place.
-fn later<P: Print>(out: &P, s: &[u8], f: Facts, place: usize) -> io::Result<usize> {
-    tell::cause(out, LATER, s, f)?;
+fn later<P: Print>(out: &P, cause: Cause, s: &[u8], f: Facts, place: usize) -> io::Result<Cause> {
+    tell::cause(out, cause, s, f)?;
     say(out, b", at byte ")?;
     text::plain(out, (place % 4_294_967_296) as u32)?;
-    Ok(LATER)
+    Ok(cause)
 }
 
-fn later_elsewhere<P: Print>(out: &P, s: &[u8], f: Facts, place: usize) -> io::Result<usize> {
-    later(out, s, f, place)?;
+fn later_elsewhere<P: Print>(out: &P, s: &[u8], f: Facts, place: usize) -> io::Result<Cause> {
+    let cause = later(out, Cause::LaterElsewhere, s, f, place)?;
     say(out, b", in another session")?;
-    Ok(LATER_ELSEWHERE)
+    Ok(cause)
 }
 
-fn line<P: Print>(out: &P, k: usize, s: &[u8], f: Facts) -> io::Result<usize> {
-    tell::cause(out, k, s, f)?;
-    Ok(k)
+fn told<P: Print>(out: &P, cause: Cause, s: &[u8], f: Facts) -> io::Result<Cause> {
+    tell::cause(out, cause, s, f)?;
+    Ok(cause)
 }
 
 // Says that there is a name that is nearly the same.
-fn like<P: Print>(out: &P, job: &[u8], name: Attribute, s: &[u8], f: Facts) -> io::Result<usize> {
-    tell::cause(out, UNHELD, s, f)?;
+fn like<P: Print>(out: &P, job: &[u8], name: Attribute, s: &[u8], f: Facts) -> io::Result<Cause> {
+    let cause = told(out, Cause::Own(Code::NotHeld), s, f)?;
     say(out, b"; there is ")?;
     text::part(out, job, name.count as usize, name.first as usize)?;
-    Ok(UNHELD)
+    Ok(cause)
 }
 
 // With no motif of the name later; one before in this session would be held.
-fn before<P: Print>(out: &P, job: &[u8], other: Other, s: &[u8], f: Facts) -> io::Result<usize> {
+fn before<P: Print>(out: &P, job: &[u8], other: Other, s: &[u8], f: Facts) -> io::Result<Cause> {
     match other {
-        Other::Here | Other::Nobody => line(out, UNHELD, s, f),
-        Other::Earlier => line(out, EARLIER, s, f),
+        Other::Here | Other::Nobody => told(out, Cause::Own(Code::NotHeld), s, f),
+        Other::Earlier => told(out, Cause::Earlier, s, f),
         Other::Like(name) => like(out, job, name, s, f),
     }
 }
@@ -59,7 +52,7 @@ fn elsewhere<P: Print>(
     s: &[u8],
     f: Facts,
     place: usize,
-) -> io::Result<usize> {
+) -> io::Result<Cause> {
     if let Other::Earlier = other {
         return before(out, job, other, s, f);
     }
@@ -75,16 +68,16 @@ fn named<P: Print>(
     s: &[u8],
     f: Facts,
     name: &[u8],
-) -> io::Result<usize> {
+) -> io::Result<Cause> {
     let other = alike::look_for(job, list, records, name);
     match look_behind(job, list, records, name) {
-        Some(Later::Here(place)) => later(out, s, f, place),
+        Some(Later::Here(place)) => later(out, Cause::Later, s, f, place),
         Some(Later::Elsewhere(place)) => elsewhere(out, job, other, s, f, place),
         None => before(out, job, other, s, f),
     }
 }
 
-// Says why the name that the operator of s gives is not held; the answer is the line of the cure.
+// Says why the name that the operator of s gives is not held; the answer is the cause, which has its cure.
 pub fn cause<P: Print>(
     out: &P,
     job: &[u8],
@@ -92,9 +85,9 @@ pub fn cause<P: Print>(
     records: usize,
     s: &[u8],
     f: Facts,
-) -> io::Result<usize> {
+) -> io::Result<Cause> {
     match s.get(f.name..f.name.saturating_add(f.letters)) {
         Some(name) => named(out, job, list, records, s, f, name),
-        None => Ok(UNHELD),
+        None => Ok(Cause::Own(Code::NotHeld)),
     }
 }

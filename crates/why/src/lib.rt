@@ -1,4 +1,4 @@
-// Which sentence says why: the line of the code itself, or a line further down that says more.
+// Which sentence says why: the own one of the code, or one that says more.
 #![tactic(auto)]
 
 use hatched::{Until, hatched};
@@ -7,203 +7,111 @@ use names::operators::{
     END_SESSION, END_STREAM, OPEN_DATA_SOURCE, POP_GS, READ_IMAGE, READ_RAST_PATTERN, READ_STREAM,
     SET_DEFAULT_GS,
 };
+use refusal::Code;
+use tell::{Cause, Cure, End, Order};
 use trail::{Phase, Walk};
 
-const NO_SESSION: usize = 37;
-
-const IN_SESSION: usize = 38;
-
-const SOURCE_OPEN: usize = 39;
-
-const IN_STREAM: usize = 40;
-
-const IN_PAGE: usize = 41;
-
-const IN_IMAGE: usize = 42;
-
-const WAITS: usize = 43;
-
-const STATES_SAVED: usize = 44;
-
-const NOTHING_SAVED: usize = 45;
-
-const STILL_SAVED: usize = 46;
-
-const STILL_OPEN: usize = 47;
-
-const ROWS_MISSING: usize = 48;
-
-const NO_PAGE: usize = 49;
-
-const NO_SESSION_YET: usize = 50;
-
-const IN_A_PAGE: usize = 51;
-
-const IN_AN_IMAGE: usize = 52;
-
-const IN_A_STREAM: usize = 53;
-
-const OPEN_TWICE: usize = 54;
-
-const CLOSE_TWICE: usize = 55;
-
-const NO_IMAGE: usize = 56;
-
-const NO_STREAM: usize = 57;
-
-const IN_A_MOTIF: usize = 58;
-
-const IN_A_SESSION: usize = 59;
-
-const READ_CLOSED: usize = 60;
-
-const NO_DATA: usize = 61;
-
-const OTHER_LENGTH: usize = 62;
-
-const RING: usize = 66;
-
-const OTHER_CLASS: usize = 69;
-
-const OPERATOR_OF_TWO: usize = 70;
-
-const NO_PLACE: usize = 72;
-
-const NOT_DEFINED: usize = 73;
-
-const ENDED_WITH_PAGE: usize = 74;
-
-const OF_EARLIER_PAGE: usize = 75;
-
-const OF_EARLIER_SESSION: usize = 76;
-
-const IN_PATTERN: usize = 77;
-
-const PATTERN_ROWS_MISSING: usize = 78;
-
-const IN_A_PATTERN: usize = 79;
-
-const NO_PATTERN: usize = 80;
-
-const PATTERN_IN_A_MOTIF: usize = 81;
-
-const NOT_OF_AN_IMAGE: usize = 82;
-
-const NOT_OF_A_PATTERN: usize = 83;
-
-// The first of the cures' lines of what may come, and the one of a motif.
-const MAY_COME: usize = 87;
-
-const MAY_COME_IN_A_MOTIF: usize = 93;
-
 // Of 10 in a session.
-fn session_line(tag: u8) -> usize {
+fn in_session(tag: u8) -> Order {
     match tag {
-        BEGIN_SESSION => IN_A_SESSION,
-        END_SESSION => STILL_OPEN,
-        OPEN_DATA_SOURCE => OPEN_TWICE,
-        CLOSE_DATA_SOURCE => CLOSE_TWICE,
-        READ_STREAM | END_STREAM => NO_STREAM,
-        _ => NO_PAGE,
+        BEGIN_SESSION => Order::InSession,
+        END_SESSION => Order::StillOpen,
+        OPEN_DATA_SOURCE => Order::OpenTwice,
+        CLOSE_DATA_SOURCE => Order::CloseTwice,
+        READ_STREAM | END_STREAM => Order::NoStream,
+        _ => Order::NoPage,
     }
 }
 
 // Of 10 in an image.
-fn image_line(tag: u8) -> usize {
+fn in_image(tag: u8) -> Order {
     match tag {
-        END_IMAGE => ROWS_MISSING,
-        READ_RAST_PATTERN | END_RAST_PATTERN => NOT_OF_AN_IMAGE,
-        _ => IN_AN_IMAGE,
+        END_IMAGE => Order::RowsMissing,
+        READ_RAST_PATTERN | END_RAST_PATTERN => Order::NotOfImage,
+        _ => Order::InImage,
     }
 }
 
 // Of 10 in a pattern.
-fn pattern_line(tag: u8) -> usize {
+fn in_pattern(tag: u8) -> Order {
     match tag {
-        READ_IMAGE | END_IMAGE => NOT_OF_A_PATTERN,
-        END_RAST_PATTERN => PATTERN_ROWS_MISSING,
-        _ => IN_A_PATTERN,
+        READ_IMAGE | END_IMAGE => Order::NotOfPattern,
+        END_RAST_PATTERN => Order::PatternRowsMissing,
+        _ => Order::InPattern,
     }
 }
 
 // Of 10 in a page, or in a motif.
-fn page_line(tag: u8, motif: bool) -> usize {
+fn in_page(tag: u8, motif: bool) -> Order {
     match tag {
-        POP_GS => NOTHING_SAVED,
-        READ_IMAGE | END_IMAGE => NO_IMAGE,
-        BEGIN_RAST_PATTERN.. if motif => PATTERN_IN_A_MOTIF,
-        BEGIN_RAST_PATTERN.. => NO_PATTERN,
-        _ if motif => IN_A_MOTIF,
-        END_PAGE => STILL_SAVED,
-        _ => IN_A_PAGE,
+        POP_GS => Order::NothingSaved,
+        READ_IMAGE | END_IMAGE => Order::NoImage,
+        BEGIN_RAST_PATTERN.. if motif => Order::PatternInMotif,
+        BEGIN_RAST_PATTERN.. => Order::NoPattern,
+        _ if motif => Order::InMotif,
+        END_PAGE => Order::StillSaved,
+        _ => Order::InPage,
     }
 }
 
 // Of 10.
-fn order_line(walk: &Walk) -> usize {
+fn out_of_order(walk: &Walk) -> Order {
     let tag = walk.tag.unwrap_or(0);
     match walk.stand.phase {
-        Phase::Between => NO_SESSION_YET,
-        Phase::Session => session_line(tag),
-        Phase::Stream => IN_A_STREAM,
-        Phase::Page => page_line(tag, walk.stand.motif),
-        Phase::Image => image_line(tag),
-        Phase::Pattern => pattern_line(tag),
+        Phase::Between => Order::NoSession,
+        Phase::Session => in_session(tag),
+        Phase::Stream => Order::InStream,
+        Phase::Page => in_page(tag, walk.stand.motif),
+        Phase::Image => in_image(tag),
+        Phase::Pattern => in_pattern(tag),
     }
 }
 
 // Of 27: what is open at the end.
-fn open_line(walk: &Walk) -> usize {
+fn left_open(walk: &Walk) -> End {
     if white::after_white(walk.s, walk.start) < walk.s.len() {
-        return WAITS;
+        return End::Waits;
     }
     match walk.stand.phase {
-        Phase::Between => NO_SESSION,
-        Phase::Session if walk.stand.opened => SOURCE_OPEN,
-        Phase::Session => IN_SESSION,
-        Phase::Stream => IN_STREAM,
-        Phase::Page if walk.stand.motif => STATES_SAVED,
-        Phase::Page => IN_PAGE,
-        Phase::Image => IN_IMAGE,
-        Phase::Pattern => IN_PATTERN,
+        Phase::Between => End::NoSession,
+        Phase::Session if walk.stand.opened => End::SourceOpen,
+        Phase::Session => End::InSession,
+        Phase::Stream => End::InStream,
+        Phase::Page if walk.stand.motif => End::StatesSaved,
+        Phase::Page => End::InPage,
+        Phase::Image => End::InImage,
+        Phase::Pattern => End::InPattern,
     }
 }
 
-// The line of a code; those from 30 on are none of a code's own. Of 4: a motif has the job's class.
-pub fn line_of(code: u32, walk: &Walk) -> usize {
+// The cause of a code, once its operator is known. Of 4: a motif has the job's class.
+pub fn cause_of(code: Code, walk: &Walk) -> Cause {
     match code {
-        4 if walk.stand.motif => OTHER_CLASS,
-        9 if walk.tag == Some(SET_DEFAULT_GS) => OPERATOR_OF_TWO,
-        10 => order_line(walk),
-        17 if walk.tag == Some(READ_STREAM) => READ_CLOSED,
-        18 if data::is_told(walk) => OTHER_LENGTH,
-        18 => NO_DATA,
-        27 => open_line(walk),
-        32 => RING,
-        33 => NO_PLACE,
-        _ => code as usize,
+        Code::Class if walk.stand.motif => Cause::OtherClass,
+        Code::NoOperator if walk.tag == Some(SET_DEFAULT_GS) => Cause::OperatorOfTwo,
+        Code::Order => Cause::Order(out_of_order(walk)),
+        Code::Source if walk.tag == Some(READ_STREAM) => Cause::ReadClosed,
+        Code::Data if data::is_told(walk) => Cause::OtherLength,
+        Code::Data => Cause::NoData,
+        Code::NotEnded => Cause::End(left_open(walk)),
+        _ => Cause::Own(code),
     }
 }
 
-// The line of 34: why the pattern of a number is not defined at a place of the job.
-pub fn undefined_line(job: &[u8], at: usize, number: u32) -> usize {
+// The cause of 34: why the pattern of a number is not defined at a place of the job.
+pub fn undefined(job: &[u8], at: usize, number: u32) -> Cause {
     match hatched(job, at, number) {
-        Until::PageBefore => ENDED_WITH_PAGE,
-        Until::EarlierPage => OF_EARLIER_PAGE,
-        Until::EarlierSession => OF_EARLIER_SESSION,
-        Until::Now | Until::Never => NOT_DEFINED,
+        Until::PageBefore => Cause::EndedWithPage,
+        Until::EarlierPage => Cause::OfEarlierPage,
+        Until::EarlierSession => Cause::OfEarlierSession,
+        Until::Now | Until::Never => Cause::Own(Code::NoPattern),
     }
 }
 
-// The line of the cure of 9: what may come.
-pub fn may_come_line(walk: &Walk) -> usize {
+// The cure of 9: what may come.
+pub fn may_come(walk: &Walk) -> Cure {
     match walk.stand.phase {
-        Phase::Between => MAY_COME,
-        Phase::Session => MAY_COME + 1,
-        Phase::Stream => MAY_COME + 2,
-        Phase::Page if walk.stand.motif => MAY_COME_IN_A_MOTIF,
-        Phase::Page => MAY_COME + 3,
-        Phase::Image => MAY_COME + 4,
-        Phase::Pattern => MAY_COME + 5,
+        Phase::Page if walk.stand.motif => Cure::MayComeInMotif,
+        phase => Cure::MayCome(phase),
     }
 }
