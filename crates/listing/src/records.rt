@@ -1,4 +1,6 @@
 // The records of the list: of an operator's attributes, then of the operator itself.
+ghost use Rattle.std.specs.Prelude.{◌≡◌};
+ghost use Rattle.listing.specs.Records.{record_of, record_in, as_operator, as_attribute};
 
 // An attribute: its number, its value's tag and that tag's place, how many numbers the value has and the place of the first.
 #[derive(Clone, Copy)]
@@ -27,7 +29,9 @@ pub enum Record {
 }
 
 // What the sixteen bytes of a record say: four bytes, then three numbers of four bytes, low byte first.
-fn read(bytes: &[u8; 16]) -> Option<Record> {
+fn read(bytes: &[u8; 16]) -> Option<Record>
+    ensures { result ≡ record_of bytes.now }
+{
     let [
         kind,
         a,
@@ -69,13 +73,17 @@ fn read(bytes: &[u8; 16]) -> Option<Record> {
 }
 
 // Record i of the list.
-pub fn record_at(list: &[u8], i: usize) -> Option<Record> {
+pub fn record_at(list: &[u8], i: usize) -> Option<Record>
+    ensures { result ≡ record_in list.now i }
+{
     let (records, _) = list.as_chunks::<16>();
     read(records.get(i)?)
 }
 
 // Record i, if it is an operator's.
-pub fn operator_at(list: &[u8], i: usize) -> Option<Operator> {
+pub fn operator_at(list: &[u8], i: usize) -> Option<Operator>
+    ensures { result ≡ as_operator (record_in list.now i) }
+{
     match record_at(list, i)? {
         Record::Operator(o) => Some(o),
         Record::Attribute(_) => None,
@@ -83,7 +91,9 @@ pub fn operator_at(list: &[u8], i: usize) -> Option<Operator> {
 }
 
 // Record i, if it is an attribute's.
-pub fn attribute_at(list: &[u8], i: usize) -> Option<Attribute> {
+pub fn attribute_at(list: &[u8], i: usize) -> Option<Attribute>
+    ensures { result ≡ as_attribute (record_in list.now i) }
+{
     match record_at(list, i)? {
         Record::Attribute(a) => Some(a),
         Record::Operator(_) => None,
