@@ -1,4 +1,5 @@
 // How matters stand: where the job is, and what is open.
+ghost use Rattle.std.specs.Prelude.{◌≡◌};
 
 // Between sessions, in a session, in a motif's definition, in a page, in an image, in a pattern.
 #[derive(Clone, Copy, PartialEq, Eq)]
@@ -32,7 +33,9 @@ pub struct Stand {
 
 impl Stand {
     // At the beginning: nothing is open.
-    pub(crate) fn first(phase: Phase, motif: bool) -> Stand {
+    pub(crate) fn first(phase: Phase, motif: bool) -> Stand
+        ensures { (result.phase ≡ phase) × (result.motif ≡ motif) }
+    {
         Stand {
             phase,
             opened: false,

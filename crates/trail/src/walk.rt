@@ -1,5 +1,5 @@
 // From the first operator on to the one at a place.
-ghost use Rattle.std.specs.Prelude.{◌≡◌, ◌<◌};
+ghost use Rattle.std.specs.Prelude.{◌≡◌, ◌<◌, ◌≤◌, IfSome, IsSome, IsTrue, MatchOption, true, false};
 ghost use Rattle.items.specs.Rows.{rows_of, Sized};
 ghost use Rattle.scope.specs.Attributes.{has as hasIn, value_in, bytes_in};
 
@@ -59,7 +59,9 @@ fn behind(s: &[u8], high: bool, place: usize) -> usize {
 
 impl<'a> Walk<'a> {
     // At the first operator.
-    fn of(s: &'a [u8], stand: Stand) -> Walk<'a> {
+    fn of(s: &'a [u8], stand: Stand) -> Walk<'a>
+        ensures { (result.s.now ≡ s.now) × (result.tag ≡ None) × (result.count ≡ 0) × Sized result.attrs result.count × (result.stand ≡ stand) }
+    {
         Walk {
             s,
             high: is_high(s),
@@ -74,12 +76,22 @@ impl<'a> Walk<'a> {
     }
 
     // At the first operator of a job.
-    pub fn of_job(job: &'a [u8]) -> Walk<'a> {
+    pub fn of_job(job: &'a [u8]) -> Walk<'a>
+        ensures bytes { result.s.now ≡ job.now }
+        ensures begins { (result.stand.phase ≡ Phase.Between) × (result.stand.motif ≡ false) }
+        ensures none_come_to { (result.tag ≡ None) × (result.count ≡ 0) }
+        ensures sized { Sized result.attrs result.count }
+    {
         Walk::of(job, Stand::first(Phase::Between, false))
     }
 
     // At the first operator of a motif, which is as in a page from its start on.
-    pub fn of_motif(motif: &'a [u8]) -> Walk<'a> {
+    pub fn of_motif(motif: &'a [u8]) -> Walk<'a>
+        ensures bytes { result.s.now ≡ motif.now }
+        ensures begins { (result.stand.phase ≡ Phase.Page) × (result.stand.motif ≡ true) }
+        ensures none_come_to { (result.tag ≡ None) × (result.count ≡ 0) }
+        ensures sized { Sized result.attrs result.count }
+    {
         Walk::of(motif, Stand::first(Phase::Page, true))
     }
 
@@ -107,7 +119,13 @@ impl<'a> Walk<'a> {
     }
 
     // Comes to the operator that was read, or to none.
-    fn come(&mut self, found: Option<Tagged>) {
+    fn come(&mut self, found: Option<Tagged>)
+        requires { IfSome found (λ t. t.count ≤ 16) }
+        ensures bytes { (self.new.s.now ≡ self.old.s.now) × (self.new.high ≡ self.old.high) }
+        ensures sized { Sized self.new.attrs self.new.count }
+        ensures start { self.new.start ≡ self.old.at }
+        ensures come_to { MatchOption found (self.new.tag ≡ None) (λ t. (self.new.tag ≡ Some t.tag) × (self.new.place ≡ t.at)) }
+    {
         self.start = self.at;
         self.tag = None;
         self.count = 0;
@@ -120,7 +138,9 @@ impl<'a> Walk<'a> {
     }
 
     // BeginImage and BeginRastPattern.
-    fn begin_rows(&mut self, phase: Phase) {
+    fn begin_rows(&mut self, phase: Phase)
+        ensures { self.new ≡ record self.old { stand = self.new.stand } }
+    {
         self.stand.rows = Rows {
             width: self.value(SOURCE_WIDTH) as u16,
             depth: self.value(COLOR_DEPTH) as u16,
@@ -131,13 +151,17 @@ impl<'a> Walk<'a> {
     }
 
     // ReadImage and ReadRastPattern.
-    fn read_rows(&mut self) {
+    fn read_rows(&mut self)
+        ensures { self.new ≡ record self.old { stand = self.new.stand } }
+    {
         let more = self.value(BLOCK_HEIGHT);
         self.stand.rows.read = self.stand.rows.read.saturating_add(more);
     }
 
     // What an operator changes.
-    fn step(&mut self, tag: u8) {
+    fn step(&mut self, tag: u8)
+        ensures { self.new ≡ record self.old { stand = self.new.stand } }
+    {
         match tag {
             BEGIN_SESSION => self.stand.phase = Phase::Session,
             END_SESSION => self.stand.phase = Phase::Between,
@@ -159,7 +183,12 @@ impl<'a> Walk<'a> {
 
     // Comes to the next operator and passes it; the answer is no if it is the operator that is looked for, or if there is none. Where items before that
     // one are refused, they are read from its place on.
-    pub fn pass(&mut self, to: usize) -> bool {
+    pub fn pass(&mut self, to: usize) -> bool
+        ensures bytes { (self.new.s.now ≡ self.old.s.now) × (self.new.high ≡ self.old.high) }
+        ensures sized { Sized self.new.attrs self.new.count }
+        ensures start { self.new.start ≡ self.old.at }
+        ensures passed { IsTrue result → IsSome self.new.tag × (self.new.place < to) }
+    {
         let Ok(found) = items::scan_at(self.s, self.at, self.high, &mut self.attrs) else {
             let found = items::scan_at(self.s, to, self.high, &mut self.attrs);
             self.come(found.unwrap_or(None));
@@ -177,7 +206,10 @@ impl<'a> Walk<'a> {
     }
 
     // Comes to the operator at a place, or with a value there.
-    pub fn come_to(&mut self, to: usize) {
+    pub fn come_to(&mut self, to: usize)
+        ensures bytes { (self.new.s.now ≡ self.old.s.now) × (self.new.high ≡ self.old.high) }
+        ensures sized { Sized self.old.attrs self.old.count → Sized self.new.attrs self.new.count }
+    {
         for _ in 0..self.s.len() {
             if !self.pass(to) {
                 return;
