@@ -1,4 +1,6 @@
 // The nearest motif of a kind that a call comes to.
+ghost use Rattle.std.specs.Prelude.{◌<◌, IfSome};
+
 use crate::toward::{CALLS_MOST, Way, toward};
 use motif::{MISSING, ROW, in_use};
 use names::limits::MOTIFS_MOST;
@@ -52,7 +54,9 @@ fn calls_to(
 }
 
 // The row to which the fewest calls lead from one, with those that it adds, if that is within what counts.
-fn nearest(motifs: &[usize; 704], held: usize, from: usize, kind: Kind) -> Option<usize> {
+fn nearest(motifs: &[usize; 704], held: usize, from: usize, kind: Kind) -> Option<usize>
+    ensures { IfSome result (λ row. (row < 64) × (row < held)) }
+{
     let mut found = None;
     let mut least = CALLS_MOST as u32 + 1;
     for row in 0..in_use(held) {
@@ -67,13 +71,17 @@ fn nearest(motifs: &[usize; 704], held: usize, from: usize, kind: Kind) -> Optio
 }
 
 // The nearest ring that a call of a row comes to.
-pub fn ring_from(motifs: &[usize; 704], held: usize, from: usize) -> Option<Ring> {
+pub fn ring_from(motifs: &[usize; 704], held: usize, from: usize) -> Option<Ring>
+    ensures { IfSome result (λ ring. (ring.first < 64) × (ring.first < held)) }
+{
     let first = nearest(motifs, held, from, Kind::Ring)?;
     let ways = toward(motifs, held, first);
     Some(Ring { first, ways })
 }
 
 // The row of the nearest motif that a call of a row comes to and that names one not held.
-pub fn lacking(motifs: &[usize; 704], held: usize, from: usize) -> Option<usize> {
+pub fn lacking(motifs: &[usize; 704], held: usize, from: usize) -> Option<usize>
+    ensures { IfSome result (λ row. (row < 64) × (row < held)) }
+{
     nearest(motifs, held, from, Kind::Lacks)
 }
