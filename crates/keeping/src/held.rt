@@ -1,4 +1,6 @@
 // The motifs that a session holds: their table, and their bytes in the store, one behind the other, with those of the one that is being read behind them.
+ghost use Rattle.std.specs.Prelude.{◌≡◌};
+
 use crate::motifs::Motifs;
 use motif::Kept;
 use names::operators::{BEGIN_SESSION, BEGIN_STREAM, END_STREAM, READ_STREAM};
@@ -87,7 +89,11 @@ impl<'a> Keeping<'a> {
     }
 
     // The motifs that are held, with the store that has their bytes.
-    pub fn motifs<'b>(&'b self, store: &'b [u8]) -> Motifs<'b> {
+    pub fn motifs<'b>(&'b self, store: &'b [u8]) -> Motifs<'b>
+        ensures table { result.table.now ≡ self.now.table }
+        ensures many { result.many ≡ self.now.kept.held }
+        ensures store { result.store.now ≡ store.now }
+    {
         Motifs {
             table: &self.table,
             many: self.kept.held,

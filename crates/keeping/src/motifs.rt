@@ -1,4 +1,7 @@
 // The held motifs, as they are looked up.
+ghost use Rattle.std.specs.Prelude.{◌≡◌};
+ghost use Rattle.keeping.specs.Bytes.{bytes_in};
+
 use motif::{LENGTH, ROW, START};
 use names::limits::MOTIFS_MOST;
 
@@ -12,7 +15,9 @@ pub struct Motifs<'a> {
 
 impl<'a> Motifs<'a> {
     // The bytes of the motif of a row; none where the table has no such row.
-    pub fn bytes_of(&self, k: usize) -> &'a [u8] {
+    pub fn bytes_of(&self, k: usize) -> &'a [u8]
+        ensures { result.now ≡ bytes_in self.now.table.now self.now.store.now k }
+    {
         if MOTIFS_MOST <= k {
             return b"";
         }
