@@ -1,11 +1,12 @@
 -- Laws on writes: what a callee did to a part `&mut s[a..]` said of the whole, writes one after the other, what stays.
 -- Assumes nothing.
 use mathlib.Core.Path.{◌≡◌, refl, ap}
-use mathlib.Core.List.{List, [], ◌++◌, append-nil, append_assoc}
-use Prim.Native.Nat.{ℕ, ◌+◌, ◌-◌, ◌≤◌}
-use native.Mathlib.Nat.{add-zero}
+use mathlib.Core.List.{List, [], ◌∷◌, ◌++◌, append-nil, append_assoc}
+use Prim.Native.Nat.{ℕ, zero, suc, ◌+◌, ◌-◌, ◌≤◌, ◌<◌}
+use native.Mathlib.Nat.{add-zero, not-suc-le-zero, le_of_suc-le-suc}
+use native.Mathlib.Numerals.{add-one}
 use native.Mathlib.Omega.{arith}
-use lib.ListN.{length, take, drop, length-drop, length-take, length-append, drop_of_length-le, take-append-drop}
+use lib.ListN.{length, take, drop, set, get_or, length-drop, length-take, length-append, drop_of_length-le, take-append-drop}
 use lib.Dec.{ltb}
 use lib.Seq.{drop-drop, drop_at, take_at, take-take, take-append-le, length-take-le, take_all}
 use mathlib.Core.Bool.{false}
@@ -44,6 +45,18 @@ over-next xs a b us vs e h =
 pub over-nil : (xs : List ℕ) (a : ℕ) → over xs a [] ≡ xs
 unfolding over
 over-nil xs a = rw (add-zero, take-append-drop)
+
+-- a turn of the loop that copies to the front
+copy_suc : (s d : List ℕ) (i : ℕ) → i < length s → i < length d
+    → set (take i s ++ drop i d) i (get_or s i 0) ≡ take (suc i) s ++ drop (suc i) d
+copy_suc [] d i hs hd = absurd (not-suc-le-zero hs)
+copy_suc (x ∷ s) [] i hs hd = absurd (not-suc-le-zero hd)
+copy_suc (x ∷ s) (y ∷ d) zero hs hd = refl
+copy_suc (x ∷ s) (y ∷ d) (suc i) hs hd = ap (λ (t : List ℕ). x ∷ t) (copy_suc s d i (le_of_suc-le-suc hs) (le_of_suc-le-suc hd))
+
+pub copy_more : (s d : List ℕ) (i : ℕ) → i < length s → i < length d
+    → set (take i s ++ drop i d) i (get_or s i 0) ≡ take (i + 1) s ++ drop (i + 1) d
+copy_more s d i hs hd = rw add-one (copy_suc s d i hs hd)
 
 -- past the end of a write nothing has changed
 pub drop-over : (xs : List ℕ) (a : ℕ) (vs : List ℕ) (n : ℕ) → a + length vs ≤ n → n ≤ length xs → drop n (over xs a vs) ≡ drop n xs

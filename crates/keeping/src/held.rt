@@ -9,13 +9,13 @@ use trail::Walk;
 
 // What a job is read with; the table of the motifs that are held, and what is kept of them; of the motif that is being read its name, and how many
 // bytes of it are there.
-#[derive(Drop)]
+#[derive(Clone, Copy)]
 pub struct Keeping<'a> {
     set: Setting,
     table: [usize; 704],
-    kept: Kept,
-    name: &'a [u8],
-    joined: usize,
+    pub kept: Kept,
+    pub name: &'a [u8],
+    pub joined: usize,
 }
 
 // The data of ReadStream, which a walk has passed.

@@ -17,7 +17,7 @@ use Rattle.scope.specs.Calls.{nothing}
 use Rattle.scope.specs.Setting.{Setting}
 use Rattle.scope.specs.Session as session
 use Rattle.scope.specs.Session.{Session, session_of, page_of, session_after, place_after}
-use Rattle.scope.specs.Judge.{State, case_of, judged_at, met_at, too_much, no_place, own_or}
+use Rattle.scope.specs.Judge.{State, case_of, judged_at, met_at, too_much, no_place, own_or, outer}
 use Rattle.arm.specs.Codes.{code_of}
 use Rattle.page.specs.Views.{stack}
 use Rattle.page.specs.Holds.{PageHolds}
@@ -86,7 +86,7 @@ module _ (set : Setting) (s : List ℕ) (o : Operator) {tag : ℕ} (a : Edge tag
       (rw (le-ltb 1_000_000 (suc n) k)) a
 
   judged-plain : (st : State) (x : Session) (p : Code.Page) → PageHolds p (page_of x.busy) → st.performed < 1_000_000
-      → Judgement (case_of set s st x (plain o tag)) (Ok (record { page = p; performed = st.performed + 1 }))
+      → Judgement (case_of set s st x (plain o tag)) outer (Ok (record { page = p; performed = st.performed + 1 }))
   unfolding walk step from
   judged-plain st x p h k =
       let q = page_of x.busy in
@@ -114,11 +114,11 @@ page-rests rests_inside (inside_holds {x = x} e u s h y) = page-in x.busy y
 
 pub judged-edge : {job work t p : List ℕ} {place : Place} (set : Setting) (st : State) (o : Operator) → Edge o.tag → o.reads ≡ false → st.performed < 1_000_000
     → Rests place → PlaceHolds set job work t p place st.place
-    → Judgement (case_of set job st (session_of st.place) o) (Ok (record { page = untouched; performed = st.performed + 1 }))
+    → Judgement (case_of set job st (session_of st.place) o) outer (Ok (record { page = untouched; performed = st.performed + 1 }))
 judged-edge {job} set st o a e k r h =
     let same : o ≡ plain o o.tag =
     λ i. record { tag = o.tag; at = o.at; attrs = o.attrs; reads = e i; length = o.length; first = o.first; next = o.next } in
-    subst⁻¹ (λ (z : Operator). Judgement (case_of set job st (session_of st.place) z) (Ok (record { page = untouched; performed = st.performed + 1 }))) same
+    subst⁻¹ (λ (z : Operator). Judgement (case_of set job st (session_of st.place) z) outer (Ok (record { page = untouched; performed = st.performed + 1 }))) same
     (judged-plain set job o a st (session_of st.place) untouched (page-rests r h) k)
 
 module _ (set : Setting) (job work t p : List ℕ) (o : Operator) (g : Page) where

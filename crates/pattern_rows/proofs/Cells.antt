@@ -1,11 +1,10 @@
 -- Rows of 66 cells: the numbers of a row are the cells behind its first one, read from the last one down, and what is asked of them is asked of each.
 -- Assumes nothing.
-use Rattle.std.proofs.Common.{ℕ, zero, suc, ◌+◌, ◌*◌, ◌≤◌, ◌<◌, ◌≡◌, min, List, [], ◌∷◌, Bool, true, false, not, ◌||◌, eqb, length, get_or, take, drop, reverse, refl, sym, ap, ◌∙◌, arith, length-drop}
+use Rattle.std.proofs.Common.{ℕ, zero, suc, ◌+◌, ◌*◌, ◌≤◌, ◌<◌, ◌≡◌, min, List, [], ◌∷◌, Bool, true, false, not, ◌||◌, eqb, length, get_or, take, drop, reverse, refl, ap, arith, length-drop}
 use Rattle.std.proofs.Math.Seq.{take-suc}
 use Rattle.std.specs.List.{list_any}
 use Rattle.std.proofs.lemmas.List.{reverse-append, get_or-drop}
 use Rattle.std.proofs.lemmas.Bool.Decides.{nat_tests}
-use Rattle.std.proofs.lemmas.List.Sorted.{list_any-IsPermutation, IsPermutation-reverse}
 use Rattle.scope.specs.Choice.{pick, among}
 use Rattle.scope.specs.Judge.{some_missing}
 use Rattle.pattern_rows.specs.Numbers.{numbers_to, numbers_in}
@@ -38,7 +37,7 @@ eqb-sides : (a b : ℕ) → eqb a b ≡ eqb b a
 eqb-sides a b = grind (arith, nat_tests)
 
 -- the answer of one of them settles what is asked
-among_any : (ns : List ℕ) (n : ℕ) → among ns n ≡ list_any (λ x. eqb x n) ns
+pub among_any : (ns : List ℕ) (n : ℕ) → among ns n ≡ list_any (λ x. eqb x n) ns
 unfolding among
 among_any [] n = refl
 among_any (x ∷ ns) n = rw (eqb-sides n x, among_any ns n) (by (eqb x n))
@@ -47,17 +46,7 @@ among_any (x ∷ ns) n = rw (eqb-sides n x, among_any ns n) (by (eqb x n))
     by true = refl
     by false = refl
 
-missing_any : (of_page of_session ns : List ℕ) → some_missing of_page of_session ns ≡ list_any (λ n. not (among of_page n || among of_session n)) ns
+pub missing_any : (of_page of_session ns : List ℕ) → some_missing of_page of_session ns ≡ list_any (λ n. not (among of_page n || among of_session n)) ns
 unfolding some_missing
 missing_any of_page of_session [] = refl
 missing_any of_page of_session (n ∷ ns) = ap (λ b. not (among of_page n || among of_session n) || b) (missing_any of_page of_session ns)
-
-any_reversed : (p : ℕ → Bool) (ns : List ℕ) → list_any p ns ≡ list_any p (reverse ns)
-any_reversed p ns = list_any-IsPermutation p ns (reverse ns) (IsPermutation-reverse ns)
-
-pub among_reversed : (cells : List ℕ) (n : ℕ) → list_any (λ x. eqb x n) cells ≡ among (reverse cells) n
-among_reversed cells n = any_reversed (λ x. eqb x n) cells ∙ sym (among_any (reverse cells) n)
-
-pub missing_reversed : (of_page of_session cells : List ℕ) → list_any (λ n. not (among of_page n || among of_session n)) cells ≡ some_missing of_page of_session (reverse cells)
-missing_reversed of_page of_session cells =
-    any_reversed (λ n. not (among of_page n || among of_session n)) cells ∙ sym (missing_any of_page of_session (reverse cells))

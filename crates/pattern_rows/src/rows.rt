@@ -42,7 +42,7 @@ pub fn has(patterns: &[u16], row: usize, n: u16) -> bool
     requires { (row < 67) × (row * 66 + 66 ≤ length patterns.now) }
     ensures { result ≡ among (numbers_in patterns.now row) n }
 {
-    numbers(patterns, row).contains(&n)
+    numbers(patterns, row).iter().rev().any(|m| *m == n)
 }
 
 // A pattern is defined, for the page or for the session.
@@ -60,6 +60,7 @@ pub fn lacks(patterns: &[u16; 4487], row: usize) -> bool
 {
     numbers(patterns, row)
         .iter()
+        .rev()
         .any(|n| !is_defined(patterns, *n))
 }
 

@@ -89,10 +89,15 @@ pub fn perform(
     let early = match early::early_of(job, set, work, motifs, patterns, attrs, place, o) {
         Ok(early) => early,
         Err(refusal) => {
-            return ControlFlow::Break(stop(st, refusal.code.number(), o.at, inner_of(refusal)));
+            return ControlFlow::Break(stop(
+                st,
+                refusal.code.number(),
+                o.at,
+                inner_of(Err(refusal)),
+            ));
         }
     };
-    match judge(job, set, attrs, patterns, early, place, o, st.performed) {
+    match judge(job, set, attrs, patterns, Ok(early), place, o, st.performed) {
         Err(code) => ControlFlow::Break(stop(st, code.number(), o.at, OUTER)),
         Ok(moved) => go_on(
             job,

@@ -10,15 +10,15 @@ use key::has_mark;
 use motif::{CALLS, LEVEL, MISSING, ROW, in_use};
 use names::limits::{MOTIFS_MOST, NESTING_MOST};
 
-// A motif that is not called does not hold a caller up; one that is called has to have its level from an earlier round.
+// A level from an earlier round.
 #[tactic(auto, unfolding(crate::specs::Rounds::earlier_of))]
-fn earlier(called: bool, level: usize, t: usize) -> bool
-    ensures { result ≡ earlier_of called level t }
+fn earlier(level: usize, t: usize) -> bool
+    ensures { result ≡ earlier_of true level t }
 {
-    !called || (level != 0 && level < t)
+    level != 0 && level < t
 }
 
-// Every motif that motif i calls has its level from an earlier round.
+// Every motif that motif i calls has its level from an earlier round. Whether a row is called is asked first, and its level only then: of most rows it is not.
 fn ready(motifs: &[usize; 704], n: usize, i: usize, t: usize) -> bool
     requires n_bound { n ≤ 64 }
     requires i_bound { i < 64 }
@@ -26,7 +26,7 @@ fn ready(motifs: &[usize; 704], n: usize, i: usize, t: usize) -> bool
 {
     let calls = motifs[i * ROW + CALLS];
     for j in (0..n).rev() {
-        if !earlier(has_mark(calls, j), motifs[j * ROW + LEVEL], t) {
+        if has_mark(calls, j) && !earlier(motifs[j * ROW + LEVEL], t) {
             return false;
         }
     }

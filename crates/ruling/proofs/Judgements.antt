@@ -13,15 +13,15 @@ use Rattle.scope.specs.Judge.{Case, Refusal, refused, outer, first_broken, rules
 use Rattle.scope.specs.Verdict.{every}
 
 -- what a judgement says
-pub judged-refused : {c : Case} {code : Code} → Judgement c (Err code) → (room : ℕ) → first_broken every c (rules room) ≡ refused (number_of code) outer
+pub judged-refused : {c : Case} {inner : ℕ} {code : Code} → Judgement c inner (Err code) → (room : ℕ) → first_broken every c (rules room) ≡ refused (number_of code) inner
 judged-refused (judged_no f) = f
 
-pub judged-rules : {c : Case} {m : Moved} → Judgement c (Ok m) → (room : ℕ)
+pub judged-rules : {c : Case} {inner : ℕ} {m : Moved} → Judgement c inner (Ok m) → (room : ℕ)
     → first_broken every c (rules room) ≡ pick (room_over room c) (refused 28 outer) Refusal.none
 judged-rules (judged_to f a b e) = f
 
-pub judged-page : {c : Case} {m : Moved} → Judgement c (Ok m) → PageHolds m.page c.seen.page
+pub judged-page : {c : Case} {inner : ℕ} {m : Moved} → Judgement c inner (Ok m) → PageHolds m.page c.seen.page
 judged-page (judged_to f a b e) = a
 
-pub judged-count : {c : Case} {m : Moved} → Judgement c (Ok m) → m.performed ≡ c.seen.count
+pub judged-count : {c : Case} {inner : ℕ} {m : Moved} → Judgement c inner (Ok m) → m.performed ≡ c.seen.count
 judged-count (judged_to f a b e) = b

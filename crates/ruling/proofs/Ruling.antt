@@ -60,10 +60,10 @@ module _ (c : Case) (u : Unbroken c) (bare : Bool) (is : bare ≡ pattern_missin
   by_code room = unbroken_first u (later room) ∙ rules-code c bare is (rule 28 (room_over room) ∷ [])
 
   -- what the arm answers is what these rules come to
-  pub moved-judged : {m : Result Moved Code} {w : Seen} → w ≡ c.seen → Moves c.session.opened bare m w → Judgement c m
+  pub moved-judged : {m : Result Moved Code} {w : Seen} → w ≡ c.seen → Moves c.session.opened bare m w → Judgement c outer m
   moved-judged {m} e h = go_on (subst (λ v. Moves c.session.opened bare m v) e h)
     where
-      go_on : {m : Result Moved Code} → Moves c.session.opened bare m c.seen → Judgement c m
+      go_on : {m : Result Moved Code} → Moves c.session.opened bare m c.seen → Judgement c outer m
       go_on (moves_to z p n) =
           judged_to (λ room. by_code room ∙ rw (eq-eqb code 0 z) (last-rule room c)) p n (clean_code c.session.opened bare c.seen z).count
       go_on (moves_no {k = k} e) =
@@ -73,6 +73,10 @@ module _ (c : Case) (u : Unbroken c) (bare : Bool) (is : bare ≡ pattern_missin
 pub early-refused : {t p : List ℕ} {c : Case} {r : CodeRefusal} → Earlies t p c (Err r) → (room : ℕ) → first_broken every c (rules room) ≡ refused (number_of r.code) r.place
 unfolding rules
 early-refused (early_no f l) room = f (later room)
+
+-- and it is what the operator is judged to
+pub early-judged : {t p : List ℕ} {c : Case} {r : CodeRefusal} → Earlies t p c (Err r) → Judgement c r.place (Err r.code)
+early-judged e = judged_no (early-refused e)
 
 pub early-fits : {t p : List ℕ} {c : Case} {r : CodeRefusal} → Earlies t p c (Err r) → r.place < 4_294_967_296
 early-fits (early_no f l) = l
@@ -87,7 +91,7 @@ module _ (set : Setting) (s : List ℕ) (st : State) (x : Session) (o : Operator
   there bare w h = subst (λ k. Moves x.opened bare m (w k)) performed (subst (λ t. Moves t bare m (w n)) opened h)
 
   pub plain-judged : Unbroken (case_of set s st x o) → eqb o.tag 0x5e ≡ false → (bare : Bool) → bare ≡ pattern_missing (case_of set s st x o)
-      → Moves b bare m (walk (record { motif = 0; op = o; act = act_of set s o } ∷ []) (from (page_of x.busy) n)) → Judgement (case_of set s st x o) m
+      → Moves b bare m (walk (record { motif = 0; op = o; act = act_of set s o } ∷ []) (from (page_of x.busy) n)) → Judgement (case_of set s st x o) outer m
   unfolding case_of
   plain-judged u e bare is h =
       moved-judged (case_of set s st x o) u bare is (seen_plain set s st x o e)
@@ -95,7 +99,7 @@ module _ (set : Setting) (s : List ℕ) (st : State) (x : Session) (o : Operator
 
   pub call-judged : (t p : List ℕ) (v : ℕ) (bare : Bool) → Earlies t p (case_of set s st x o) (Ok (early_is.Call v bare))
       → ((row : List Stroke) → SumsAs v row → Moves b bare m (walk (record { motif = 0; op = o; act = idle } ∷ row) (from (page_of x.busy) n)))
-      → Judgement (case_of set s st x o) m
+      → Judgement (case_of set s st x o) outer m
   unfolding case_of
   call-judged t p v bare (early_call e k is u) h =
       moved-judged (case_of set s st x o) u bare is (seen-call set s st x o e)

@@ -22,7 +22,7 @@ use Rattle.scope.specs.Motif.{Motif, Picture, picture_after}
 use Rattle.scope.specs.Calls.{nothing}
 use Rattle.scope.specs.Setting.{Setting}
 use Rattle.scope.specs.Session.{Session, Place, drawing, inside, page_of, defined_after, session_after, place_after}
-use Rattle.scope.specs.Judge.{State, case_of, judged_at, met_at, too_much, no_place, own_or}
+use Rattle.scope.specs.Judge.{State, case_of, judged_at, met_at, too_much, no_place, own_or, outer}
 use Rattle.items.proofs.Pairs.{scan_tag}
 use Rattle.page.specs.Alone.{Alone, alone_close, alone_new, alone_paint, alone_push, alone_pop}
 use Rattle.arm.specs.Codes.{code_of}
@@ -140,7 +140,7 @@ unfolding act_of select_of
 selects-alone set s at a = each-tag (λ t. (act_of set s (alone t at)).select ≡ no_pattern) refl refl refl refl refl a
 
 pub judged-alone : (set : Setting) (s : List ℕ) (st : State) (x : Session) (at : ℕ) {tag : ℕ} {q q₁ : Page} {p : Code.Page} → Alone tag q q₁ → PageHolds p q₁ → st.performed < 1_000_000
-    → q ≡ page_of x.busy → Judgement (case_of set s st x (alone tag at)) (Ok (record { page = p; performed = st.performed + 1 }))
+    → q ≡ page_of x.busy → Judgement (case_of set s st x (alone tag at)) outer (Ok (record { page = p; performed = st.performed + 1 }))
 judged-alone set s st x at {tag} {p = p} a h k e =
     plain-judged set s st x (alone tag at) x.opened st.performed (Ok (record { page = p; performed = st.performed + 1 })) refl refl (unbroken_alone set s st x at a) (no_call a)
     false (selects-none set s st x (alone tag at) (no_call a) (selects-alone set s at a))

@@ -14,7 +14,7 @@ use Rattle.scope.specs.Motif.{picture_after}
 use Rattle.scope.specs.Calls.{nothing}
 use Rattle.scope.specs.Setting.{Setting}
 use Rattle.scope.specs.Session.{Session, page_of, defined_after, session_after, place_after}
-use Rattle.scope.specs.Judge.{State, case_of, judged_at, met_at, too_much, no_place, own_or}
+use Rattle.scope.specs.Judge.{State, case_of, judged_at, met_at, too_much, no_place, own_or, outer}
 use Rattle.arm.specs.Codes.{code_of}
 use Rattle.page.specs.Holds.{PageHolds}
 use Rattle.arm.specs.Holds.{Moves, moves_to}
@@ -72,7 +72,7 @@ unfolding act_of select_of
 selects-line set s point at op d = each_line (λ t. (act_of set s (line_of point t at op)).select ≡ no_pattern) refl refl d
 
 pub judged-line : (set : Setting) (s : List ℕ) (st : State) (x : Session) (point at op : ℕ) {tag : ℕ} {q : Page} {p : Code.Page} → Drawn tag → PageHolds p q → p.cursor ≡ true → st.performed < 1_000_000
-    → q ≡ page_of x.busy → Judgement (case_of set s st x (line_of point tag at op)) (Ok (record { page = p; performed = st.performed + 1 }))
+    → q ≡ page_of x.busy → Judgement (case_of set s st x (line_of point tag at op)) outer (Ok (record { page = p; performed = st.performed + 1 }))
 judged-line set s st x point at op {tag} {q} {p} d h c k e =
     plain-judged set s st x (line_of point tag at op) x.opened st.performed (Ok (record { page = p; performed = st.performed + 1 })) refl refl (unbroken_line set s st x point at op d)
     (line-no_call d) false (selects-none set s st x (line_of point tag at op) (line-no_call d) (selects-line set s point at op d))

@@ -15,7 +15,7 @@ use Rattle.scope.specs.Motif.{Picture}
 use Rattle.scope.specs.Setting.{Setting}
 use Rattle.scope.specs.Session.{Session, Busy, Place, drawing, inside, phase_drawing, phase_busy, phase_of, place_after}
 use Rattle.scope.specs.Judge as scope
-use Rattle.scope.specs.Judge.{context_of, case_of, judged_from}
+use Rattle.scope.specs.Judge.{context_of, case_of, judged_from, outer}
 use Rattle.scope.specs.Verdict.{every}
 use Rattle.scope.proofs.White.{read-after}
 use Rattle.scope.proofs.ExchangeEdges.{after-again}
@@ -95,7 +95,7 @@ module _ (job list₀ table patterns work list list₁ : List ℕ) (set : Settin
   -- it is read where r stands, breaks no rule, and leaves the session in its page
   pub record Passes (u : Unmoved) (past : List Operator) (q : Page) : Type 0 where
     pub read : operator_at (context_of every set (drawn-on u opened q)) job r.at ≡ Read.operator o
-    pub judged : Judgement (case_of set job (here (drawn-on u opened q) past) (drawing-on u opened q) o)
+    pub judged : Judgement (case_of set job (here (drawn-on u opened q) past) (drawing-on u opened q) o) outer
         (Ok (record { page = t.page; performed = t.performed }))
     pub stays : (p : Page) → place_after set job o p (drawn-on u opened q) ≡ drawn-on u opened p
 

@@ -5,4 +5,4 @@ use Rattle.buffer.proofs.Parts.{part-back}
 use Rattle.buffer.proofs.joining.join.Goals as goal
 
 pub returns-clause-work_after : goal.returns-clause-work_after
-returns-clause-work_after c = let a = c.args in part-back a.work.now c.copy.new.dst a.held a.block.now (omega arith) c.copy.ensures
+returns-clause-work_after c = let a = c.args in part-back a.work.now c.front.new.dst a.held a.block.now (omega arith) c.front.ensures

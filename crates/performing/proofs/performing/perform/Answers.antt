@@ -9,7 +9,7 @@ use Rattle.scope.specs.Reading.{operator}
 use Rattle.scope.specs.Judge.{context_of, refused_at, outer, on_read}
 use Rattle.scope.specs.Setting.{Setting}
 use Rattle.reader.specs.Reads.{operator_as}
-use Rattle.ruling.proofs.Ruling.{early-refused, early-fits}
+use Rattle.ruling.proofs.Ruling.{early-refused}
 use Rattle.ruling.proofs.Turns.{read-may, stopped, step-refused, stands-kept}
 use Rattle.ruling.proofs.Judgements.{judged-refused, judged-rules, judged-page, judged-count}
 use Rattle.performing.proofs.performing.perform.Goals as goal
@@ -26,7 +26,7 @@ returns-in-Err-clause-steps_on c = let a = c.args in
     stopped c.stop.result (on_read every set a.job.now (length list₀) d (operator o)) _ a.o.at _ h.listed
     (step-refused set a.job.now (length list₀) d o _ _ (early-refused r (length list₀)))
     (c.stop.ensures d (omega (arith, c.requires)) (omega (arith, c.requires)) h.records h.performed
-    ∙ ap (λ i. told (refused_at c.number.result a.o.at i d)) (c.inner_of.ensures (early-fits r))
+    ∙ ap (λ i. told (refused_at c.number.result a.o.at i d)) (c.inner_of.ensures.value _ _ _ r)
     ∙ ap (λ k. told (refused_at k a.o.at c.in-Err.refusal.place d)) c.number.ensures)
 
 pub returns-in-Err-judge-clause-steps_on : goal.returns-in-Err-judge-clause-steps_on
