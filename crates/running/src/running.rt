@@ -122,7 +122,8 @@ fn pass_one(job: &[u8], high: bool, list: &mut [u8], from: Run) -> Option<Run>
     }
 }
 
-// The whole of a run.
+// The whole of a run. It is compiled apart from its callers, so that what each turn needs stays in registers.
+#[inline(never)]
 fn run_from(job: &[u8], high: bool, list: &mut [u8], from: Run) -> Run
     ensures { (opened : Bool) (kept : Kept)
         → Runs job.now high list.old list.new (in_session opened kept from) (in_session opened kept result) }
