@@ -175,7 +175,7 @@ struct dieuvakhop_verdict {
  * What it takes of the machine (`examples/measure` measures it):
  *   - stack: 19,256 bytes at most over the jobs of crates/explain/data; there is
  *     no recursion, and no memory but what is lent;
- *   - code and constants: 36,703 bytes; no data that is written;
+ *   - code and constants: 35,865 bytes; no data that is written;
  *   - alignment: none, each buffer may begin at any address;
  *   - re-entrant: it may run in several threads at once, or be interrupted by
  *     another call, as long as no two calls share `work` or `list`;
